@@ -1,0 +1,6 @@
+pub mod Order
+pub mod Heaps
+pub mod Numbers
+pub mod Descriptors
+pub mod Inputs
+pub mod Worlds

@@ -1,0 +1,77 @@
+-- Worked examples: the class of one method `f ()I` whose code is iconst_1, ireturn, and a run of it.
+use Rattle.std.proofs.Common.{◌≡◌, ◌∷◌, [], List, ℕ, pos, Some, false, refl, lit≤, inl, inr}
+use Rattle.std.specs.Prelude.{codes}
+use Rattle.std.specs.FinMap.{empty}
+use Rattle.pv_value.specs.declared.descriptor.JType.TheVariants.{I}
+use Rattle.pv_value.specs.declared.descriptor.Descriptor.{Descriptor}
+use Rattle.pv_value.specs.declared.number.Num.TheVariants as num
+use Rattle.pv_value.specs.declared.outcome.Input.{Input}
+use Rattle.pv_value.specs.declared.outcome.Outcome.TheVariants.{Returned}
+use Rattle.pv_value.specs.Descriptors.{IsMethodType}
+use Rattle.pv_value.specs.Worlds.{empty_world}
+use Rattle.pv_class.specs.declared.file.Entry.{Entry}
+use Rattle.pv_class.specs.declared.file.Entry.TheVariants.{Utf8, Class}
+use Rattle.pv_class.specs.declared.instruction.Insn.{Insn}
+use Rattle.pv_class.specs.declared.instruction.Insn.TheVariants.{Plain}
+use Rattle.pv_class.specs.Items.{Items, CodeItems, code_text, file_text}
+use Rattle.pv_class.specs.Instructions.{IsCode}
+use Rattle.pv_class.specs.Machine.{Program, running, ended, after, start}
+
+-- the 98 bytes
+abbrev bytes : List ℕ
+bytes =
+    0xCA ∷ 0xFE ∷ 0xBA ∷ 0xBE ∷ 0 ∷ 0 ∷ 0 ∷ 0x34 ∷ 0 ∷ 8 ∷ 1 ∷ 0 ∷ 1 ∷ 0x41 ∷ 7 ∷ 0 ∷ 1 ∷ 1 ∷ 0 ∷ 0x10 ∷ 0x6A ∷ 0x61 ∷ 0x76 ∷ 0x61 ∷ 0x2F ∷ 0x6C ∷ 0x61 ∷ 0x6E ∷ 0x67 ∷ 0x2F ∷ 0x4F ∷ 0x62 ∷ 0x6A ∷ 0x65 ∷ 0x63 ∷ 0x74
+    ∷ 7 ∷ 0 ∷ 3 ∷ 1 ∷ 0 ∷ 1 ∷ 0x66 ∷ 1 ∷ 0 ∷ 3 ∷ 0x28 ∷ 0x29 ∷ 0x49 ∷ 1 ∷ 0 ∷ 4 ∷ 0x43 ∷ 0x6F ∷ 0x64 ∷ 0x65 ∷ 0 ∷ 0x21 ∷ 0 ∷ 2 ∷ 0 ∷ 4 ∷ 0 ∷ 0 ∷ 0 ∷ 0 ∷ 0 ∷ 1 ∷ 0 ∷ 9 ∷ 0 ∷ 5 ∷ 0 ∷ 6 ∷ 0 ∷ 1 ∷ 0 ∷ 7 ∷ 0 ∷ 0 ∷ 0 ∷ 14
+    ∷ 0 ∷ 1 ∷ 0 ∷ 0 ∷ 0 ∷ 0 ∷ 0 ∷ 2 ∷ 4 ∷ 0xAC ∷ 0 ∷ 0 ∷ 0 ∷ 0 ∷ 0 ∷ 0 ∷ []
+
+abbrev pool : List Entry
+pool = Utf8 (codes "A") ∷ Class 1 ∷ Utf8 (codes "java/lang/Object") ∷ Class 3 ∷ Utf8 (codes "f") ∷ Utf8 (codes "()I") ∷ Utf8 (codes "Code") ∷ []
+
+abbrev code : CodeItems
+code = record { max_stack = 1; max_locals = 0; code = 4 ∷ 0xAC ∷ []; handlers = []; attributes = [] }
+
+abbrev items : Items
+items = record {
+  minor = 0;
+  major = 52;
+  pool = pool;
+  flags = 0x21;
+  this = 2;
+  super = 4;
+  interfaces = [];
+  fields = [];
+  methods = record { flags = 9; name = 5; desc = 6; attributes = record { name = 7; contents = code_text code } ∷ [] } ∷ [];
+  attributes = [];
+}
+
+-- they are the spelling of its items
+spelled : bytes ≡ file_text items
+spelled = refl
+
+-- its code spells iconst_1 and ireturn
+abbrev insns : List Insn
+insns = Plain 4 ∷ Plain 172 ∷ []
+
+code_spelled : IsCode code.code insns
+code_spelled = (4 ∷ [], 0xAC ∷ [], refl, (inl (lit≤ tt, lit≤ tt), refl), (0xAC ∷ [], [], refl, (inr refl, refl), refl))
+
+abbrev desc : Descriptor
+desc = record { params = []; result = Some I }
+
+desc_spelled : IsMethodType (codes "()I") desc
+desc_spelled = record { fields = []; last = codes "I"; params = tt; result = inl (refl, refl); spelled = refl }
+
+abbrev program : Program
+program = record { insns = insns; instance = false; desc = desc; max_locals = 0 }
+
+abbrev input : Input
+input = record { this = 1; args = []; heap = empty }
+
+-- after one step the method runs on, after two it has returned 1
+first_step : after program empty_world (start program input) 1 ≡ running (record { at = 1; stack = num.Int (pos 1) ∷ []; locals = []; heap = empty })
+unfolding after
+first_step = refl
+
+second_step : after program empty_world (start program input) 2 ≡ ended (Returned (Some (num.Int (pos 1))) empty)
+unfolding after
+second_step = refl

@@ -1,0 +1,25 @@
+-- Instructions and their spelling (JVMS 6.5).
+use Rattle.std.specs.Prelude.{◌≡◌, ◌⊎◌, ℕ, ℤ, ◌≤◌, List, [], ◌∷◌, ◌++◌, FitsSigned}
+use Rattle.std.specs.Int.{Width, w8, w16, to_be_bytes, cast_unsigned}
+use Rattle.pv_class.specs.declared.instruction.Insn.{Insn}
+use Rattle.pv_class.specs.declared.instruction.Insn.TheVariants.{Plain, Push}
+
+-- the opcodes without operands: iconst_m1 to iconst_5, ireturn
+abbrev pub IsPlain : ℕ → Type 0
+IsPlain op = ((2 ≤ op) × (op ≤ 8)) ⊎ (op ≡ 172)
+
+-- the opcode, and a number of this width in two's complement
+pub record IsPush (op : ℕ) (w : Width) (n : ℤ) (bytes : List ℕ) : Type 0 where
+  pub number : FitsSigned w n
+  pub spelled : bytes ≡ op ∷ to_be_bytes w (cast_unsigned w n)
+
+-- the bytes of an instruction
+abbrev pub Spells : Insn → List ℕ → Type 0
+Spells (Plain op) bytes = IsPlain op × (bytes ≡ op ∷ [])
+-- bipush, sipush
+Spells (Push op n) bytes = ((op ≡ 16) × IsPush 16 w8 n bytes) ⊎ ((op ≡ 17) × IsPush 17 w16 n bytes)
+
+-- the bytes of a code: those of its instructions, one after the other
+abbrev pub IsCode : List ℕ → List Insn → Type 0
+IsCode bytes [] = bytes ≡ []
+IsCode bytes (insn ∷ insns) = (front : List ℕ) × (rest : List ℕ) × (bytes ≡ front ++ rest) × Spells insn front × IsCode rest insns

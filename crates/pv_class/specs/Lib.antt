@@ -1,0 +1,5 @@
+pub mod Texts
+pub mod Items
+pub mod ClassFiles
+pub mod Instructions
+pub mod Machine

@@ -1,0 +1,79 @@
+//! What a class file holds.
+
+ghost use Rattle.std.specs.Prelude.{◌≡◌};
+
+use pv_value::Name;
+use std::marker::Model;
+
+/// An entry of the constant pool (JVMS 4.4).
+#[derive(Debug, Drop)]
+pub enum Entry {
+    /// A text, in the modified UTF-8 of JVMS 4.4.7.
+    Utf8(Name),
+    /// A class, by the index of its name.
+    Class(u16),
+}
+
+/// The constant pool, seen as its entries; the first of them has index 1.
+#[derive(Debug, Drop)]
+pub struct Pool {
+    entries: Vec<Entry>,
+}
+
+impl Model for Pool {
+    ghost use Rattle.std.specs.Prelude.{List};
+    ghost use Rattle.pv_class.specs.declared.file.Entry.{Entry};
+
+    ghost Value = { List Entry };
+
+    ghost view = { λ p. p.entries.items };
+}
+
+/// The code of a method (JVMS 4.7.3). `handlers` is the length of its exception table.
+#[derive(Debug, Drop)]
+pub struct Code {
+    pub max_stack: u16,
+    pub max_locals: u16,
+    pub bytes: Name,
+    pub handlers: usize,
+}
+
+/// A method (JVMS 4.6): its access flags, name and descriptor, and its code, if it has one.
+#[derive(Debug, Drop)]
+pub struct Method {
+    pub flags: u16,
+    pub name: Name,
+    pub desc: Name,
+    pub code: Option<Code>,
+}
+
+/// The methods of a class, in the order of its file.
+#[derive(Debug, Drop)]
+pub struct Methods {
+    items: Vec<Method>,
+}
+
+impl Model for Methods {
+    ghost use Rattle.std.specs.Prelude.{List};
+    ghost use Rattle.pv_class.specs.declared.file.Method.{Method};
+
+    ghost Value = { List Method };
+
+    ghost view = { λ m. m.items.items };
+}
+
+impl Methods {
+    /// The methods in order.
+    pub fn as_slice(&self) -> &[Method]
+        ensures { result.now ≡ self.now }
+    {
+        &self.items
+    }
+}
+
+/// What a class file holds, as far as the layers above ask.
+#[derive(Debug, Drop)]
+pub struct ClassFile {
+    pub pool: Pool,
+    pub methods: Methods,
+}

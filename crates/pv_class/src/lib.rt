@@ -1,0 +1,17 @@
+//! Class files, their instructions, and the machine that runs their methods.
+//!
+//! This layer stands on `pv_value`. `specs/` holds three definitions in the terms of the standard:
+//! a class file by the spelling of its items (`Items`, `ClassFiles`; JVMS 4.1 to 4.7.3), code by the
+//! spelling of its instructions (`Instructions`; JVMS 6.5), and the machine (`Machine`; JVMS 2.6,
+//! 6.5), with what it is that two methods have the same meaning. The layers above use that
+//! `read_class` answers Ok exactly where the class-file relation holds, and that `instructions`
+//! gives the list that the bytes of a code spell.
+#![tactic(auto)]
+
+mod fault;
+mod file;
+mod instruction;
+
+pub use fault::ClassFault;
+pub use file::{ClassFile, Code, Entry, Method, Methods, Pool};
+pub use instruction::Insn;

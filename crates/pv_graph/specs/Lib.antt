@@ -1,0 +1,4 @@
+pub mod Sorts
+pub mod Nodes
+pub mod Denote
+pub mod Trees

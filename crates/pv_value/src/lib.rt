@@ -15,7 +15,7 @@ mod number;
 mod outcome;
 mod world;
 
-pub use descriptor::{Descriptor, JType, JTypes};
+pub use descriptor::{Descriptor, JType, JTypes, read_descriptor, read_field_type};
 pub use heap::{Heap, Kind, Loc};
 pub use memory::Memory;
 pub use name::{Name, Sym};

@@ -13,6 +13,8 @@ mod memory;
 mod name;
 mod number;
 mod outcome;
+#[cfg(test)]
+mod tests;
 mod world;
 
 pub use descriptor::{Descriptor, JType, JTypes, read_descriptor, read_field_type};

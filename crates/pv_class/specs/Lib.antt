@@ -2,4 +2,5 @@ pub mod Texts
 pub mod Items
 pub mod ClassFiles
 pub mod Instructions
+pub mod Actions
 pub mod Machine

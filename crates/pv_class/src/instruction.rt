@@ -18,6 +18,33 @@ pub enum Insn {
     Push(u8, i16),
 }
 
+/// What an instruction does.
+#[derive(Clone, Copy, Debug, PartialEq, Eq)]
+pub enum Action {
+    /// Pushes an int.
+    Push(i32),
+    /// Ends the method with the int on top of the operand stack.
+    ReturnInt,
+    /// Something that isn't built yet.
+    Unknown,
+}
+
+impl Insn {
+    ghost use Rattle.pv_class.specs.Actions.{action};
+
+    /// What the instruction does.
+    pub fn action(self) -> Action
+        ensures { result ≡ action self }
+    {
+        match self {
+            Insn::Plain(opcode @ 2..=8) => Action::Push(i32::from(opcode) - 3),
+            Insn::Plain(172) => Action::ReturnInt,
+            Insn::Plain(_) => Action::Unknown,
+            Insn::Push(_, number) => Action::Push(i32::from(number)),
+        }
+    }
+}
+
 /// A list of instructions.
 #[derive(Debug, Drop)]
 pub struct Insns {

@@ -14,4 +14,4 @@ mod instruction;
 
 pub use fault::ClassFault;
 pub use file::{ClassFile, Code, Entry, Method, Methods, Pool};
-pub use instruction::{Insn, Insns, instructions};
+pub use instruction::{Action, Insn, Insns, instructions};

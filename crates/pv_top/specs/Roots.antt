@@ -9,8 +9,7 @@ use Rattle.pv_value.specs.Descriptors.{IsMethodType}
 use Rattle.pv_value.specs.Inputs.{Fits}
 use Rattle.pv_value.specs.Worlds.{IsWorld}
 use Rattle.pv_class.specs.declared.file.Method.{Method}
-use Rattle.pv_class.specs.declared.file.Code.{Code}
-use Rattle.pv_class.specs.Machine.{Program, Ends}
+use Rattle.pv_class.specs.Machine.{Ends}
 use Rattle.pv_graph.specs.declared.node.Op.{Op}
 use Rattle.pv_graph.specs.declared.node.Op.TheVariants.{Int, Heap0, Unit, Clear, Root}
 use Rattle.pv_graph.specs.declared.node.Node.{Node}
@@ -27,12 +26,9 @@ returning value = over Root (first (leaf Unit) (first (leaf Clear) (first value 
 
 -- the tree of a method's root: a constant is its int
 pub record HasTree (m : Method) (t : Tree) : Type 0 where
-  pub program : Program
-  pub code : Code
-  pub earlier : List ℤ
-  pub last : ℤ
-  pub built : IsBuilt m program code earlier last
-  pub tree : t ≡ returning (leaf (Int last))
+  pub n : ℤ
+  pub built : IsBuilt m n
+  pub tree : t ≡ returning (leaf (Int n))
 
 unfoldable mutual
   -- a tree, cut at a depth
@@ -56,3 +52,7 @@ pub record IsRootOf (g : List Node) (root : ℕ) (m : Method) : Type 0 where
   pub has : HasTree m tree
   pub unfolds : (depth : ℕ) → unfold_at g depth root ≡ cut_at depth tree
   pub means : MeansMethod g root m
+
+-- the method has no root: its form is not built yet
+abbrev pub HasNoTree : Method → Type 0
+HasNoTree m = (t : Tree) → HasTree m t → ⊥

@@ -6,6 +6,7 @@
 //! `run` answers and leaves (`Run`).
 #![tactic(auto)]
 
+mod built;
 mod cause;
 mod status;
 mod verdict;

@@ -1,3 +1,4 @@
 pub mod Examples
 pub mod Decoding
 pub mod Running
+pub mod Programs

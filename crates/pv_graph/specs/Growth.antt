@@ -6,6 +6,7 @@ use Rattle.std.proofs.lemmas.Option.{slice_get_within}
 use Rattle.pv_value.specs.declared.world.World.{World}
 use Rattle.pv_value.specs.declared.outcome.Input.{Input}
 use Rattle.pv_graph.specs.declared.node.Node.{Node}
+use Rattle.pv_graph.specs.Elements.{get_front}
 use Rattle.pv_graph.specs.Nodes.{IsAcyclic, IsGraph, Interned}
 use Rattle.pv_graph.specs.Denote.{Index, den}
 use Rattle.pv_graph.specs.Trees.{Tree, trees_of, tree_at, unfold_at}
@@ -17,11 +18,6 @@ pub record Extends (old new : List Node) : Type 0 where
   pub nodes : (n : ℕ) (node : Node) → slice_get old n ≡ Some node → slice_get new n ≡ Some node
   pub values : (w : World) (x : Input) (n : ℕ) (i : Index) (fuel : ℕ) → n < length old → den new w x fuel n i ≡ den old w x fuel n i
   pub trees : (m n : ℕ) → n < length old → unfold_at new m n ≡ unfold_at old m n
-
-get_front : (g : List Node) (node : Node) (n : ℕ) → n < length g → slice_get (g ++ node ∷ []) n ≡ slice_get g n
-get_front [] node n h = absurd (omega arith)
-get_front (y ∷ g) node zero h = refl
-get_front (y ∷ g) node (suc n) h = get_front g node n (omega arith)
 
 -- trees of kids below n, where those of all nodes below n are kept
 trees_kept : (ks : List ℕ) (n : ℕ) (new old : ℕ → Tree) → ((k : ℕ) → k < n → new k ≡ old k) → AllByRecursion (λ k. k < n) ks → trees_of ks new ≡ trees_of ks old

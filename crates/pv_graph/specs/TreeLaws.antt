@@ -1,13 +1,13 @@
 -- Nodes that unfold equally have the same values, and in a graph they are one node.
 use Rattle.std.specs.Prelude.{◌≡◌, ◌↔◌, ℕ, zero, suc, ◌<◌, ◌≤◌, List, [], ◌∷◌, length, Option, Some, None, slice_get, refl}
 use Rattle.std.specs.List.{AllByRecursion, AllZip}
-use Rattle.std.proofs.Common.{ap, ◌∙◌, sym, arith, get_or}
-use Rattle.std.proofs.lemmas.Option.{slice_get-get_or}
+use Rattle.std.proofs.Common.{ap, ◌∙◌, sym, arith}
 use Rattle.pv_value.specs.declared.world.World.{World}
 use Rattle.pv_value.specs.declared.outcome.Input.{Input}
 use Rattle.pv_value.specs.declared.outcome.Val.{Val}
 use Rattle.pv_graph.specs.declared.node.Op.{Op}
 use Rattle.pv_graph.specs.declared.node.Node.{Node}
+use Rattle.pv_graph.specs.Elements.{found}
 use Rattle.pv_graph.specs.Nodes.{IsAcyclic, IsDistinct, IsGraph}
 use Rattle.pv_graph.specs.Denote.{Index, bind, values, strict, root_over, Shape, plain, root, shaped, shape, node_value, den, Value}
 use Rattle.pv_graph.specs.Trees.{Tree, over, trees_of, tree_at, unfold_at, UnfoldEqually}
@@ -69,10 +69,6 @@ pub same_tree_value : (g h : List Node) (a b : ℕ) → ((m : ℕ) → unfold_at
 same_tree_value g h a b e w x i v =
     ((λ y. (y.0, sym (same_tree_den g h w x y.0 a b i (e y.0)) ∙ y.1)),
      (λ y. (y.0, same_tree_den g h w x y.0 a b i (e y.0) ∙ y.1)))
-
-found : (g : List Node) (n : ℕ) → n < length g → (node : Node) × (slice_get g n ≡ Some node)
-found [] n h = absurd (omega arith)
-found (x ∷ g) n h = (get_or (x ∷ g) n x, slice_get-get_or (x ∷ g) n x h)
 
 kids_same : (ks ls : List ℕ) (tree : ℕ → Tree) (m : ℕ) → ((a b : ℕ) → a < m → b < m → tree a ≡ tree b → a ≡ b) → AllByRecursion (λ k. k < m) ks → AllByRecursion (λ k. k < m) ls → trees_of ks tree ≡ trees_of ls tree → ks ≡ ls
 kids_same [] [] tree m same h i e = refl

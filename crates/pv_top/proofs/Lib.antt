@@ -1,3 +1,4 @@
 pub mod Pushed
 pub mod Returned
 pub mod Builts
+pub mod Runs

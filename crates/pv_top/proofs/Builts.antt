@@ -1,5 +1,5 @@
 -- What a method that is converted by now has, and that this is all of it.
-use Rattle.std.proofs.Common.{◌≡◌, ℕ, ℤ, List, Option, Some, None, false, refl, sym, ap, subst, ◌∙◌}
+use Rattle.std.proofs.Common.{◌≡◌, ℤ, List, Option, Some, None, refl, sym, subst, ◌∙◌}
 use Rattle.std.specs.Prelude.{MatchOption}
 use Rattle.pv_value.specs.declared.descriptor.Descriptor.{Descriptor}
 use Rattle.pv_value.specs.Descriptors.{IsMethodType}
@@ -8,7 +8,7 @@ use Rattle.pv_class.specs.declared.file.Method.{Method}
 use Rattle.pv_class.specs.declared.file.Code.{Code}
 use Rattle.pv_class.specs.declared.instruction.Insn.{Insn}
 use Rattle.pv_class.specs.Instructions.{IsCode}
-use Rattle.pv_class.specs.Machine.{Program, IsProgram, is_instance}
+use Rattle.pv_class.specs.Machine.{is_instance}
 use Rattle.pv_class.proofs.Decoding.{code_once}
 use Rattle.pv_top.specs.Built.{ReturnsInt, IsOfInts, IsSmall, IsBuilt}
 use Rattle.pv_top.specs.Conversion.{IsPlainStatic}

@@ -2,3 +2,5 @@ pub mod Pushed
 pub mod Returned
 pub mod Builts
 pub mod Runs
+pub mod Roots
+pub mod Meanings

@@ -1,6 +1,5 @@
 -- Walking over instructions that push ints.
-use Rattle.std.proofs.Common.{◌≡◌, ℕ, zero, suc, ◌+◌, ◌<◌, ℤ, List, [], ◌∷◌, ◌++◌, length, take, get_or, Option, Some, None, refl, sym, ap, subst, ◌∙◌, arith}
-use Rattle.std.specs.List.{AllZip}
+use Rattle.std.proofs.Common.{◌≡◌, ℕ, zero, suc, ◌+◌, ◌<◌, ℤ, List, [], ◌∷◌, ◌++◌, length, take, get_or, Option, Some, None, sym, subst, arith}
 use Rattle.std.proofs.lemmas.List.{take_more}
 use Rattle.pv_class.specs.declared.instruction.Insn.{Insn}
 use Rattle.pv_top.specs.Built.{Pushes}

@@ -1,21 +1,18 @@
 -- A run of a method that returns an int constant.
-use Rattle.std.proofs.Common.{◌≡◌, ℕ, zero, suc, ◌+◌, ◌<◌, ℤ, List, [], ◌∷◌, ◌++◌, length, Option, Some, None, refl, sym, ap, subst, ◌∙◌, arith, append_assoc, length-append, add-one}
+use Rattle.std.proofs.Common.{◌≡◌, ℕ, suc, ◌+◌, ℤ, List, [], ◌∷◌, ◌++◌, length, Option, Some, refl, sym, ap, subst, ◌∙◌, arith, append_assoc, length-append}
 use Rattle.std.specs.Prelude.{slice_get}
 use Rattle.std.proofs.lemmas.List.{append-nil}
 use Rattle.pv_value.specs.declared.number.Num.{Num}
 use Rattle.pv_value.specs.declared.number.Num.TheVariants as num
 use Rattle.pv_value.specs.declared.descriptor.JType.{JType}
-use Rattle.pv_value.specs.declared.descriptor.JType.TheVariants.{I}
 use Rattle.pv_value.specs.declared.world.World.{World}
 use Rattle.pv_value.specs.declared.outcome.Input.{Input}
 use Rattle.pv_value.specs.declared.outcome.Outcome.{Outcome}
 use Rattle.pv_value.specs.declared.outcome.Outcome.TheVariants.{Returned}
 use Rattle.pv_class.specs.declared.file.Method.{Method}
 use Rattle.pv_class.specs.declared.instruction.Insn.{Insn}
-use Rattle.pv_class.specs.declared.instruction.Action.{Action}
-use Rattle.pv_class.specs.declared.instruction.Action.TheVariants.{Push, ReturnInt}
 use Rattle.pv_class.specs.Actions.{action}
-use Rattle.pv_class.specs.Machine.{Program, State, Now, running, ended, perform, perform_at, go_on, after, start, return_as, RunEnds, Ends}
+use Rattle.pv_class.specs.Machine.{Program, State, running, perform, perform_at, go_on, after, start, return_as, Ends}
 use Rattle.pv_class.proofs.Running.{after_none, after_more}
 use Rattle.pv_class.proofs.Programs.{ends_once}
 use Rattle.pv_top.specs.Built.{IsBuilt}

@@ -1,7 +1,6 @@
 -- The methods that are converted by now.
 use Rattle.std.specs.Prelude.{◌≡◌, ℕ, ◌+◌, ◌≤◌, ◌<◌, ℤ, List, [], ◌∷◌, ◌++◌, length, Some, false, bit_and}
 use Rattle.std.specs.List.{AllByRecursion, AllZip}
-use Rattle.pv_value.specs.declared.descriptor.JType.{JType}
 use Rattle.pv_value.specs.declared.descriptor.JType.TheVariants.{I}
 use Rattle.pv_value.specs.declared.descriptor.Descriptor.{Descriptor}
 use Rattle.pv_class.specs.declared.file.Method.{Method}

@@ -1,5 +1,5 @@
 -- What the conversion of a method gives.
-use Rattle.std.specs.Prelude.{◌≡◌, ◌≢◌, ◌<◌, ℕ, ℤ, List, [], ◌∷◌, ◌++◌, length, Option, Some, None, Result, Ok, Err, true, false, bit_and}
+use Rattle.std.specs.Prelude.{◌≡◌, ◌<◌, ℕ, ℤ, List, [], ◌∷◌, ◌++◌, length, Option, Some, None, Result, Ok, Err, false, bit_and, slice_get}
 use Rattle.std.specs.List.{AllZip}
 use Rattle.pv_value.specs.declared.world.World.{World}
 use Rattle.pv_value.specs.declared.outcome.Input.{Input}
@@ -10,7 +10,12 @@ use Rattle.pv_class.specs.declared.file.Method.{Method}
 use Rattle.pv_class.specs.declared.instruction.Insn.{Insn}
 use Rattle.pv_class.specs.Machine.{is_instance}
 use Rattle.pv_graph.specs.declared.node.Node.{Node}
+use Rattle.pv_graph.specs.declared.node.Op.{Op}
 use Rattle.pv_graph.specs.declared.node.Op.TheVariants.{Int}
+use Rattle.pv_graph.specs.declared.node.OpSort.{OpSort}
+use Rattle.pv_graph.specs.Nodes.{IsGraph, node_of}
+use Rattle.pv_graph.specs.Sorts.{sort_over}
+use Rattle.pv_graph.specs.Growth.{Extends}
 use Rattle.pv_graph.specs.Denote.{Value, outside}
 use Rattle.pv_graph.specs.Trees.{unfold_at}
 use Rattle.pv_top.specs.declared.cause.Refused.{Refused}
@@ -24,6 +29,19 @@ abbrev pub Converts : List Node → List Node → Method → Result ℕ Refused 
 Converts old new m (Ok root) = IsRootOf new root m
 Converts old new m (Err (refused.Cause cause)) = Meets m cause × (new ≡ old)
 Converts old new m (Err refused.Memory) = Unit {0}
+
+-- a graph that keeps its nodes, with their values and their trees
+pub record Grows (old new : List Node) : Type 0 where
+  pub graph : IsGraph new
+  pub extends : Extends old new
+
+-- an operation without kids, of this sort
+abbrev pub IsLeaf : Op → OpSort → Type 0
+IsLeaf op sort = sort_over op [] ≡ Some sort
+
+pub record HasLeaf (g : List Node) (op : Op) (n : ℕ) : Type 0 where
+  pub there : slice_get g n ≡ Some (node_of op [])
+  pub in_range : n < length g
 
 -- the root returns the int, at the heap at the start
 pub record RootGives (g : List Node) (root : ℕ) (n : ℤ) : Type 0 where

@@ -8,6 +8,7 @@
 
 mod built;
 mod cause;
+mod conversion;
 mod status;
 mod verdict;
 

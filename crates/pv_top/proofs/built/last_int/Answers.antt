@@ -1,4 +1,4 @@
-use Rattle.std.proofs.Common.{◌≡◌, ◌∙◌, sym, rules, arith}
+use Rattle.std.proofs.Common.{◌∙◌, rules, arith}
 use Rattle.pv_top.proofs.Returned.{parts_of, last_returned}
 use Rattle.pv_top.proofs.built.last_int.Goals as goal
 

@@ -1,4 +1,4 @@
-use Rattle.std.proofs.Common.{◌≡◌, ℤ, rules, sym, subst, ◌∙◌, w32, SFits, Some, ◌+◌, take}
+use Rattle.std.proofs.Common.{ℤ, rules, sym, subst, ◌∙◌, w32, SFits, Some, ◌+◌, take}
 use Rattle.std.proofs.lemmas.Int.{to_z-of_z}
 use Rattle.pv_top.proofs.Pushed.{Tops, tops_more, push_at}
 use Rattle.pv_top.proofs.built.last_pushed.Goals as goal

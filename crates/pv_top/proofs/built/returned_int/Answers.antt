@@ -1,4 +1,4 @@
-use Rattle.std.proofs.Common.{◌≡◌, ℕ, List, rules, sym, subst, ◌∙◌}
+use Rattle.std.proofs.Common.{List, rules, sym, subst}
 use Rattle.pv_value.specs.Descriptors.{IsMethodType}
 use Rattle.pv_class.specs.declared.instruction.Insn.{Insn}
 use Rattle.pv_class.specs.Instructions.{IsCode}

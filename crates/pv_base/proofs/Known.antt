@@ -1,39 +1,31 @@
 -- Reads and writes one after another, where the bytes are known.
-use Rattle.std.proofs.Common.{◌≡◌, ℕ, ◌+◌, ◌-◌, ◌≤◌, List, [], ◌++◌, length, take, drop, Option, Some, None, Result, sym, subst, ◌∙◌, ap, refl, append_assoc, arith}
+use Rattle.std.proofs.Common.{◌≡◌, ℕ, ◌+◌, ◌-◌, ◌≤◌, List, ◌++◌, length, take, drop, Option, Some, None, Result, sym, subst, ◌∙◌, ap, append_assoc, arith}
 use Rattle.std.proofs.Math.Seq.{take-append_seam}
 use Rattle.std.proofs.lemmas.List.{take-append-drop, length-drop, length-append, length-take, take_all}
 use Rattle.std.specs.Prelude.{OnErr, Ok, Err}
 use Rattle.std.specs.Io.KnownBytes.{Appends, Consumes, Keeps}
 use Rattle.pv_base.specs.Host.{AppendsPart, TakesWithin}
 
+-- one write after another
 pub Appends-then : (a b c : Option (List ℕ)) (xs ys : List ℕ) → Appends a b xs → Appends b c ys → Appends a c (xs ++ ys)
 Appends-then None b c xs ys p q = tt
 Appends-then (Some u) None c xs ys p q = absurd p
 Appends-then (Some u) (Some v) None xs ys p q = absurd q
 Appends-then (Some u) (Some v) (Some w) xs ys p q = q ∙ ap (λ (t : List ℕ). t ++ ys) p ∙ append_assoc u xs ys
 
+-- a write, and then a step that changes nothing
 pub Appends-kept : (a b c : Option (List ℕ)) (xs : List ℕ) → Appends a b xs → Keeps b c → Appends a c xs
 Appends-kept None b c xs p q = tt
 Appends-kept (Some u) None c xs p q = absurd p
 Appends-kept (Some u) (Some v) None xs p q = absurd q
 Appends-kept (Some u) (Some v) (Some w) xs p q = q ∙ p
 
+-- one read after another
 pub Consumes-then : (a b c : Option (List ℕ)) (xs ys : List ℕ) → Consumes a b xs → Consumes b c ys → Consumes a c (xs ++ ys)
 Consumes-then None b c xs ys p q = tt
 Consumes-then (Some u) None c xs ys p q = absurd p
 Consumes-then (Some u) (Some v) None xs ys p q = absurd q
 Consumes-then (Some u) (Some v) (Some w) xs ys p q = p ∙ ap (λ (t : List ℕ). xs ++ t) q ∙ sym (append_assoc xs ys w)
-
-pub Consumes-kept : (a b c : Option (List ℕ)) (xs : List ℕ) → Consumes a b xs → Keeps b c → Consumes a c xs
-Consumes-kept None b c xs p q = tt
-Consumes-kept (Some u) None c xs p q = absurd p
-Consumes-kept (Some u) (Some v) None xs p q = absurd q
-Consumes-kept (Some u) (Some v) (Some w) xs p q = p ∙ ap (λ (t : List ℕ). xs ++ t) (sym q)
-
--- nothing stands in front
-pub Consumes-none : (a : Option (List ℕ)) → Consumes a a []
-Consumes-none None = tt
-Consumes-none (Some u) = refl
 
 -- what was taken of the bytes so far is a first part of them
 pub part_of : (a b : Option (List ℕ)) (bytes front rest : List ℕ) → bytes ≡ front ++ rest → Appends a b front → AppendsPart a b bytes

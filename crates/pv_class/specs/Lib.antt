@@ -3,3 +3,5 @@ pub mod Items
 pub mod ClassFiles
 pub mod Instructions
 pub mod Machine
+pub mod Reading
+pub mod Layouts

@@ -1,1 +1,4 @@
 pub mod Examples
+pub mod Formats
+pub mod Loop
+pub mod Groups

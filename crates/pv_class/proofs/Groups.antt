@@ -1,7 +1,8 @@
 -- Groups of modified UTF-8: what stands behind the group at the front.
-use Rattle.std.proofs.Common.{◌≡◌, ◌≢◌, ◌↔◌, ℕ, ◌≤◌, ◌<◌, Bool, true, false, cond, leb, ltb, ◌&&◌, List, [], ◌∷◌, ◌++◌, Option, Some, None, refl, sym, ap, subst, ◌∙◌, append_assoc, arith}
+use Rattle.std.proofs.Common.{◌≡◌, ◌≢◌, ◌↔◌, ℕ, ◌≤◌, ◌<◌, Bool, true, false, cond, leb, ltb, eqb, ◌&&◌, List, [], ◌∷◌, ◌++◌, length, Option, Some, None, refl, sym, ap, subst, ◌∙◌, append_assoc, arith}
 use Rattle.std.specs.List.{flat_map, AllByRecursion}
 use Rattle.std.proofs.lemmas.Bool.Decides.{nat_tests}
+use Rattle.std.proofs.lemmas.List.{length-append}
 use Rattle.std.proofs.lemmas.List.Concat.{flat_map-cons}
 use Rattle.pv_class.specs.Texts.{IsContinuation, IsGroup, IsText}
 use Rattle.pv_class.specs.Reading.{◌>>=◌, behind_continuation, behind_group}
@@ -51,6 +52,15 @@ unfolding behind_group
 group_takes [] after e = absurd cc
 group_takes (a ∷ rest) after e = group_test (is_within 0x01 0x80 a) (is_within 0xC0 0xE0 a) (is_within 0xE0 0xF0 a) a rest after (within 0x01 0x80 a) (within 0xC0 0xE0 a) (within 0xE0 0xF0 a) e
 
+longer : (group after : List ℕ) → IsGroup group → length after < length (group ++ after)
+longer [] after is = absurd is
+longer (a ∷ group) after is = omega (arith, length-append group after)
+
+pub group_shortens : (bytes after : List ℕ) → behind_group bytes ≡ Some after → length after < length bytes
+group_shortens bytes after e =
+    let front = group_takes bytes after e in
+    rw front.2 (longer front.0 after front.1)
+
 pub group_again : (group rest : List ℕ) → IsGroup group → behind_group (group ++ rest) ≡ Some rest
 unfolding behind_group
 group_again [] rest is = absurd is
@@ -91,3 +101,7 @@ no_text bytes some e text =
 
 pub empty_text : IsText []
 empty_text = record { groups = []; each = tt; spelled = refl }
+
+pub not_empty : (bytes : List ℕ) → false ≡ eqb (length bytes) 0 → bytes ≢ []
+not_empty [] e = absurd cc
+not_empty (b ∷ bytes) e = λ h. cc

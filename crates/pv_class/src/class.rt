@@ -80,11 +80,11 @@ fn file_of(alloc: Global, layout: Layout) -> Result<ClassFile, ClassFault>
     if !is_sound(&layout) {
         return Err(ClassFault::NotBuilt);
     }
-    let method = method_of(alloc, &layout.pool, layout.method)?;
+    let Layout { pool, method, .. } = layout;
     let mut methods = Vec::new(alloc);
-    methods.push(method)?;
+    methods.push(method_of(alloc, &pool, method)?)?;
     Ok(ClassFile {
-        pool: layout.pool,
+        pool,
         methods: Methods::from(methods),
     })
 }

@@ -13,9 +13,11 @@ mod memory;
 mod name;
 mod number;
 mod outcome;
+#[cfg(test)]
+mod tests;
 mod world;
 
-pub use descriptor::{Descriptor, JType, JTypes};
+pub use descriptor::{Descriptor, JType, JTypes, read_descriptor, read_field_type};
 pub use heap::{Heap, Kind, Loc};
 pub use memory::Memory;
 pub use name::{Name, Sym};

@@ -1,0 +1,56 @@
+use super::*;
+use crate::JType::{A, B, C, D, F, I, J, S, Z};
+use std::test::Fail;
+
+#[test]
+fn descriptors(rt: HostRuntime) -> Result<(), Fail> {
+    let table: [(&[u8], &[JType], Option<JType>); 6] = [
+        (b"()I", &[], Some(I)),
+        (b"(I[J)V", &[I, A], None),
+        (b"(II)I", &[I, I], Some(I)),
+        (b"(Ljava/lang/String;)[[I", &[A], Some(A)),
+        (b"(ZBCS)Z", &[Z, B, C, S], Some(Z)),
+        (b"(JFD[[Lx;I)V", &[J, F, D, A, I], None),
+    ];
+    for (text, params, result) in table {
+        let found = read_descriptor(rt.alloc(), text)?.ok_or("a descriptor")?;
+        assert_eq!(rt; found.params.as_slice(), params);
+        assert_eq!(rt; found.result, result);
+    }
+    Ok(())
+}
+
+#[test]
+fn no_descriptors(rt: HostRuntime) -> Result<(), Fail> {
+    let table: [&[u8]; 10] = [
+        b"", b"()", b"I", b"(V)V", b"(L;)V", b"(Lx)V", b"([)V", b"()[V", b"()VV", b"(I)I ",
+    ];
+    for text in table {
+        assert!(rt; read_descriptor(rt.alloc(), text)?.is_none());
+    }
+    Ok(())
+}
+
+#[test]
+fn field_types(rt: HostRuntime) {
+    let table: [(&[u8], Option<JType>); 6] = [
+        (b"S", Some(S)),
+        (b"[S", Some(A)),
+        (b"V", None),
+        (b"[", None),
+        (b"Lx;", Some(A)),
+        (b"Lx;;", None),
+    ];
+    for (text, t) in table {
+        assert_eq!(rt; read_field_type(text), t);
+    }
+}
+
+#[test]
+fn names_and_heaps(rt: HostRuntime) -> Result<(), Fail> {
+    let name = Name::new(rt.alloc(), b"length")?;
+    assert_eq!(rt; name.bytes(), b"length".as_slice());
+    let heap = Heap::new(rt.alloc());
+    assert_eq!(rt; heap.get(&Loc::Elem(Kind::Int, 7, 0)), 0);
+    Ok(())
+}

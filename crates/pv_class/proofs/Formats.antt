@@ -21,6 +21,10 @@ pub IsBytes-right : (t rest : List ℕ) → IsBytes (t ++ rest) → IsBytes rest
 IsBytes-right [] rest h = h
 IsBytes-right (b ∷ t) rest h = IsBytes-right t rest (λ j. h (suc j))
 
+-- bytes behind others
+pub bytes_behind : (bytes t rest : List ℕ) → bytes ≡ t ++ rest → IsBytes bytes → IsBytes rest
+bytes_behind bytes t rest e fits = IsBytes-right t rest (subst IsBytes e fits)
+
 -- what is read is spelled so, and what is spelled so is read
 pub record IsFormat (A : Type 0) (spells : List ℕ → A → Type 0) (read : List ℕ → Option (A × List ℕ)) : Type 0 where
   pub takes : (bytes : List ℕ) (x : A × List ℕ) → IsBytes bytes → read bytes ≡ Some x → (t : List ℕ) × (bytes ≡ t ++ x.1) × spells t x.0
@@ -67,7 +71,7 @@ then_format {A = A} {B = B} {r = r} {q = q} f g =
       takes = λ bytes y fits e.
         let b = bind_some (r bytes) k y e in
         let p = f.takes bytes b.0 fits b.1 in
-        let o = (g b.0.0).takes b.0.1 y (IsBytes-right p.0 b.0.1 (subst IsBytes p.1 fits)) b.2 in
+        let o = (g b.0.0).takes b.0.1 y (bytes_behind bytes p.0 b.0.1 p.1 fits) b.2 in
         (p.0 ++ o.0, p.1 ∙ ap (λ (u : List ℕ). p.0 ++ u) o.1 ∙ sym (append_assoc p.0 o.0 y.1), record { first = b.0.0; front = p.0; back = o.0; parts = refl; fits = p.2; others = o.2 });
       again = λ t y rest s.
         ap (λ (b : List ℕ). r b >>= k) (ap (λ (u : List ℕ). u ++ rest) s.parts ∙ append_assoc s.front s.back rest)

@@ -2,3 +2,4 @@ pub mod Examples
 pub mod Formats
 pub mod Loop
 pub mod Groups
+pub mod Spelled

@@ -3,3 +3,4 @@ pub mod Formats
 pub mod Loop
 pub mod Groups
 pub mod Spelled
+pub mod ClassLaws

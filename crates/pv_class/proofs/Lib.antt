@@ -2,3 +2,8 @@ pub mod Examples
 pub mod Decoding
 pub mod Running
 pub mod Programs
+pub mod Formats
+pub mod Loop
+pub mod Groups
+pub mod Spelled
+pub mod ClassLaws

@@ -101,7 +101,7 @@ pub record Describes (i : Items) (file : ClassFile) : Type 0 where
 
 -- a Code without attributes of its own
 abbrev pub IsFirstCode : Attribute → Type 0
-IsFirstCode a = (items : CodeItems) × (a.contents ≡ code_text items) × (items.attributes ≡ [])
+IsFirstCode a = (items : CodeItems) × (a.contents ≡ code_text items) × FitsCode items × (items.attributes ≡ [])
 
 -- a method whose only attribute is a Code
 abbrev pub IsFirstMethod : List Entry → Member → Type 0

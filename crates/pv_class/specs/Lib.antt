@@ -4,3 +4,5 @@ pub mod ClassFiles
 pub mod Instructions
 pub mod Actions
 pub mod Machine
+pub mod Reading
+pub mod Layouts

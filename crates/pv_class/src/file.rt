@@ -1,6 +1,9 @@
 //! What a class file holds.
 
-ghost use Rattle.std.specs.Prelude.{◌≡◌};
+ghost use Rattle.std.specs.Prelude.{◌≡◌, ◌↔◌, IsTrue};
+ghost use Rattle.std.specs.Option.{option_map};
+ghost use Rattle.pv_class.specs.ClassFiles.{entry_under, HasClassUnder};
+ghost use Rattle.pv_class.specs.Layouts.{text_in};
 
 use pv_value::Name;
 use std::marker::Model;
@@ -27,6 +30,52 @@ impl Model for Pool {
     ghost Value = { List Entry };
 
     ghost view = { λ p. p.entries.items };
+}
+
+impl From<Vec<Entry>> for Pool {
+    ghost use Rattle.std.specs.Prelude.{◌≡◌};
+
+    ghost from_gives = { λ entries pool. pool ≡ entries.items };
+
+    fn from(entries: Vec<Entry>) -> Pool {
+        Pool { entries }
+    }
+}
+
+impl Pool {
+    /// The entries in order; the first of them has index 1.
+    pub fn as_slice(&self) -> &[Entry]
+        ensures { result.now ≡ self.now }
+    {
+        &self.entries
+    }
+
+    /// The entry under an index.
+    fn entry(&self, index: u16) -> Option<&Entry>
+        ensures { option_map (λ entry. entry.now) result ≡ entry_under self.now index }
+    {
+        if index == 0 {
+            return None;
+        }
+        self.entries.get(index as usize - 1)
+    }
+
+    /// The text under an index, `None` where no Utf8 entry is.
+    pub(crate) fn text(&self, index: u16) -> Option<&Name>
+        ensures { option_map (λ name. name.now) result ≡ text_in self.now index }
+    {
+        match self.entry(index) {
+            Some(Entry::Utf8(text)) => Some(text),
+            _ => None,
+        }
+    }
+
+    /// Whether a Class entry is under an index.
+    pub(crate) fn has_class(&self, index: u16) -> bool
+        ensures { IsTrue result ↔ HasClassUnder self.now index }
+    {
+        matches!(self.entry(index), Some(Entry::Class(_)))
+    }
 }
 
 /// The code of a method (JVMS 4.7.3). `handlers` is the length of its exception table.
@@ -60,6 +109,16 @@ impl Model for Methods {
     ghost Value = { List Method };
 
     ghost view = { λ m. m.items.items };
+}
+
+impl From<Vec<Method>> for Methods {
+    ghost use Rattle.std.specs.Prelude.{◌≡◌};
+
+    ghost from_gives = { λ items methods. methods ≡ items.items };
+
+    fn from(items: Vec<Method>) -> Methods {
+        Methods { items }
+    }
 }
 
 impl Methods {

@@ -8,10 +8,16 @@
 //! gives the list that the bytes of a code spell.
 #![tactic(auto)]
 
+mod class;
 mod fault;
 mod file;
 mod instruction;
+mod layout;
+mod method_type;
+mod reading;
+mod text;
 
+pub use class::read_class;
 pub use fault::ClassFault;
 pub use file::{ClassFile, Code, Entry, Method, Methods, Pool};
 pub use instruction::{Action, Insn, Insns, instructions};

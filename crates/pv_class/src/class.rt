@@ -1,0 +1,109 @@
+//! Reading a class file of first form.
+
+ghost use Rattle.std.specs.Prelude.{◌≡◌, ◌↔◌, Some, IsTrue};
+ghost use Rattle.std.specs.List.{AllByRecursion};
+ghost use Rattle.pv_class.specs.ClassFiles.{IsEntry, code_word};
+ghost use Rattle.pv_class.specs.Layouts.{Finds, text_in, IsMethodOf, IsSound, IsFileOf};
+ghost use Rattle.pv_class.specs.Reading.{Reads};
+
+use crate::fault::ClassFault;
+use crate::file::{ClassFile, Entry, Method, Methods, Pool};
+use crate::layout::{Layout, MethodLayout};
+use crate::method_type::is_method_type;
+use crate::reading::layout_of;
+use crate::text::is_text;
+use pv_value::Name;
+use std::alloc::Global;
+
+const MAX_FILE: usize = 4194304;
+
+fn is_entry(pool: &Pool, entry: &Entry) -> bool
+    ensures { IsTrue result ↔ IsEntry pool.now entry.now }
+{
+    match entry {
+        Entry::Utf8(text) => is_text(text.bytes()),
+        Entry::Class(name) => pool.text(*name).is_some(),
+    }
+}
+
+fn are_entries(pool: &Pool) -> bool
+    ensures { IsTrue result ↔ AllByRecursion (IsEntry pool.now) pool.now }
+{
+    pool.as_slice().iter().all(|entry| is_entry(pool, entry))
+}
+
+fn is_code(pool: &Pool, index: u16) -> bool
+    ensures { IsTrue result ↔ (text_in pool.now index ≡ Some code_word) }
+{
+    match pool.text(index) {
+        Some(name) => name.bytes() == b"Code".as_slice(),
+        None => false,
+    }
+}
+
+fn is_sound(layout: &Layout) -> bool
+    ensures { IsTrue result ↔ IsSound layout.now }
+{
+    let pool = &layout.pool;
+    45 <= layout.major
+        && layout.major <= 69
+        && are_entries(pool)
+        && pool.has_class(layout.this_class)
+        && (layout.super_class == 0 || pool.has_class(layout.super_class))
+}
+
+/// The method of these items. Its code has 1 to 65535 bytes (JVMS 4.7.3).
+fn method_of(alloc: Global, pool: &Pool, layout: MethodLayout) -> Result<Method, ClassFault>
+    ensures { Finds (IsMethodOf pool.now layout) result }
+{
+    let name = pool.text(layout.name).ok_or(ClassFault::NotBuilt)?;
+    let desc = pool.text(layout.desc).ok_or(ClassFault::NotBuilt)?;
+    let size = layout.code.bytes.bytes().len();
+    if !is_code(pool, layout.attribute) || size == 0 || size > 65535 {
+        return Err(ClassFault::NotBuilt);
+    }
+    if !is_method_type(alloc, desc.bytes())? {
+        return Err(ClassFault::NotBuilt);
+    }
+    Ok(Method {
+        flags: layout.flags,
+        name: Name::new(alloc, name.bytes())?,
+        desc: Name::new(alloc, desc.bytes())?,
+        code: Some(layout.code),
+    })
+}
+
+/// The class file of these items.
+fn file_of(alloc: Global, layout: Layout) -> Result<ClassFile, ClassFault>
+    ensures { Finds (IsFileOf layout) result }
+{
+    if !is_sound(&layout) {
+        return Err(ClassFault::NotBuilt);
+    }
+    let Layout { pool, method, .. } = layout;
+    let mut methods = Vec::new(alloc);
+    methods.push(method_of(alloc, &pool, method)?)?;
+    Ok(ClassFile {
+        pool,
+        methods: Methods::from(methods),
+    })
+}
+
+/// Reads a class file (JVMS 4.1 to 4.7.3) of at most 4194304 bytes.
+///
+/// The form that is read by now has version 45 to 69, Utf8 and Class entries in its constant pool,
+/// no interface, field or class attribute, and exactly one method, whose only attribute is a Code
+/// without attributes of its own. `NotBuilt` says that the bytes are no class file of this form;
+/// `Memory` says nothing of them.
+pub fn read_class(alloc: Global, bytes: &[u8]) -> Result<ClassFile, ClassFault>
+    ensures exact { Reads result bytes.now }
+{
+    if bytes.len() > MAX_FILE {
+        return Err(ClassFault::NotBuilt);
+    }
+    let layout = layout_of(alloc, bytes)?;
+    file_of(alloc, layout)
+}
+
+#[cfg(test)]
+mod tests;

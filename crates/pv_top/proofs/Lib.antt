@@ -4,3 +4,6 @@ pub mod Builts
 pub mod Runs
 pub mod Roots
 pub mod Meanings
+pub mod Partners
+pub mod SameRoots
+pub mod Shown

@@ -12,12 +12,16 @@ use Rattle.pv_top.specs.declared.verdict.Verdict.{Verdict}
 use Rattle.pv_top.specs.declared.verdict.Verdict.TheVariants as verdict
 use Rattle.pv_top.specs.Roots.{HasTree}
 
--- the method of the other file with the same name, the same descriptor, and static where this one is
+-- the same name, the same descriptor, and static where this one is
+pub record IsLike (m other : Method) : Type 0 where
+  pub name : other.name ≡ m.name
+  pub desc : other.desc ≡ m.desc
+  pub static : is_instance other.flags ≡ is_instance m.flags
+
+-- the method of the other file that is like this one
 pub record IsPartner (m : Method) (others : List Method) (partner : Method) : Type 0 where
   pub among : Contains others partner
-  pub name : partner.name ≡ m.name
-  pub desc : partner.desc ≡ m.desc
-  pub static : is_instance partner.flags ≡ is_instance m.flags
+  pub like : IsLike m partner
 
 abbrev pub HasCode : Method → Type 0
 HasCode m = (code : Code) × (m.code ≡ Some code)

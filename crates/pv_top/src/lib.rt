@@ -9,6 +9,7 @@
 mod built;
 mod cause;
 mod conversion;
+mod line;
 mod status;
 mod verdict;
 

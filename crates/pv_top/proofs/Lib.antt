@@ -7,3 +7,5 @@ pub mod Meanings
 pub mod Partners
 pub mod SameRoots
 pub mod Shown
+pub mod SoFar
+pub mod Judgements

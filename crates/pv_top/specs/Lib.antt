@@ -5,5 +5,6 @@ pub mod Roots
 pub mod Verdicts
 pub mod Lines
 pub mod Report
+pub mod Judging
 pub mod Run
 pub mod Conversion

@@ -10,6 +10,7 @@ mod built;
 mod cause;
 mod conversion;
 mod line;
+mod report;
 mod status;
 mod verdict;
 

@@ -1,0 +1,80 @@
+-- The report on the first of the methods.
+use Rattle.std.proofs.Common.{◌≡◌, ℕ, ◌+◌, ◌<◌, ◌≤◌, Bool, true, false, List, [], ◌∷◌, ◌++◌, length, take, get_or, refl, sym, ap, subst, ◌∙◌, arith}
+use Rattle.std.specs.List.{AllZip, AllByRecursion, flat_map}
+use Rattle.std.proofs.lemmas.List.{take_more, take_all, flat_map_more}
+use Rattle.pv_class.specs.declared.file.Method.{Method}
+use Rattle.pv_top.specs.declared.verdict.Verdict.{Verdict}
+use Rattle.pv_top.specs.declared.verdict.Verdict.TheVariants.{Equivalent}
+use Rattle.pv_top.specs.Verdicts.{IsVerdict}
+use Rattle.pv_top.specs.Lines.{line_of, line_text}
+use Rattle.pv_top.specs.Report.{lines_of, AreEquivalent}
+use Rattle.pv_top.specs.Judging.{Told}
+
+-- the report on the first i methods, and whether each of its lines says `equivalent`
+pub record SoFar (methods others : List Method) (i : ℕ) (text : List ℕ) (all : Bool) : Type 0 where
+  pub verdicts : List Verdict
+  pub told : Told (take i methods) others verdicts text
+  pub each : all ≡ true → AreEquivalent verdicts
+  pub some : all ≡ false → AreEquivalent verdicts → ⊥
+
+zip_push : (others ms : List Method) (vs : List Verdict) (m : Method) (v : Verdict) → AllZip (λ m v. IsVerdict m others v) ms vs → IsVerdict m others v → AllZip (λ m v. IsVerdict m others v) (ms ++ m ∷ []) (vs ++ v ∷ [])
+zip_push others [] [] m v h is = (is, tt)
+zip_push others [] (w ∷ vs) m v h is = absurd h
+zip_push others (n ∷ ms) [] m v h is = absurd h
+zip_push others (n ∷ ms) (w ∷ vs) m v h is = (h.0, zip_push others ms vs m v h.1 is)
+
+lines_push : (others ms : List Method) (vs : List Verdict) (m : Method) (v : Verdict) → AllZip (λ m v. IsVerdict m others v) ms vs → lines_of (ms ++ m ∷ []) (vs ++ v ∷ []) ≡ lines_of ms vs ++ line_of m v ∷ []
+lines_push others [] [] m v h = refl
+lines_push others [] (w ∷ vs) m v h = absurd h
+lines_push others (n ∷ ms) [] m v h = absurd h
+lines_push others (n ∷ ms) (w ∷ vs) m v h = ap (λ (l : List (List ℕ)). line_of n w ∷ l) (lines_push others ms vs m v h.1)
+
+equivalent_push : (vs : List Verdict) (v : Verdict) → AreEquivalent vs → v ≡ Equivalent → AreEquivalent (vs ++ v ∷ [])
+equivalent_push [] v h e = (e, tt)
+equivalent_push (w ∷ vs) v h e = (h.0, equivalent_push vs v h.1 e)
+
+equivalent_front : (vs : List Verdict) (v : Verdict) → AreEquivalent (vs ++ v ∷ []) → AreEquivalent vs × (v ≡ Equivalent)
+equivalent_front [] v h = (tt, h.0)
+equivalent_front (w ∷ vs) v h = let rest = equivalent_front vs v h.1 in ((h.0, rest.0), rest.1)
+
+-- the lines of one more method
+lines_text : (ls : List (List ℕ)) (l : List ℕ) → flat_map line_text (ls ++ l ∷ []) ≡ flat_map line_text ls ++ line_text l
+lines_text ls l = sym (flat_map_more line_text [] ls l)
+
+told_push : (ms others : List Method) (vs : List Verdict) (text : List ℕ) (m : Method) (v : Verdict) → Told ms others vs text → IsVerdict m others v → Told (ms ++ m ∷ []) others (vs ++ v ∷ []) (text ++ line_text (line_of m v))
+told_push ms others vs text m v t is = record {
+  each = zip_push others ms vs m v t.each is;
+  text_is =
+      ap (λ (x : List ℕ). x ++ line_text (line_of m v)) t.text_is
+      ∙ sym (ap (flat_map line_text) (lines_push others ms vs m v t.each) ∙ lines_text (lines_of ms vs) (line_of m v));
+}
+
+pub nothing_so_far : (methods others : List Method) → SoFar methods others 0 [] true
+nothing_so_far methods others = record { verdicts = []; told = record { each = tt; text_is = refl }; each = λ e. tt; some = λ e h. absurd (cc e) }
+
+-- the flag after one more verdict
+pub data Flags (before after : Bool) (v : Verdict) : Type 0 where
+  same : v ≡ Equivalent → after ≡ before → Flags before after v
+  cleared : (v ≡ Equivalent → ⊥) → after ≡ false → Flags before after v
+
+each_push : (before after : Bool) (vs : List Verdict) (v : Verdict) → Flags before after v → (before ≡ true → AreEquivalent vs) → after ≡ true → AreEquivalent (vs ++ v ∷ [])
+each_push before after vs v (same e is) each all = equivalent_push vs v (each (sym is ∙ all)) e
+each_push before after vs v (cleared e is) each all = absurd (cc (is, all))
+
+some_push : (before after : Bool) (vs : List Verdict) (v : Verdict) → Flags before after v → (before ≡ false → AreEquivalent vs → ⊥) → after ≡ false → AreEquivalent (vs ++ v ∷ []) → ⊥
+some_push before after vs v (same e is) some off h = some (sym is ∙ off) (equivalent_front vs v h).0
+some_push before after vs v (cleared e is) some off h = e (equivalent_front vs v h).1
+
+pub one_more : (methods others : List Method) (i : ℕ) (text : List ℕ) (before after : Bool) (m : Method) (v : Verdict) → i < length methods → m ≡ get_or methods i m → SoFar methods others i text before → IsVerdict m others v → Flags before after v
+    → SoFar methods others (i + 1) (text ++ line_text (line_of m v)) after
+one_more methods others i text before after m v lt is so verdict flags =
+    let more : take (i + 1) methods ≡ take i methods ++ m ∷ [] = take_more methods i m lt ∙ ap (λ (x : Method). take i methods ++ x ∷ []) (sym is) in
+    record {
+      verdicts = so.verdicts ++ v ∷ [];
+      told = subst (λ (ms : List Method). Told ms others (so.verdicts ++ v ∷ []) (text ++ line_text (line_of m v))) (sym more) (told_push (take i methods) others so.verdicts text m v so.told verdict);
+      each = each_push before after so.verdicts v flags so.each;
+      some = some_push before after so.verdicts v flags so.some;
+    }
+
+pub all_told : (methods others : List Method) (i : ℕ) (text : List ℕ) (all : Bool) → length methods ≤ i → (so : SoFar methods others i text all) → Told methods others so.verdicts text
+all_told methods others i text all le so = subst (λ (ms : List Method). Told ms others so.verdicts text) (take_all i methods le) so.told

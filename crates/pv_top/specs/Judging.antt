@@ -1,0 +1,38 @@
+-- What is said of two files that were fetched.
+use Rattle.std.specs.Prelude.{◌≡◌, ◌<◌, ℕ, List, Option, Some, None, length}
+use Rattle.std.specs.List.{AllZip, flat_map}
+use Rattle.pv_class.specs.declared.file.Method.{Method}
+use Rattle.pv_class.specs.declared.file.ClassFile.{ClassFile}
+use Rattle.pv_class.specs.ClassFiles.{IsClass}
+use Rattle.pv_top.specs.declared.report.Fetched.{Fetched}
+use Rattle.pv_top.specs.declared.report.Fetched.TheVariants.{Bytes, TooLong}
+use Rattle.pv_top.specs.declared.status.Status.{Status}
+use Rattle.pv_top.specs.declared.status.Status.TheVariants as status
+use Rattle.pv_top.specs.declared.verdict.Verdict.{Verdict}
+use Rattle.pv_top.specs.Verdicts.{IsVerdict}
+use Rattle.pv_top.specs.Lines.{line_text}
+use Rattle.pv_top.specs.Report.{lines_of, AreEquivalent, Judged, HasNoClass}
+
+-- a fetch of at most 4194304 bytes gave these bytes
+abbrev pub IsFetched : Fetched → List ℕ → Type 0
+IsFetched (Bytes v) bytes = v.items ≡ bytes
+IsFetched TooLong bytes = 4194304 < length bytes
+
+-- the class of the bytes that were fetched
+abbrev pub ReadsFetched : Fetched → Option ClassFile → Type 0
+ReadsFetched fetched (Some file) = (bytes : List ℕ) → IsFetched fetched bytes → IsClass bytes file
+ReadsFetched fetched None = (bytes : List ℕ) → IsFetched fetched bytes → HasNoClass bytes
+
+-- what is said of the bytes that were fetched
+abbrev pub JudgesFetched : Fetched → Fetched → List ℕ → Status → Type 0
+JudgesFetched first second text s = (a b : List ℕ) → IsFetched first a → IsFetched second b → Judged a b text s
+
+-- the lines of methods with these verdicts
+pub record Told (methods others : List Method) (verdicts : List Verdict) (text : List ℕ) : Type 0 where
+  pub each : AllZip (λ m v. IsVerdict m others v) methods verdicts
+  pub text_is : text ≡ flat_map line_text (lines_of methods verdicts)
+
+abbrev pub Compares : List Method → List Method → List ℕ → Status → Type 0
+Compares methods others text status.AllEquivalent = (verdicts : List Verdict) × Told methods others verdicts text × AreEquivalent verdicts
+Compares methods others text status.Others = (verdicts : List Verdict) × Told methods others verdicts text × (AreEquivalent verdicts → ⊥)
+Compares methods others text s = ⊥

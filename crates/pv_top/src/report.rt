@@ -1,0 +1,84 @@
+//! What is said of two files.
+
+ghost use Rattle.std.specs.Prelude.{◌≡◌, ◌↔◌, IfOk, IsTrue};
+ghost use Rattle.pv_top.specs.Lines.{bad_class};
+ghost use Rattle.pv_top.specs.Judging.{ReadsFetched, JudgesFetched, Compares};
+
+use crate::line::{push_bad_class, push_line};
+use crate::status::Status;
+use crate::verdict::{Side, Verdict, verdict_on};
+use pv_class::{ClassFault, ClassFile, Method, read_class};
+use pv_value::Memory;
+use std::alloc::{AllocError, Global};
+
+/// What a fetch gave: the bytes of a file, or that there are more than 4194304 of them.
+#[derive(Drop)]
+pub enum Fetched {
+    Bytes(Vec<u8>),
+    TooLong,
+}
+
+/// What is said of two files, and with which status.
+pub fn judge(alloc: Global, first: &Fetched, second: &Fetched) -> Result<(Vec<u8>, Status), Memory>
+    ensures { IfOk result (λ said. JudgesFetched first.now second.now said.0.items said.1) }
+{
+    let Some(one) = class_of(alloc, first)? else {
+        return Ok((bad_class(alloc, Side::First)?, Status::BadClass));
+    };
+    let Some(two) = class_of(alloc, second)? else {
+        return Ok((bad_class(alloc, Side::Second)?, Status::BadClass));
+    };
+    compare(alloc, one.methods.as_slice(), two.methods.as_slice())
+}
+
+// The class that a file holds, None where it has no reading.
+fn class_of(alloc: Global, fetched: &Fetched) -> Result<Option<ClassFile>, Memory>
+    ensures { IfOk result (λ found. ReadsFetched fetched.now found) }
+{
+    let Fetched::Bytes(bytes) = fetched else {
+        return Ok(None);
+    };
+    match read_class(alloc, bytes) {
+        Ok(file) => Ok(Some(file)),
+        Err(ClassFault::NotBuilt) => Ok(None),
+        Err(ClassFault::Memory) => Err(Memory),
+    }
+}
+
+fn bad_class(alloc: Global, side: Side) -> Result<Vec<u8>, AllocError>
+    ensures { IfOk result (λ text. text.items ≡ bad_class side) }
+{
+    let mut text = Vec::new(alloc);
+    push_bad_class(&mut text, side)?;
+    Ok(text)
+}
+
+// The lines of the methods of the first file, and whether each says `equivalent`.
+fn compare(
+    alloc: Global,
+    methods: &[Method],
+    others: &[Method],
+) -> Result<(Vec<u8>, Status), Memory>
+    ensures { IfOk result (λ said. Compares methods.now others.now said.0.items said.1) }
+{
+    let mut text = Vec::new(alloc);
+    let mut all_equivalent = true;
+    for method in methods {
+        let verdict = verdict_on(alloc, method, others)?;
+        push_line(alloc, &mut text, method, verdict)?;
+        if !is_equivalent(verdict) {
+            all_equivalent = false;
+        }
+    }
+    if all_equivalent {
+        Ok((text, Status::AllEquivalent))
+    } else {
+        Ok((text, Status::Others))
+    }
+}
+
+fn is_equivalent(verdict: Verdict) -> bool
+    ensures { IsTrue result ↔ (verdict ≡ Verdict.Equivalent) }
+{
+    matches!(verdict, Verdict::Equivalent)
+}

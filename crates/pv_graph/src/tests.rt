@@ -37,6 +37,20 @@ fn one_number_for_one_node(rt: HostRuntime) -> Result<(), GraphFault> {
 }
 
 #[test]
+fn nodes_as_they_were_added(rt: HostRuntime) -> Result<(), GraphFault> {
+    let alloc = rt.alloc();
+    let mut graph = four(alloc)?;
+    let root = add(&mut graph, alloc, Op::Root, &[0, 1, 2, 3])?;
+    assert!(rt; root < graph.len());
+    if root < graph.len() {
+        let node = graph.node(root);
+        assert_eq!(rt; node.op, Op::Root);
+        assert_eq!(rt; node.kids.as_slice(), [0, 1, 2, 3].as_slice());
+    }
+    Ok(())
+}
+
+#[test]
 fn wrong_kids_change_nothing(rt: HostRuntime) -> Result<(), GraphFault> {
     let alloc = rt.alloc();
     let mut graph = four(alloc)?;

@@ -5,9 +5,9 @@
 //! to number a node (`Nodes`), what a node means in a world, at an input and an iteration of the
 //! loops around it (`Denote`), and what the tree under a node is (`Trees`).
 //!
-//! `Graph::add` gives the least number of a node with an operation and kids, and adds one behind the
-//! others where there is none, in constant time but for the kids. The layers above use its clause,
-//! that each graph is acyclic, distinct, sorted and small, and these laws of `specs/`:
+//! `Graph::add` gives the least number of a node with an operation and kids, which it finds through a
+//! hashed table, and adds one behind the others where there is none. The layers above use its
+//! clauses, that each graph is acyclic, distinct, sorted and small, and these laws of `specs/`:
 //!
 //! - `Growth`: a graph that `add` grows keeps its nodes, with their values and their trees.
 //! - `Once`: more fuel keeps a value, so a node has at most one at an index.
@@ -16,7 +16,7 @@
 //! - `SortLaws`: the nodes of a graph have their sorts in one way.
 //! - `Elements`: elements of lists, by their numbers.
 //!
-//! `Tables` is how a graph is kept: a hashed table of the nodes in order, each with its sort.
+//! `Tables` is how a graph is kept: a table of the nodes in order, each with its sort.
 #![tactic(auto)]
 
 mod fault;

@@ -59,6 +59,7 @@ sorts_push g all node s are has = record {
   where
     more : (op : Op) (kids : List ℕ) (t : OpSort) → HasSort all op kids t → HasSort (all ++ s ∷ []) op kids t
     more op kids t h = record { sorts = h.sorts; kids_have = have_more all s kids h.sorts h.kids_have; over = h.over }
+
     each : (n : ℕ) (y : Node) (t : OpSort) → slice_get (g ++ node ∷ []) n ≡ Some y → slice_get (all ++ s ∷ []) n ≡ Some t → HasSort (all ++ s ∷ []) y.op y.kids t
     each n y t is_y is_t =
         elim (push_cases g node y n is_y) [
@@ -87,7 +88,7 @@ table_push table node s is new room =
     record {
       graph = subst IsGraph (sym nodes) (graph_push (keys_of table) (values_of table) node s is.graph is.sorts new.absent new.low new.has (omega (arith, length-map {A = Node × OpSort} {B = Node} table (λ e. e.0))));
       sorts = subst (λ (g : List Node). AreSorts g (values_of (table ++ (node, s) ∷ []))) (sym nodes)
-      (subst (λ (all : List OpSort). AreSorts (keys_of table ++ node ∷ []) all) (sym sorts) (sorts_push (keys_of table) (values_of table) node s is.sorts new.has));
+          (subst (λ (all : List OpSort). AreSorts (keys_of table ++ node ∷ []) all) (sym sorts) (sorts_push (keys_of table) (values_of table) node s is.sorts new.has));
     }
 
 -- a node that is there has its number

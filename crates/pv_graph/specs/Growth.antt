@@ -1,14 +1,15 @@
 -- A graph that grows keeps its nodes, with their values and their trees.
-use Rattle.std.specs.Prelude.{◌≡◌, ℕ, zero, suc, ◌<◌, ◌≤◌, List, [], ◌∷◌, ◌++◌, length, Option, Some, None, slice_get, refl}
+use Rattle.std.specs.Prelude.{◌≡◌, ◌↔◌, ℕ, zero, suc, ◌<◌, ◌≤◌, List, [], ◌∷◌, ◌++◌, length, Option, Some, None, slice_get, refl}
 use Rattle.std.specs.List.{AllByRecursion}
 use Rattle.std.proofs.Common.{ap, ◌∙◌, sym, subst, arith, inl, inr, length-append}
 use Rattle.std.proofs.lemmas.Option.{slice_get_within}
 use Rattle.pv_value.specs.declared.world.World.{World}
 use Rattle.pv_value.specs.declared.outcome.Input.{Input}
+use Rattle.pv_value.specs.declared.outcome.Val.{Val}
 use Rattle.pv_graph.specs.declared.node.Node.{Node}
 use Rattle.pv_graph.specs.Elements.{get_front}
 use Rattle.pv_graph.specs.Nodes.{IsAcyclic, IsGraph, Interned}
-use Rattle.pv_graph.specs.Denote.{Index, den}
+use Rattle.pv_graph.specs.Denote.{Index, den, Value}
 use Rattle.pv_graph.specs.Trees.{Tree, trees_of, tree_at, unfold_at}
 use Rattle.pv_graph.specs.TreeLaws.{same_tree_den}
 
@@ -62,3 +63,10 @@ extends_interned old new node n graph made =
       | inl e ↦ subst (λ (g : List Node). Extends old g) (sym e) (extends_same old)
       | inr e ↦ subst (λ (g : List Node). Extends old g) (sym e.1) (extends_push old node graph.acyclic)
     ]
+
+-- and an old node has the values that it had
+pub value_kept : (old new : List Node) → Extends old new → (w : World) (x : Input) (n : ℕ) (i : Index) (v : Val) → n < length old → Value new w x n i v ↔ Value old w x n i v
+value_kept old new grown w x n i v lt = (
+  (λ y. (y.0, sym (grown.values w x n i y.0 lt) ∙ y.1)),
+  (λ y. (y.0, grown.values w x n i y.0 lt ∙ y.1)),
+)

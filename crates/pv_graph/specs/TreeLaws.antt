@@ -66,9 +66,10 @@ same_tree_den g h w x (suc fuel) a b i e = nodes_alike w x (den g w x fuel) (den
 
 -- nodes that unfold equally, also in two graphs, have the same values
 pub same_tree_value : (g h : List Node) (a b : ℕ) → ((m : ℕ) → unfold_at g m a ≡ unfold_at h m b) → (w : World) (x : Input) (i : Index) (v : Val) → Value g w x a i v ↔ Value h w x b i v
-same_tree_value g h a b e w x i v =
-    ((λ y. (y.0, sym (same_tree_den g h w x y.0 a b i (e y.0)) ∙ y.1)),
-     (λ y. (y.0, same_tree_den g h w x y.0 a b i (e y.0) ∙ y.1)))
+same_tree_value g h a b e w x i v = (
+  (λ y. (y.0, sym (same_tree_den g h w x y.0 a b i (e y.0)) ∙ y.1)),
+  (λ y. (y.0, same_tree_den g h w x y.0 a b i (e y.0) ∙ y.1)),
+)
 
 kids_same : (ks ls : List ℕ) (tree : ℕ → Tree) (m : ℕ) → ((a b : ℕ) → a < m → b < m → tree a ≡ tree b → a ≡ b) → AllByRecursion (λ k. k < m) ks → AllByRecursion (λ k. k < m) ls → trees_of ks tree ≡ trees_of ls tree → ks ≡ ls
 kids_same [] [] tree m same h i e = refl

@@ -83,11 +83,7 @@ fn place_of(nodes: &IndexMap<Node, OpSort>, node: &Node) -> Option<usize>
 }
 
 // Puts a node that isn't there behind the others.
-fn push(
-    nodes: &mut IndexMap<Node, OpSort>,
-    node: Node,
-    sort: OpSort,
-) -> Result<NodeId, GraphFault>
+fn push(nodes: &mut IndexMap<Node, OpSort>, node: Node, sort: OpSort) -> Result<NodeId, GraphFault>
     requires table { IsTable nodes.old.entries }
     requires new { IsNew nodes.old.entries node sort }
 

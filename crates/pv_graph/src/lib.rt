@@ -1,16 +1,29 @@
 //! Graphs of operations, and what they mean.
 //!
 //! This layer stands on `pv_value`. A graph is a list of nodes, each an operation over kids, which
-//! are numbers of nodes. `specs/` says which sorts fit (`Sorts`), what a node means in a world, at an
-//! input and an iteration of the loops around it (`Denote`), and what the tree under a node is
-//! (`Trees`). The layer above uses that `Graph::add` names the least node with an operation and
-//! kids, that the list only grows and old nodes keep their meaning (`Growth`), and that two nodes
-//! unfold equally exactly where they are one number (`Trees`).
+//! are numbers of nodes. `specs/` says which sorts fit (`Sorts`), what every graph is and what it is
+//! to number a node (`Nodes`), what a node means in a world, at an input and an iteration of the
+//! loops around it (`Denote`), and what the tree under a node is (`Trees`).
+//!
+//! `Graph::add` gives the least number of a node with an operation and kids, which it finds through a
+//! hashed table, and adds one behind the others where there is none. The layers above use its
+//! clauses, that each graph is acyclic, distinct, sorted and small, and these laws of `specs/`:
+//!
+//! - `Growth`: a graph that `add` grows keeps its nodes, with their values and their trees.
+//! - `Once`: more fuel keeps a value, so a node has at most one at an index.
+//! - `TreeLaws`: nodes that unfold equally, also in two graphs, have the same values; in a graph they
+//!   are one node. What a node's value and tree are, from its kids'.
+//! - `SortLaws`: the nodes of a graph have their sorts in one way.
+//! - `Elements`: elements of lists, by their numbers.
+//!
+//! `Tables` is how a graph is kept: a table of the nodes in order, each with its sort.
 #![tactic(auto)]
 
 mod fault;
 mod graph;
 mod node;
+#[cfg(test)]
+mod tests;
 
 pub use fault::GraphFault;
 pub use graph::Graph;

@@ -21,4 +21,4 @@ pub returns-clause-ok : goal.returns-clause-ok
 returns-clause-ok c =
     subst (λ (n : ℕ). Interned (keys_of c.args.nodes.now.entries) (keys_of c.insert.new.self.entries) c.args.node n) (sym c.len-n.ensures.len)
     (subst (λ (table : List (Node × OpSort)). Interned (keys_of c.args.nodes.now.entries) (keys_of table) c.args.node (length c.args.nodes.now.entries)) (sym (entries_with c))
-      (interned_push c.args.nodes.now.entries c.args.node c.args.sort c.requires.new.absent (table_with c)))
+    (interned_push c.args.nodes.now.entries c.args.node c.args.sort c.requires.new.absent (table_with c)))

@@ -12,7 +12,7 @@ pub returns-in-Some-clause-fits : goal.returns-in-Some-clause-fits
 returns-in-Some-clause-fits c =
     subst (λ (kids : List ℕ). FitsOver c.args.self.now c.args.op kids) c.in_ok-new.ensures
     (subst (λ (g : List Node). FitsOver g c.args.op c.in_ok-new.field-0) c.self.view_is
-      (there_fits c.self.inside.nodes.entries (node_of c.args.op c.in_ok-new.field-0) c.in-Some.n c.self.invariant c.in-Some.ensures))
+    (there_fits c.self.inside.nodes.entries (node_of c.args.op c.in_ok-new.field-0) c.in-Some.n c.self.invariant c.in-Some.ensures))
 
 pub returns-in_default-sort_of-clause-sort : goal.returns-in_default-sort_of-clause-sort
 returns-in_default-sort_of-clause-sort c e fits =

@@ -1,4 +1,7 @@
 pub mod Examples
+pub mod Decoding
+pub mod Running
+pub mod Programs
 pub mod Formats
 pub mod Loop
 pub mod Groups

@@ -23,3 +23,17 @@ Spells (Push op n) bytes = ((op ≡ 16) × IsPush 16 w8 n bytes) ⊎ ((op ≡ 17
 abbrev pub IsCode : List ℕ → List Insn → Type 0
 IsCode bytes [] = bytes ≡ []
 IsCode bytes (insn ∷ insns) = (front : List ℕ) × (rest : List ℕ) × (bytes ≡ front ++ rest) × Spells insn front × IsCode rest insns
+
+-- the bytes begin with those of an instruction, and these are behind it
+pub record Begins (bytes : List ℕ) (insn : Insn) (rest : List ℕ) : Type 0 where
+  pub front : List ℕ
+  pub parts : bytes ≡ front ++ rest
+  pub spells : Spells insn front
+
+-- the bytes begin with a number of this width in two's complement, and these are behind it
+pub record BeginsSigned (w : Width) (bytes : List ℕ) (n : ℤ) (rest : List ℕ) : Type 0 where
+  pub number : FitsSigned w n
+  pub parts : bytes ≡ to_be_bytes w (cast_unsigned w n) ++ rest
+
+abbrev pub HasNoNumber : Width → List ℕ → Type 0
+HasNoNumber w bytes = (n : ℤ) (rest : List ℕ) → BeginsSigned w bytes n rest → ⊥

@@ -1,5 +1,5 @@
 -- The machine (JVMS 2.6, 6.5): what an instruction does to a state, how a method ends, and when two methods have the same meaning.
-use Rattle.std.specs.Prelude.{◌≡◌, ◌↔◌, ℕ, ℤ, pos, zero, suc, ◌+◌, ◌-◌, ◌-ℤ◌, ◌%◌, List, [], ◌∷◌, ◌++◌, length, Option, Some, None, slice_get, replicate, nat_le, ◌==◌, ◌&&◌, if◌then◌else◌, Bool, true, false, bit_and}
+use Rattle.std.specs.Prelude.{◌≡◌, ◌↔◌, ℕ, ℤ, pos, zero, suc, ◌+◌, ◌-◌, ◌%◌, List, [], ◌∷◌, ◌++◌, length, Option, Some, None, slice_get, replicate, ◌==◌, Bool, true, false, bit_and}
 use Rattle.std.specs.List.{flat_map}
 use Rattle.std.specs.Int.{w8, w16, int_wrap, cast_unsigned}
 use Rattle.pv_value.specs.declared.number.Num.{Num}
@@ -16,10 +16,12 @@ use Rattle.pv_value.specs.Descriptors.{IsMethodType}
 use Rattle.pv_value.specs.Inputs.{Fits}
 use Rattle.pv_value.specs.Worlds.{IsWorld}
 use Rattle.pv_class.specs.declared.instruction.Insn.{Insn}
-use Rattle.pv_class.specs.declared.instruction.Insn.TheVariants.{Plain, Push}
+use Rattle.pv_class.specs.declared.instruction.Action.{Action}
+use Rattle.pv_class.specs.declared.instruction.Action.TheVariants.{Push, ReturnInt, Unknown}
 use Rattle.pv_class.specs.declared.file.Method.{Method}
 use Rattle.pv_class.specs.declared.file.Code.{Code}
 use Rattle.pv_class.specs.Instructions.{IsCode}
+use Rattle.pv_class.specs.Actions.{action}
 
 -- what the machine runs of a method
 pub record Program : Type 0 where
@@ -70,21 +72,6 @@ padded n locals = locals ++ replicate (n - length locals) None
 abbrev pub start : Program → Input → State
 start p input = record { at = 0; stack = []; locals = padded p.max_locals (flat_map locals_of (passed p.instance input)); heap = input.heap }
 
--- what an instruction does
-pub data Action : Type 0 where
-  push : ℤ → Action
-  return_int : Action
-  unknown : Action
-
--- iconst_m1 to iconst_5; ireturn
-abbrev pub plain_action : ℕ → Action
-plain_action op = if nat_le 2 op && nat_le op 8 then push (pos op -ℤ pos 3) else (if op == 172 then return_int else unknown)
-
--- bipush, sipush
-abbrev pub action : Insn → Action
-action (Plain op) = plain_action op
-action (Push op n) = push n
-
 -- an int as a value of the type of the result: boolean takes the lowest bit, byte, char and short the low bits
 abbrev pub narrowed : JType → ℤ → Option ℤ
 narrowed Z n = Some (pos (cast_unsigned w8 n % 2))
@@ -104,9 +91,9 @@ return_as s t stack = running s
 
 -- where an instruction doesn't find what it needs, the machine stays where it is
 abbrev pub perform : Program → State → Action → Now
-perform p s (push n) = running (record { at = s.at + 1; stack = num.Int n ∷ s.stack; locals = s.locals; heap = s.heap })
-perform p s return_int = return_as s p.desc.result s.stack
-perform p s unknown = running s
+perform p s (Push n) = running (record { at = s.at + 1; stack = num.Int n ∷ s.stack; locals = s.locals; heap = s.heap })
+perform p s ReturnInt = return_as s p.desc.result s.stack
+perform p s Unknown = running s
 
 abbrev pub perform_at : Program → State → Option Insn → Now
 perform_at p s (Some insn) = perform p s (action insn)

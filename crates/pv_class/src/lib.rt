@@ -20,4 +20,4 @@ mod text;
 pub use class::read_class;
 pub use fault::ClassFault;
 pub use file::{ClassFile, Code, Entry, Method, Methods, Pool};
-pub use instruction::Insn;
+pub use instruction::{Action, Insn, Insns, instructions};

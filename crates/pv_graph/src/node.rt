@@ -1,9 +1,14 @@
 //! Nodes: an operation and its kids.
 
-ghost use Rattle.std.specs.Prelude.{◌≡◌, IfOk};
+ghost use Rattle.std.specs.Prelude.{◌≡◌, ◌==◌, IfOk};
+ghost use Rattle.std.specs.Cmp.Lexicographic.{pointwise};
+ghost use Rattle.std.specs.Cmp.Rules.{comparing, hashing};
+ghost use Rattle.std.specs.Hash as fed;
+ghost use Rattle.std.proofs.Common.{rules};
 
 use pv_value::Memory;
 use std::alloc::Global;
+use std::hash::{Hash, Hasher};
 use std::marker::Model;
 
 /// The number of a node.
@@ -11,7 +16,7 @@ pub type NodeId = u32;
 
 /// An operation. `Heap0` is the heap at the start, `Clear` the fault of a method that returns, and
 /// `Root` the end of a method over its token, fault, result and heap.
-#[derive(Clone, Copy, Debug, PartialEq, Eq)]
+#[derive(Clone, Copy, Debug, PartialEq, Eq, Hash)]
 pub enum Op {
     Int(i32),
     Long(i64),
@@ -67,8 +72,32 @@ impl Kids {
     }
 }
 
+impl PartialEq for Kids {
+    ghost eq = { pointwise ◌==◌ };
+
+    ghost laws = { Prim.search (comparing, rules) };
+
+    fn eq(&self, other: &Kids) -> bool {
+        self.as_slice() == other.as_slice()
+    }
+}
+
+impl Eq for Kids {
+    ghost laws = { Prim.search (comparing, rules) };
+}
+
+impl Hash for Kids {
+    ghost hash_input = { fed.slice fed.u32 };
+
+    ghost respects_eq = { Prim.search (hashing, rules) };
+
+    fn hash<H: Hasher>(&self, state: &mut H) {
+        self.as_slice().hash(state);
+    }
+}
+
 /// An operation over kids.
-#[derive(Debug, Drop)]
+#[derive(Debug, Drop, PartialEq, Eq, Hash)]
 pub struct Node {
     pub op: Op,
     pub kids: Kids,

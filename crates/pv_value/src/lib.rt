@@ -3,8 +3,13 @@
 //! This is the lowest layer and stands on nothing. `specs/` holds what the values mean: a heap is a
 //! finite map from locations to numbers other than 0 (`Heaps`), a world is its five tables
 //! (`Worlds`), the arguments of an input fit a descriptor (`Inputs`), and descriptors are read by
-//! the grammar of JVMS 4.3 (`Descriptors`). The layers above see a name as its bytes, a list of
-//! numbers as a list, a heap as its map and a world as its tables.
+//! the grammar of JVMS 4.3 (`Descriptors`), by which a text is a descriptor of at most one type
+//! (`Once`). `Reading` is private to this crate. The layers above see a name as its bytes, a list
+//! of numbers or types as a list, a heap as its map and a world as its tables.
+//!
+//! `read_field_type` and `read_descriptor` find the type of each text that the grammar has, and
+//! find none in any other, in a stack that doesn't grow with the text. The grammar sets no limit on
+//! the dimensions of an array or the number of parameters: that is the caller's.
 #![tactic(auto)]
 
 mod descriptor;

@@ -47,10 +47,21 @@ fn field_types(rt: HostRuntime) {
 }
 
 #[test]
-fn names_and_heaps(rt: HostRuntime) -> Result<(), Fail> {
+fn names(rt: HostRuntime) -> Result<(), Fail> {
     let name = Name::new(rt.alloc(), b"length")?;
     assert_eq!(rt; name.bytes(), b"length".as_slice());
-    let heap = Heap::new(rt.alloc());
-    assert_eq!(rt; heap.get(&Loc::Elem(Kind::Int, 7, 0)), 0);
+    Ok(())
+}
+
+#[test]
+fn heaps(rt: HostRuntime) -> Result<(), Fail> {
+    let mut heap = Heap::new(rt.alloc());
+    let table = [(7, 0), (7, -9), (8, i64::MAX), (7, 0)];
+    for (array, n) in table {
+        assert_eq!(rt; heap.get(&Loc::Elem(Kind::Int, array, -1)), 0);
+        heap.put(Loc::Elem(Kind::Int, array, 3), n)?;
+        assert_eq!(rt; heap.get(&Loc::Elem(Kind::Int, array, 3)), n);
+    }
+    assert_eq!(rt; heap.get(&Loc::Elem(Kind::Int, 8, 3)), i64::MAX);
     Ok(())
 }

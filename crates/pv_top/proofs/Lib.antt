@@ -1,0 +1,9 @@
+pub mod Pushed
+pub mod Returned
+pub mod Builts
+pub mod Runs
+pub mod Roots
+pub mod Meanings
+pub mod Partners
+pub mod SameRoots
+pub mod Shown

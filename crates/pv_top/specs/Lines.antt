@@ -1,0 +1,56 @@
+-- The lines of a report.
+use Rattle.std.specs.Prelude.{ℕ, ◌+◌, ◌/◌, ◌%◌, List, [], ◌∷◌, ◌++◌, codes, decimal, nat_lt, nat_le, ◌==◌, ◌&&◌, not, if◌then◌else◌}
+use Rattle.std.specs.List.{flat_map}
+use Rattle.pv_class.specs.declared.file.Method.{Method}
+use Rattle.pv_top.specs.declared.cause.Cause.{Cause}
+use Rattle.pv_top.specs.declared.cause.CauseKind.{CauseKind}
+use Rattle.pv_top.specs.declared.cause.CauseKind.TheVariants as kind
+use Rattle.pv_top.specs.declared.verdict.Side.{Side}
+use Rattle.pv_top.specs.declared.verdict.Side.TheVariants as side
+use Rattle.pv_top.specs.declared.verdict.Verdict.{Verdict}
+use Rattle.pv_top.specs.declared.verdict.Verdict.TheVariants as verdict
+
+-- an upper-case hexadecimal digit
+abbrev pub hex_digit : ℕ → ℕ
+hex_digit n = if nat_lt n 10 then 48 + n else 55 + n
+
+-- a byte from 0x21 to 0x7E other than % stands for itself, every other byte is % and two digits
+abbrev pub shown_byte : ℕ → List ℕ
+shown_byte b = if nat_le 0x21 b && nat_le b 0x7E && not (b == 37) then b ∷ [] else 37 ∷ hex_digit (b / 16) ∷ hex_digit (b % 16) ∷ []
+
+-- the empty list is %-
+abbrev pub shown : List ℕ → List ℕ
+shown [] = codes "%-"
+shown (b ∷ bytes) = flat_map shown_byte (b ∷ bytes)
+
+abbrev pub side_word : Side → List ℕ
+side_word side.First = codes "first"
+side_word side.Second = codes "second"
+
+abbrev pub kind_word : CauseKind → List ℕ
+kind_word kind.NotBuilt = codes "not-built"
+
+abbrev pub cause_text : Cause → List ℕ
+cause_text cause = kind_word cause.kind ++ codes " at " ++ decimal cause.at
+
+abbrev pub verdict_text : Verdict → List ℕ
+verdict_text verdict.Missing = codes "missing"
+verdict_text (verdict.NoCode s) = codes "nocode " ++ side_word s
+verdict_text (verdict.Refused s cause) = codes "refused " ++ side_word s ++ codes " " ++ cause_text cause
+verdict_text verdict.Equivalent = codes "equivalent"
+verdict_text verdict.Apart = codes "unknown apart"
+
+-- what is said of a method, without the line feed
+abbrev pub line_of : Method → Verdict → List ℕ
+line_of m v = shown m.name ++ codes " " ++ shown m.desc ++ codes " " ++ verdict_text v
+
+-- every line ends with one line feed
+abbrev pub line_text : List ℕ → List ℕ
+line_text line = line ++ 10 ∷ []
+
+-- a file that has no reading
+abbrev pub bad_class : Side → List ℕ
+bad_class s = line_text (codes "bad class " ++ side_word s ++ codes " not-built at 0")
+
+abbrev pub bad_words : List ℕ
+bad_words = line_text (codes "bad words")

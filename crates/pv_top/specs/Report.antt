@@ -1,0 +1,39 @@
+-- What is said of the bytes of two files, and with which status.
+use Rattle.std.specs.Prelude.{◌≡◌, ◌⊎◌, ℕ, List, [], ◌∷◌}
+use Rattle.std.specs.List.{AllByRecursion, AllZip, flat_map}
+use Rattle.pv_class.specs.declared.file.Method.{Method}
+use Rattle.pv_class.specs.declared.file.ClassFile.{ClassFile}
+use Rattle.pv_class.specs.ClassFiles.{IsClass}
+use Rattle.pv_top.specs.declared.verdict.Side.TheVariants as side
+use Rattle.pv_top.specs.declared.verdict.Verdict.{Verdict}
+use Rattle.pv_top.specs.declared.verdict.Verdict.TheVariants.{Equivalent}
+use Rattle.pv_top.specs.declared.status.Status.{Status}
+use Rattle.pv_top.specs.declared.status.Status.TheVariants as status
+use Rattle.pv_top.specs.Verdicts.{IsVerdict}
+use Rattle.pv_top.specs.Lines.{line_of, line_text, bad_class}
+
+abbrev pub lines_of : List Method → List Verdict → List (List ℕ)
+lines_of (m ∷ ms) (v ∷ vs) = line_of m v ∷ lines_of ms vs
+lines_of ms vs = []
+
+-- one line for each method of the first file, in its order, with these verdicts
+pub record IsReport (a b : List ℕ) (verdicts : List Verdict) (text : List ℕ) : Type 0 where
+  pub first : ClassFile
+  pub second : ClassFile
+  pub first_is : IsClass a first
+  pub second_is : IsClass b second
+  pub each : AllZip (λ m v. IsVerdict m second.methods v) first.methods verdicts
+  pub text_is : text ≡ flat_map line_text (lines_of first.methods verdicts)
+
+abbrev pub AreEquivalent : List Verdict → Type 0
+AreEquivalent verdicts = AllByRecursion (λ v. v ≡ Equivalent) verdicts
+
+abbrev pub HasNoClass : List ℕ → Type 0
+HasNoClass bytes = (file : ClassFile) → IsClass bytes file → ⊥
+
+-- The text and the status for the bytes of two files: a report, or the first of the two that has no reading.
+abbrev pub Judged : List ℕ → List ℕ → List ℕ → Status → Type 0
+Judged a b text status.AllEquivalent = (verdicts : List Verdict) × IsReport a b verdicts text × AreEquivalent verdicts
+Judged a b text status.Others = (verdicts : List Verdict) × IsReport a b verdicts text × (AreEquivalent verdicts → ⊥)
+Judged a b text status.BadClass = (HasNoClass a × (text ≡ bad_class side.First)) ⊎ (((file : ClassFile) × IsClass a file) × HasNoClass b × (text ≡ bad_class side.Second))
+Judged a b text s = ⊥

@@ -1,0 +1,18 @@
+//! The commands of the validator.
+//!
+//! This is the highest layer: it stands on all others, and `main` calls `run`. `specs/` says which
+//! words are a command (`Words`), which methods are converted by now and what their root is
+//! (`Built`, `Roots`), what the lines of a report are (`Verdicts`, `Lines`, `Report`), and what
+//! `run` answers and leaves (`Run`).
+#![tactic(auto)]
+
+mod built;
+mod cause;
+mod conversion;
+mod line;
+mod status;
+mod verdict;
+
+pub use cause::{Cause, CauseKind, Refused};
+pub use status::Status;
+pub use verdict::{Side, Verdict};

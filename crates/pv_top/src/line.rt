@@ -1,0 +1,112 @@
+//! The lines of a report.
+
+ghost use Rattle.std.specs.Prelude.{◌≡◌, ◌++◌, ◌<◌, OnOk};
+ghost use Rattle.pv_top.specs.Lines.{shown, shown_byte, hex_digit, side_word, kind_word, cause_text, verdict_text, line_of, line_text, bad_class};
+
+use crate::cause::{Cause, CauseKind};
+use crate::verdict::{Side, Verdict};
+use pv_class::Method;
+use std::alloc::{AllocError, Global};
+
+/// The line that says that a file has no reading.
+pub fn push_bad_class(out: &mut Vec<u8>, side: Side) -> Result<(), AllocError>
+    ensures { OnOk result (out.new.items ≡ out.old.items ++ bad_class side) }
+{
+    out.extend_from_slice(b"bad class ")?;
+    out.extend_from_slice(side_word(side))?;
+    out.extend_from_slice(b" not-built at 0\n")
+}
+
+/// What is said of a method, and a line feed.
+pub fn push_line(
+    alloc: Global,
+    out: &mut Vec<u8>,
+    method: &Method,
+    verdict: Verdict,
+) -> Result<(), AllocError>
+    ensures { OnOk result (out.new.items ≡ out.old.items ++ line_text (line_of method.now verdict)) }
+{
+    push_shown(out, method.name.bytes())?;
+    out.extend_from_slice(b" ")?;
+    push_shown(out, method.desc.bytes())?;
+    out.extend_from_slice(b" ")?;
+    push_verdict(alloc, out, verdict)?;
+    out.extend_from_slice(b"\n")
+}
+
+fn push_verdict(alloc: Global, out: &mut Vec<u8>, verdict: Verdict) -> Result<(), AllocError>
+    ensures { OnOk result (out.new.items ≡ out.old.items ++ verdict_text verdict) }
+{
+    match verdict {
+        Verdict::Missing => out.extend_from_slice(b"missing"),
+        Verdict::NoCode(side) => {
+            out.extend_from_slice(b"nocode ")?;
+            out.extend_from_slice(side_word(side))
+        }
+        Verdict::Refused(side, cause) => {
+            out.extend_from_slice(b"refused ")?;
+            out.extend_from_slice(side_word(side))?;
+            out.extend_from_slice(b" ")?;
+            push_cause(alloc, out, cause)
+        }
+        Verdict::Equivalent => out.extend_from_slice(b"equivalent"),
+        Verdict::Apart => out.extend_from_slice(b"unknown apart"),
+    }
+}
+
+fn push_cause(alloc: Global, out: &mut Vec<u8>, cause: Cause) -> Result<(), AllocError>
+    ensures { OnOk result (out.new.items ≡ out.old.items ++ cause_text cause) }
+{
+    let at = cause.at;
+    out.extend_from_slice(kind_word(cause.kind))?;
+    out.extend_from_slice(b" at ")?;
+    let at = format!(in alloc; "{at}")?;
+    out.extend_from_slice(at.as_bytes())
+}
+
+fn kind_word(kind: CauseKind) -> &'static [u8]
+    ensures { result.now ≡ kind_word kind }
+{
+    match kind {
+        CauseKind::NotBuilt => b"not-built",
+    }
+}
+
+fn side_word(side: Side) -> &'static [u8]
+    ensures { result.now ≡ side_word side }
+{
+    match side {
+        Side::First => b"first",
+        Side::Second => b"second",
+    }
+}
+
+// Bytes as shown text.
+fn push_shown(out: &mut Vec<u8>, bytes: &[u8]) -> Result<(), AllocError>
+    ensures { OnOk result (out.new.items ≡ out.old.items ++ shown bytes.now) }
+{
+    if bytes.is_empty() {
+        return out.extend_from_slice(b"%-");
+    }
+    for b in bytes {
+        push_shown_byte(out, *b)?;
+    }
+    Ok(())
+}
+
+fn push_shown_byte(out: &mut Vec<u8>, b: u8) -> Result<(), AllocError>
+    ensures { OnOk result (out.new.items ≡ out.old.items ++ shown_byte b) }
+{
+    if b >= 0x21 && b <= 0x7E && b != b'%' {
+        return out.extend_from_slice(&[b]);
+    }
+    out.extend_from_slice(&[b'%', hex_digit(b / 16), hex_digit(b % 16)])
+}
+
+// An upper-case hexadecimal digit.
+fn hex_digit(n: u8) -> u8
+    requires { n < 16 }
+    ensures { result ≡ hex_digit n }
+{
+    if n < 10 { b'0' + n } else { b'A' - 10 + n }
+}

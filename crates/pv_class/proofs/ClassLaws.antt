@@ -1,5 +1,5 @@
 -- What is read is the class file of the bytes, and no other is.
-use Rattle.std.proofs.Common.{◌≡◌, ℕ, zero, suc, ◌+◌, ◌^◌, ◌<◌, ◌≤◌, List, [], ◌∷◌, ◌++◌, length, Option, Some, None, Result, Ok, Err, refl, sym, ap, subst, ◌∙◌, append_assoc, arith, slice_get}
+use Rattle.std.proofs.Common.{◌≡◌, ℕ, zero, suc, ◌+◌, ◌<◌, ◌≤◌, List, [], ◌∷◌, ◌++◌, length, Option, Some, None, Result, Ok, Err, refl, sym, ap, subst, ◌∙◌, append_assoc, arith, slice_get}
 use Rattle.std.specs.List.{flat_map, AllByRecursion, AllZip}
 use Rattle.std.proofs.lemmas.List.{length-append, append-nil}
 use Rattle.pv_class.specs.declared.fault.ClassFault.{ClassFault}
@@ -11,12 +11,12 @@ use Rattle.pv_class.specs.declared.file.Method.{Method}
 use Rattle.pv_class.specs.declared.file.ClassFile.{ClassFile}
 use Rattle.pv_class.specs.declared.layout.MethodLayout.{MethodLayout}
 use Rattle.pv_class.specs.declared.layout.Layout.{Layout}
-use Rattle.pv_class.specs.Items.{u2, u4, IsU2, table, entry_text, Handler, handler_text, Attribute, attribute_text, FitsAttribute, Member, member_text, FitsMember, CodeItems, code_text, FitsCode, Items, file_text, FitsItems}
-use Rattle.pv_class.specs.ClassFiles.{entry_under, IsTextUnder, code_word, IsCodeAttribute, HoldsCode, OneCode, CodeAmong, IsMethod, AreDistinct, Describes, IsFirstForm, IsClass}
-use Rattle.pv_class.specs.Layouts.{Finds, text_of, text_in, IsMethodOf, IsSound, IsFileOf}
+use Rattle.pv_class.specs.Items.{u2, u4, table, entry_text, Handler, handler_text, Attribute, attribute_text, FitsAttribute, Member, member_text, FitsMember, CodeItems, code_text, FitsCode, Items, file_text, FitsItems}
+use Rattle.pv_class.specs.ClassFiles.{entry_under, code_word, IsCodeAttribute, OneCode, CodeAmong, IsMethod, AreDistinct, Describes, IsClass}
+use Rattle.pv_class.specs.Layouts.{Finds, text_of, IsMethodOf, IsFileOf}
 use Rattle.pv_class.specs.Reading.{Reads, Fails, whole, code_at, layout_at}
 use Rattle.pv_class.proofs.Formats.{IsBytes, whole_takes, whole_again}
-use Rattle.pv_class.proofs.Spelled.{IsCodeText, code_format, IsPlainCode, IsMethodText, IsHead, IsMiddle, IsLayout, layout_format}
+use Rattle.pv_class.proofs.Spelled.{IsCodeText, code_format, IsPlainCode, IsMethodText, IsLayout, layout_format}
 
 text_is : (o : Option Entry) (text : List ℕ) → text_of o ≡ Some text → o ≡ Some (Utf8 text)
 text_is (Some (Utf8 t)) text e = cc
@@ -170,8 +170,12 @@ layout_is_class t l f small s is = record {
     attributes = refl;
     method = member_of l.method s.one.contents;
     one = refl;
-    first = (attribute_of l.method s.one.contents, refl, text_is (entry_under l.pool l.method.attribute) code_word is.is.attribute,
-    (plain_items l.method.code s.one.code.code.handlers, plain_spelled s.one.contents l.method.code s.one.code, plain_fits s.one.contents l.method.code s.one.code is.is.some is.is.few, refl));
+    first = (
+      attribute_of l.method s.one.contents,
+      refl,
+      text_is (entry_under l.pool l.method.attribute) code_word is.is.attribute,
+      (plain_items l.method.code s.one.code.code.handlers, plain_spelled s.one.contents l.method.code s.one.code, plain_fits s.one.contents l.method.code s.one.code is.is.some is.is.few, refl),
+    );
   };
 }
 

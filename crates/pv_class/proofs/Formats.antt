@@ -1,5 +1,5 @@
 -- Formats: a reader of an item, and the relation between the item and its spelling, which it meets both ways.
-use Rattle.std.proofs.Common.{◌≡◌, ℕ, zero, suc, ◌+◌, ◌^◌, ◌<◌, ◌≤◌, Bool, true, false, cond, ltb, List, [], ◌∷◌, ◌++◌, length, get_or, take, drop, Option, Some, None, refl, sym, ap, subst, ◌∙◌, append_assoc, arith}
+use Rattle.std.proofs.Common.{◌≡◌, ℕ, zero, suc, ◌^◌, ◌<◌, ◌≤◌, Bool, true, false, cond, ltb, List, [], ◌∷◌, ◌++◌, length, get_or, take, drop, Option, Some, None, refl, sym, ap, subst, ◌∙◌, append_assoc, arith}
 use Rattle.std.specs.Prelude.{◌==◌}
 use Rattle.std.specs.List.{flat_map, AllByRecursion}
 use Rattle.std.specs.Int.{Width, w16, w32, byte_len, from_be_bytes, to_be_bytes}
@@ -47,8 +47,8 @@ pub same_format : {A : Type 0} {S T : List ℕ → A → Type 0} {read : List �
     → ((t : List ℕ) (x : A) → IsBytes t → S t x → T t x) → ((t : List ℕ) (x : A) → T t x → S t x) → IsFormat A T read
 same_format f to from = record {
   takes = λ bytes x fits e.
-    let p = f.takes bytes x fits e in
-    (p.0, p.1, to p.0 x.0 (IsBytes-left p.0 x.1 (subst IsBytes p.1 fits)) p.2);
+      let p = f.takes bytes x fits e in
+      (p.0, p.1, to p.0 x.0 (IsBytes-left p.0 x.1 (subst IsBytes p.1 fits)) p.2);
   again = λ t x rest s. f.again t x rest (from t x s);
 }
 
@@ -69,14 +69,14 @@ then_format {A = A} {B = B} {r = r} {q = q} f g =
     let k = λ (x : A × List ℕ). q x.0 x.1 in
     record {
       takes = λ bytes y fits e.
-        let b = bind_some (r bytes) k y e in
-        let p = f.takes bytes b.0 fits b.1 in
-        let o = (g b.0.0).takes b.0.1 y (bytes_behind bytes p.0 b.0.1 p.1 fits) b.2 in
-        (p.0 ++ o.0, p.1 ∙ ap (λ (u : List ℕ). p.0 ++ u) o.1 ∙ sym (append_assoc p.0 o.0 y.1), record { first = b.0.0; front = p.0; back = o.0; parts = refl; fits = p.2; others = o.2 });
+          let b = bind_some (r bytes) k y e in
+          let p = f.takes bytes b.0 fits b.1 in
+          let o = (g b.0.0).takes b.0.1 y (bytes_behind bytes p.0 b.0.1 p.1 fits) b.2 in
+          (p.0 ++ o.0, p.1 ∙ ap (λ (u : List ℕ). p.0 ++ u) o.1 ∙ sym (append_assoc p.0 o.0 y.1), record { first = b.0.0; front = p.0; back = o.0; parts = refl; fits = p.2; others = o.2 });
       again = λ t y rest s.
-        ap (λ (b : List ℕ). r b >>= k) (ap (λ (u : List ℕ). u ++ rest) s.parts ∙ append_assoc s.front s.back rest)
-        ∙ ap (λ (o : Option (A × List ℕ)). o >>= k) (f.again s.front s.first (s.back ++ rest) s.fits)
-        ∙ (g s.first).again s.back y rest s.others;
+          ap (λ (b : List ℕ). r b >>= k) (ap (λ (u : List ℕ). u ++ rest) s.parts ∙ append_assoc s.front s.back rest)
+          ∙ ap (λ (o : Option (A × List ℕ)). o >>= k) (f.again s.front s.first (s.back ++ rest) s.fits)
+          ∙ (g s.first).again s.back y rest s.others;
     }
 
 abbrev pub Done : {B : Type 0} → B → List ℕ → B → Type 0
@@ -85,8 +85,8 @@ Done y t z = (t ≡ []) × (z ≡ y)
 pub done_format : {B : Type 0} (y : B) → IsFormat B (Done y) (λ bytes. Some (y, bytes))
 done_format {B = B} y = record {
   takes = λ bytes x fits e.
-    let is : (y, bytes) ≡ x = cc in
-    ([], ap (λ (p : B × List ℕ). p.1) is, (refl, sym (ap (λ (p : B × List ℕ). p.0) is)));
+      let is : (y, bytes) ≡ x = cc in
+      ([], ap (λ (p : B × List ℕ). p.1) is, (refl, sym (ap (λ (p : B × List ℕ). p.0) is)));
   again = λ t z rest s. cc;
 }
 
@@ -100,9 +100,9 @@ pub with_format : {A B : Type 0} {T : A → List ℕ → B → Type 0} {q : A �
     → ((a : A) → IsFormat B (T a) (q a)) → IsFormat B (With A B o T) (λ bytes. o >>= λ a. q a bytes)
 with_format {A = A} {q = q} o g = record {
   takes = λ bytes y fits e.
-    let b = bind_some o (λ (a : A). q a bytes) y e in
-    let p = (g b.0).takes bytes y fits b.2 in
-    (p.0, p.1, record { value = b.0; is = b.1; others = p.2 });
+      let b = bind_some o (λ (a : A). q a bytes) y e in
+      let p = (g b.0).takes bytes y fits b.2 in
+      (p.0, p.1, record { value = b.0; is = b.1; others = p.2 });
   again = λ t y rest s. ap (λ (p : Option A). p >>= λ a. q a (t ++ rest)) s.is ∙ (g s.value).again t y rest s.others;
 }
 
@@ -136,13 +136,13 @@ Run n t x = (t ≡ x) × (length x ≡ n)
 pub run_format : (n : ℕ) → IsFormat (List ℕ) (Run n) (run_at n)
 run_format n = record {
   takes = λ bytes x fits e.
-    let g = guard_some (ltb (length bytes) n) (take n bytes, drop n bytes) x e in
-    let long : n ≤ length bytes = ltb-false _ _ g.0 in
-    let P : List ℕ × List ℕ → Type 0 = λ p. (t : List ℕ) × (bytes ≡ t ++ p.1) × Run n t p.0 in
-    subst P g.1 (take n bytes, sym (take-append-drop n bytes), (refl, omega (arith, length-take n bytes)));
+      let g = guard_some (ltb (length bytes) n) (take n bytes, drop n bytes) x e in
+      let long : n ≤ length bytes = ltb-false _ _ g.0 in
+      let P : List ℕ × List ℕ → Type 0 = λ p. (t : List ℕ) × (bytes ≡ t ++ p.1) × Run n t p.0 in
+      subst P g.1 (take n bytes, sym (take-append-drop n bytes), (refl, omega (arith, length-take n bytes)));
   again = λ t x rest s.
-    let long : ltb (length (x ++ rest)) n ≡ false = le-ltb _ _ (omega (arith, length-append x rest, s.1)) in
-    ap (λ (u : List ℕ). run_at n (u ++ rest)) s.0 ∙ rw (long, take_at x rest n s.1, drop_at x rest n s.1) refl;
+      let long : ltb (length (x ++ rest)) n ≡ false = le-ltb _ _ (omega (arith, length-append x rest, s.1)) in
+      ap (λ (u : List ℕ). run_at n (u ++ rest)) s.0 ∙ rw (long, take_at x rest n s.1, drop_at x rest n s.1) refl;
 }
 
 abbrev pub Number : Width → ℕ → List ℕ → ℕ → Type 0
@@ -151,18 +151,18 @@ Number w limit t n = (t ≡ to_be_bytes w n) × (n < limit)
 number_format : (w : Width) (limit : ℕ) → IsWide w limit → IsFormat ℕ (Number w limit) (number_at w)
 number_format w limit wide = record {
   takes = λ bytes x fits e.
-    let front = take (byte_len w) bytes in
-    let g = guard_some (ltb (length bytes) (byte_len w)) (from_be_bytes w front, drop (byte_len w) bytes) x e in
-    let long : byte_len w ≤ length bytes = ltb-false _ _ g.0 in
-    let parts = sym (take-append-drop (byte_len w) bytes) in
-    let small : IsBytes front = IsBytes-left front (drop (byte_len w) bytes) (subst IsBytes parts fits) in
-    let P : ℕ × List ℕ → Type 0 = λ p. (t : List ℕ) × (bytes ≡ t ++ p.1) × Number w limit t p.0 in
-    subst P g.1 (front, parts, (sym (wide.back front (omega (arith, length-take (byte_len w) bytes)) small), wide.below front small));
+      let front = take (byte_len w) bytes in
+      let g = guard_some (ltb (length bytes) (byte_len w)) (from_be_bytes w front, drop (byte_len w) bytes) x e in
+      let long : byte_len w ≤ length bytes = ltb-false _ _ g.0 in
+      let parts = sym (take-append-drop (byte_len w) bytes) in
+      let small : IsBytes front = IsBytes-left front (drop (byte_len w) bytes) (subst IsBytes parts fits) in
+      let P : ℕ × List ℕ → Type 0 = λ p. (t : List ℕ) × (bytes ≡ t ++ p.1) × Number w limit t p.0 in
+      subst P g.1 (front, parts, (sym (wide.back front (omega (arith, length-take (byte_len w) bytes)) small), wide.below front small));
   again = λ t n rest s.
-    let b = to_be_bytes w n in
-    let len = wide.len n in
-    let long : ltb (length (b ++ rest)) (byte_len w) ≡ false = le-ltb _ _ (omega (arith, length-append b rest)) in
-    ap (λ (u : List ℕ). number_at w (u ++ rest)) s.0 ∙ rw (long, take_at b rest (byte_len w) len, drop_at b rest (byte_len w) len, wide.again n s.1) refl;
+      let b = to_be_bytes w n in
+      let len = wide.len n in
+      let long : ltb (length (b ++ rest)) (byte_len w) ≡ false = le-ltb _ _ (omega (arith, length-append b rest)) in
+      ap (λ (u : List ℕ). number_at w (u ++ rest)) s.0 ∙ rw (long, take_at b rest (byte_len w) len, drop_at b rest (byte_len w) len, wide.again n s.1) refl;
 }
 
 pub format16 : IsFormat ℕ (Number w16 (2 ^ 16)) (number_at w16)
@@ -180,14 +180,14 @@ exactly_format w limit n f lt =
     let k = λ (x : ℕ × List ℕ). cond (x.0 == n) (Some (tt, x.1)) None in
     record {
       takes = λ bytes y fits e.
-        let b = bind_some (number_at w bytes) k y e in
-        let p = f.takes bytes b.0 fits b.1 in
-        let g = test_some (b.0.0 == n) (tt, b.0.1) y b.2 in
-        let is : b.0.0 ≡ n = eqb-true b.0.0 n g.0 in
-        let P : Unit {0} × List ℕ → Type 0 = λ q. (t : List ℕ) × (bytes ≡ t ++ q.1) × Exactly w n t q.0 in
-        subst P g.1 (p.0, p.1, p.2.0 ∙ ap (to_be_bytes w) is);
+          let b = bind_some (number_at w bytes) k y e in
+          let p = f.takes bytes b.0 fits b.1 in
+          let g = test_some (b.0.0 == n) (tt, b.0.1) y b.2 in
+          let is : b.0.0 ≡ n = eqb-true b.0.0 n g.0 in
+          let P : Unit {0} × List ℕ → Type 0 = λ q. (t : List ℕ) × (bytes ≡ t ++ q.1) × Exactly w n t q.0 in
+          subst P g.1 (p.0, p.1, p.2.0 ∙ ap (to_be_bytes w) is);
       again = λ t x rest s.
-        ap (λ (o : Option (ℕ × List ℕ)). o >>= k) (f.again t n rest (s, lt)) ∙ rw (eq-eqb n n refl) refl;
+          ap (λ (o : Option (ℕ × List ℕ)). o >>= k) (f.again t n rest (s, lt)) ∙ rw (eq-eqb n n refl) refl;
     }
 
 pub exact16 : (n : ℕ) → n < 2 ^ 16 → IsFormat (Unit {0}) (Exactly w16 n) (exactly_at w16 n)

@@ -1,7 +1,7 @@
 -- The formats of the items of a class file of first form.
-use Rattle.std.proofs.Common.{◌≡◌, ℕ, zero, suc, ◌+◌, ◌*◌, ◌^◌, ◌<◌, ◌≤◌, Bool, true, false, ltb, eqb, cond, List, [], ◌∷◌, ◌++◌, length, take, drop, Option, Some, None, refl, sym, ap, subst, ◌∙◌, append_assoc, arith}
+use Rattle.std.proofs.Common.{◌≡◌, ℕ, zero, suc, ◌+◌, ◌*◌, ◌^◌, ◌<◌, ◌≤◌, Bool, true, false, ltb, eqb, cond, List, [], ◌∷◌, ◌++◌, length, take, drop, Some, None, refl, sym, ap, subst, ◌∙◌, append_assoc, arith}
 use Rattle.std.specs.List.{flat_map, AllByRecursion}
-use Rattle.std.specs.Int.{w16, w32, byte_len, from_be_bytes, to_be_bytes}
+use Rattle.std.specs.Int.{w16, from_be_bytes}
 use Rattle.std.proofs.lemmas.Bool.{le-ltb, eqb-true}
 use Rattle.std.proofs.lemmas.List.{length-append, length-drop, append-nil, nil_from_length}
 use Rattle.std.proofs.lemmas.List.Concat.{flat_map-cons}
@@ -11,8 +11,8 @@ use Rattle.pv_class.specs.declared.file.Code.{Code}
 use Rattle.pv_class.specs.declared.layout.MethodLayout.{MethodLayout}
 use Rattle.pv_class.specs.declared.layout.Layout.{Layout}
 use Rattle.pv_class.specs.Items.{u2, u4, IsU2, table, IsTable, entry_text, FitsEntry, Handler, handler_text, FitsHandler}
-use Rattle.pv_class.specs.Reading.{◌>>=◌, number_at, run_at, exactly_at, many_at, whole, text_at, class_at, entry_at, pool_at, code_at, plain_code_at, method_at, head_at, middle_at, layout_at}
-use Rattle.pv_class.proofs.Formats.{IsBytes, IsBytes-right, bytes_behind, IsFormat, same_format, Then, then_format, Done, done_format, With, with_format, Run, run_format, Number, format16, format32, exact16, exact32, Spelled, Many, many_format, many_spelled, spelled_many, whole_takes, whole_again}
+use Rattle.pv_class.specs.Reading.{number_at, run_at, whole, text_at, class_at, entry_at, pool_at, code_at, plain_code_at, method_at, head_at, middle_at, layout_at}
+use Rattle.pv_class.proofs.Formats.{IsBytes, IsBytes-right, bytes_behind, IsFormat, same_format, Then, then_format, done_format, with_format, run_format, format16, format32, exact16, exact32, Spelled, Many, many_format, many_spelled, spelled_many, whole_takes, whole_again}
 
 -- an item and what stands behind it
 joined : {A B : Type 0} {S : List ℕ → A → Type 0} {T : A → List ℕ → B → Type 0} {w : List ℕ} {y : B} (x : A) (t u : List ℕ) → w ≡ t ++ u → S t x → T x u y → Then A B S T w y
@@ -112,13 +112,16 @@ handler_front bytes fits long =
     let h : Handler = record { start = a.0; end = b.0; target = c.0; catch = d.0 } in
     (h, d.1, record { start = a.2; end = b.2; target = c.2; catch = d.2 }, handler_parts h bytes a.1 b.1 c.1 d.1 a.3 b.3 c.3 d.3, omega (arith, a.4, b.4, c.4, d.4))
 
+handlers_more : (h : Handler) (hs : List Handler) (bytes rest : List ℕ) → bytes ≡ handler_text h ++ rest → rest ≡ flat_map handler_text hs → bytes ≡ flat_map handler_text (h ∷ hs)
+handlers_more h hs bytes rest e1 e2 = e1 ∙ ap (λ (u : List ℕ). handler_text h ++ u) e2 ∙ sym (flat_map-cons handler_text h hs)
+
 -- as many exception handlers as the bytes have room for
 handlers_of : (n : ℕ) (bytes : List ℕ) → IsBytes bytes → length bytes ≡ 8 * n → (hs : List Handler) × (length hs ≡ n) × AllByRecursion FitsHandler hs × (bytes ≡ flat_map handler_text hs)
 handlers_of zero bytes fits len = ([], refl, tt, nil_from_length bytes (omega (arith, len)))
 handlers_of (suc n) bytes fits len =
     let p = handler_front bytes fits (omega (arith, len)) in
     let others = handlers_of n p.1 (bytes_behind bytes (handler_text p.0) p.1 p.3 fits) (omega (arith, len, p.4)) in
-    (p.0 ∷ others.0, ap suc others.1, (p.2, others.2), p.3 ∙ ap (λ (u : List ℕ). handler_text p.0 ++ u) others.3 ∙ sym (flat_map-cons handler_text p.0 others.0))
+    (p.0 ∷ others.0, omega (arith, others.1), (p.2, others.2), handlers_more p.0 others.0 bytes p.1 p.3 others.3)
 
 handlers_long : (hs : List Handler) → length (flat_map handler_text hs) ≡ 8 * length hs
 handlers_long [] = refl

@@ -10,13 +10,23 @@ use crate::fault::ClassFault;
 use crate::file::{ClassFile, Entry, Method, Methods, Pool};
 use crate::layout::{Layout, MethodLayout};
 use crate::method_type::is_method_type;
-use crate::reading::layout_of;
+use crate::reading::whole_layout;
 use crate::text::is_text;
 use pv_value::Name;
 use std::alloc::Global;
 
+/// The bytes of the longest file that is read.
 const MAX_FILE: usize = 4194304;
 
+/// The major versions that are read.
+const OLDEST: u16 = 45;
+
+const NEWEST: u16 = 69;
+
+/// The bytes of the longest code of a method (JVMS 4.7.3).
+const MAX_CODE: usize = 65535;
+
+/// Whether an entry is well formed, and what it refers to is of the right kind.
 fn is_entry(pool: &Pool, entry: &Entry) -> bool
     ensures { IsTrue result ↔ IsEntry pool.now entry.now }
 {
@@ -26,12 +36,14 @@ fn is_entry(pool: &Pool, entry: &Entry) -> bool
     }
 }
 
-fn are_entries(pool: &Pool) -> bool
+/// Whether each entry of a pool is so.
+fn is_pool(pool: &Pool) -> bool
     ensures { IsTrue result ↔ AllByRecursion (IsEntry pool.now) pool.now }
 {
     pool.as_slice().iter().all(|entry| is_entry(pool, entry))
 }
 
+/// Whether the text under an index is `Code`.
 fn is_code(pool: &Pool, index: u16) -> bool
     ensures { IsTrue result ↔ (text_in pool.now index ≡ Some code_word) }
 {
@@ -41,25 +53,26 @@ fn is_code(pool: &Pool, index: u16) -> bool
     }
 }
 
+/// Whether the version, the pool and the references to classes are as they must be.
 fn is_sound(layout: &Layout) -> bool
     ensures { IsTrue result ↔ IsSound layout.now }
 {
     let pool = &layout.pool;
-    45 <= layout.major
-        && layout.major <= 69
-        && are_entries(pool)
+    OLDEST <= layout.major
+        && layout.major <= NEWEST
+        && is_pool(pool)
         && pool.has_class(layout.this_class)
         && (layout.super_class == 0 || pool.has_class(layout.super_class))
 }
 
-/// The method of these items. Its code has 1 to 65535 bytes (JVMS 4.7.3).
+/// The method of these items.
 fn method_of(alloc: Global, pool: &Pool, layout: MethodLayout) -> Result<Method, ClassFault>
     ensures { Finds (IsMethodOf pool.now layout) result }
 {
     let name = pool.text(layout.name).ok_or(ClassFault::NotBuilt)?;
     let desc = pool.text(layout.desc).ok_or(ClassFault::NotBuilt)?;
     let size = layout.code.bytes.bytes().len();
-    if !is_code(pool, layout.attribute) || size == 0 || size > 65535 {
+    if !is_code(pool, layout.attribute) || size == 0 || size > MAX_CODE {
         return Err(ClassFault::NotBuilt);
     }
     if !is_method_type(alloc, desc.bytes())? {
@@ -101,7 +114,7 @@ pub fn read_class(alloc: Global, bytes: &[u8]) -> Result<ClassFile, ClassFault>
     if bytes.len() > MAX_FILE {
         return Err(ClassFault::NotBuilt);
     }
-    let layout = layout_of(alloc, bytes)?;
+    let layout = whole_layout(alloc, bytes)?;
     file_of(alloc, layout)
 }
 

@@ -55,6 +55,7 @@ fn one_byte_changed(rt: HostRuntime) {
         (89, 1, false),
     ] {
         let mut bytes = BYTES;
+        assert!(rt; at < bytes.len());
         bytes[at] = byte;
         assert_eq!(rt; is_refused(&rt, &bytes), !read, "at {at}");
     }

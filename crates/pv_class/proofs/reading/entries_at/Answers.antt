@@ -1,7 +1,7 @@
 use Rattle.std.proofs.lemmas.Result.{err_from_is_err_and}
 use Rattle.pv_class.specs.Reading.{many_at, entry_at}
 use Rattle.pv_class.proofs.Loop.{goes_on, ends, is_done}
-use Rattle.pv_class.proofs.reading.entries_of.Goals as goal
+use Rattle.pv_class.proofs.reading.entries_at.Goals as goal
 
 pub returns-in_err-entry : goal.returns-in_err-entry
 returns-in_err-entry c =

@@ -14,3 +14,4 @@ pub mod SameMeanings
 pub mod WholeLines
 pub mod SaidLines
 pub mod Answering
+pub mod ReportOnce

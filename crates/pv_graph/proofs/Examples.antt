@@ -1,16 +1,20 @@
--- Worked examples: the graph of a method that returns 1.
-use Rattle.std.proofs.Common.{◌≡◌, List, [], ◌∷◌, pos, Some, None, refl}
+-- Worked examples: the graph of a method that returns 1, and sums over arguments.
+use Rattle.std.proofs.Common.{◌≡◌, List, [], ◌∷◌, pos, negsuc, Some, None, refl}
+use Rattle.std.specs.Int.{int_wrap}
+use Rattle.std.specs.FinMap.{empty}
 use Rattle.pv_value.specs.declared.world.World.{World}
 use Rattle.pv_value.specs.declared.outcome.Input.{Input}
 use Rattle.pv_value.specs.declared.outcome.Val.TheVariants as val
+use Rattle.pv_value.specs.declared.number.Num.{Num}
 use Rattle.pv_value.specs.declared.number.Num.TheVariants as num
+use Rattle.pv_value.specs.declared.operation.ScalarOp.TheVariants.{Iadd, Isub, Imul}
 use Rattle.pv_value.specs.declared.outcome.Outcome.TheVariants.{Returned}
 use Rattle.pv_graph.specs.declared.node.Op.TheVariants as op
 use Rattle.pv_graph.specs.declared.node.Node.{Node}
-use Rattle.pv_graph.specs.declared.node.OpSort.TheVariants.{T, F, I, N, H, R, A}
+use Rattle.pv_graph.specs.declared.node.OpSort.TheVariants.{T, F, I, L, N, H, R, A}
 use Rattle.pv_graph.specs.Nodes.{node_of}
 use Rattle.pv_graph.specs.Sorts.{sort_over}
-use Rattle.pv_graph.specs.Denote.{den, outside}
+use Rattle.pv_graph.specs.Denote.{param_of, den, outside}
 use Rattle.pv_graph.specs.Trees.{cut, over, none, first, unfold_at}
 
 abbrev one : List Node
@@ -63,3 +67,64 @@ null_sort = refl
 
 unit_over_kid : sort_over op.Unit (I ∷ []) ≡ None
 unit_over_kid = refl
+
+-- argument 0 plus 1, and the product of an int and null
+abbrev sums : List Node
+sums = node_of (op.Param 0 I) [] ∷ node_of (op.Int (pos 1)) [] ∷ node_of (op.Scalar Iadd) (0 ∷ 1 ∷ []) ∷ node_of op.Null [] ∷ node_of (op.Scalar Imul) (1 ∷ 3 ∷ []) ∷ []
+
+-- an input with these arguments
+abbrev given : List Num → Input
+given args = record { this = 1; args = args; heap = empty }
+
+-- 5 + 1 is 6
+sum_of_five : (w : World) → den sums w (given (num.Int (pos 5) ∷ [])) 2 2 outside ≡ Some (val.Num (num.Int (pos 6)))
+unfolding den int_wrap
+sum_of_five w = refl
+
+-- 2147483647 + 1 is -2147483648
+sum_of_greatest : (w : World) → den sums w (given (num.Int (pos 2147483647) ∷ [])) 2 2 outside ≡ Some (val.Num (num.Int (negsuc 2147483647)))
+unfolding den int_wrap
+sum_of_greatest w = refl
+
+-- one unit is too little: the operands have no value yet
+sum_waits : (w : World) (x : Input) → den sums w x 1 2 outside ≡ None
+unfolding den
+sum_waits w x = refl
+
+-- a product with null has no value
+wrong_operand : (w : World) (x : Input) → den sums w x 2 4 outside ≡ None
+unfolding den
+wrong_operand w x = refl
+
+-- an argument past the last reads 0, and so does one of another sort
+param_past_last : param_of (num.Int (pos 5) ∷ []) 1 I ≡ num.Int (pos 0)
+param_past_last = refl
+
+param_of_other_sort : param_of (num.Int (pos 5) ∷ []) 0 L ≡ num.Long (pos 0)
+param_of_other_sort = refl
+
+-- the last of a long, a reference and an int
+param_last : param_of (num.Long (pos 7) ∷ num.Ref 8 ∷ num.Int (pos 9) ∷ []) 2 I ≡ num.Int (pos 9)
+param_last = refl
+
+param_ref : param_of (num.Long (pos 7) ∷ num.Ref 8 ∷ num.Int (pos 9) ∷ []) 1 A ≡ num.Ref 8
+param_ref = refl
+
+param_sort_long : sort_over (op.Param 3 L) [] ≡ Some L
+param_sort_long = refl
+
+-- no argument is a count or a heap
+param_of_count : sort_over (op.Param 0 N) [] ≡ None
+param_of_count = refl
+
+param_over_kid : sort_over (op.Param 0 I) (I ∷ []) ≡ None
+param_over_kid = refl
+
+difference_over_ints : sort_over (op.Scalar Isub) (I ∷ I ∷ []) ≡ Some I
+difference_over_ints = refl
+
+difference_over_long : sort_over (op.Scalar Isub) (I ∷ L ∷ []) ≡ None
+difference_over_long = refl
+
+difference_of_one : sort_over (op.Scalar Isub) (I ∷ []) ≡ None
+difference_of_one = refl

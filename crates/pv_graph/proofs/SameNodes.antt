@@ -9,6 +9,12 @@ use Rattle.std.proofs.lemmas.Option.{slice_get-get_or, slice_get_within, get_or_
 use Rattle.std.proofs.lemmas.List.Quantifiers.{position-Some}
 use Rattle.std.proofs.lemmas.List.Sums.{fails_before_first}
 use Rattle.indexmap.specs.IndexMap.{insert_entry}
+use denote.Enum.Bare.{same_true}
+use Rattle.pv_value.specs.contracts.operation.ScalarOp.{the_type as a_scalar}
+use Rattle.pv_value.specs.contracts.operation.ScalarOpPartialEq.TheImpl.{eq-value as scalar_eq}
+use Rattle.pv_value.specs.declared.operation.ScalarOp.{ScalarOp}
+use Rattle.pv_graph.specs.contracts.node.OpSort.{the_type as a_sort}
+use Rattle.pv_graph.specs.contracts.node.OpSortPartialEq.TheImpl.{eq-value as sort_eq}
 use Rattle.pv_graph.specs.contracts.node.NodePartialEq.TheImpl.{eq-value as node_eq}
 use Rattle.pv_graph.specs.contracts.node.OpPartialEq.TheImpl.{eq-value as op_eq}
 use Rattle.pv_graph.specs.contracts.node.NodeEq.TheImpl.Laws.{laws-law}
@@ -18,19 +24,31 @@ use Rattle.pv_graph.specs.declared.node.Node.{Node}
 use Rattle.pv_graph.specs.declared.node.OpSort.{OpSort}
 use Rattle.pv_graph.specs.Nodes.{IsAbsent}
 
+and_parts : (a b : Bool) → (a && b) ≡ true → (a ≡ true) × (b ≡ true)
+and_parts true b e = (refl, e)
+and_parts false b e = absurd (cc)
+
+same_sorts : (s t : OpSort) → sort_eq.it s t ≡ true → s ≡ t
+same_sorts s t e = same_true a_sort tt s t e
+
+same_scalars : (a b : ScalarOp) → scalar_eq.it a b ≡ true → a ≡ b
+same_scalars a b e = same_true a_scalar tt a b e
+
 same_ops : (a b : Op) → op_eq.it a b ≡ true → a ≡ b
 same_ops (op.Int m) (op.Int n) e = ap op.Int ((Decides-int_eq m n).0 e)
 same_ops (op.Long m) (op.Long n) e = ap op.Long ((Decides-int_eq m n).0 e)
 same_ops op.Null op.Null e = refl
+same_ops (op.Param j s) (op.Param k t) e =
+    let parts = and_parts (j == k) (sort_eq.it s t) e in
+    let number : j ≡ k = (Decides-eqb j k).0 parts.0 in
+    let sort_ : s ≡ t = same_sorts s t parts.1 in
+    cc (number, sort_)
 same_ops op.Heap0 op.Heap0 e = refl
 same_ops op.Unit op.Unit e = refl
 same_ops op.Clear op.Clear e = refl
+same_ops (op.Scalar a) (op.Scalar b) e = ap op.Scalar (same_scalars a b e)
 same_ops op.Root op.Root e = refl
 same_ops a b e = absurd (cc)
-
-and_parts : (a b : Bool) → (a && b) ≡ true → (a ≡ true) × (b ≡ true)
-and_parts true b e = (refl, e)
-and_parts false b e = absurd (cc)
 
 pub same_nodes : (a b : Node) → node_eq.it a b ≡ true → a ≡ b
 same_nodes a b e =

@@ -1,5 +1,5 @@
 -- What a node of a graph means: its value in a world, at an input and an iteration of each loop, by so much fuel.
-use Rattle.std.specs.Prelude.{◌≡◌, ◌↔◌, ℕ, zero, suc, List, [], ◌∷◌, Option, Some, None, slice_get}
+use Rattle.std.specs.Prelude.{◌≡◌, ◌↔◌, ℕ, zero, suc, pos, List, [], ◌∷◌, Option, Some, None, slice_get}
 use Rattle.pv_value.specs.declared.world.World.{World}
 use Rattle.pv_value.specs.declared.outcome.Input.{Input}
 use Rattle.pv_value.specs.declared.outcome.Val.{Val}
@@ -10,8 +10,12 @@ use Rattle.pv_value.specs.declared.outcome.Fault.{Fault}
 use Rattle.pv_value.specs.declared.outcome.Fault.TheVariants as fault
 use Rattle.pv_value.specs.declared.outcome.Outcome.TheVariants.{Returned, Threw}
 use Rattle.pv_value.specs.declared.heap.Heap.{Heap}
+use Rattle.pv_value.specs.declared.operation.ScalarOp.{ScalarOp}
+use Rattle.pv_value.specs.Scalar.{scalar_of}
 use Rattle.pv_graph.specs.declared.node.Op.{Op}
 use Rattle.pv_graph.specs.declared.node.Op.TheVariants as op
+use Rattle.pv_graph.specs.declared.node.OpSort.{OpSort}
+use Rattle.pv_graph.specs.declared.node.OpSort.TheVariants.{I, L}
 use Rattle.pv_graph.specs.declared.node.Node.{Node}
 
 -- an iteration for each depth of a loop
@@ -31,14 +35,34 @@ abbrev pub values : (ℕ → Option Val) → List ℕ → Option (List Val)
 values kid [] = Some []
 values kid (k ∷ ks) = bind (kid k) (λ v. bind (values kid ks) (λ vs. Some (v ∷ vs)))
 
+-- the number where it is of this sort, else 0; of another sort than I and L a reference, else null
+abbrev pub number_of : OpSort → Option Num → Num
+number_of I (Some (num.Int n)) = num.Int n
+number_of I n = num.Int (pos 0)
+number_of L (Some (num.Long n)) = num.Long n
+number_of L n = num.Long (pos 0)
+number_of s (Some (num.Ref r)) = num.Ref r
+number_of s n = num.Ref 0
+
+-- argument j, counted from 0 without this, as a number of this sort
+abbrev pub param_of : List Num → ℕ → OpSort → Num
+param_of args j s = number_of s (slice_get args j)
+
+-- the value of a scalar operation over two ints
+abbrev pub scalar_value : ScalarOp → List Val → Option Val
+scalar_value o (val.Num (num.Int a) ∷ val.Num (num.Int b) ∷ []) = Some (val.Num (num.Int (scalar_of o a b)))
+scalar_value o vs = None
+
 -- the operations that need the values of all their kids
 abbrev pub strict : World → Input → Op → List Val → Option Val
 strict w x (op.Int c) [] = Some (val.Num (num.Int c))
 strict w x (op.Long c) [] = Some (val.Num (num.Long c))
 strict w x op.Null [] = Some (val.Num (num.Ref 0))
+strict w x (op.Param j s) [] = Some (val.Num (param_of x.args j s))
 strict w x op.Heap0 [] = Some (val.Heap x.heap)
 strict w x op.Unit [] = Some val.Unit
 strict w x op.Clear [] = Some (val.Fault fault.Clear)
+strict w x (op.Scalar o) vs = scalar_value o vs
 strict w x o vs = None
 
 abbrev pub unit_of : Val → Option (Unit {0})

@@ -1,8 +1,10 @@
 -- The sorts of operations over kids.
 use Rattle.std.specs.Prelude.{◌≡◌, ℕ, List, [], ◌∷◌, Option, Some, None, slice_get, length}
 use Rattle.std.specs.List.{AllZip}
+use Rattle.pv_value.specs.declared.operation.ScalarOp.{ScalarOp}
+use Rattle.pv_value.specs.declared.operation.ScalarOp.TheVariants.{Iadd, Isub, Imul}
 use Rattle.pv_graph.specs.declared.node.Op.{Op}
-use Rattle.pv_graph.specs.declared.node.Op.TheVariants.{Int, Long, Null, Heap0, Unit, Clear, Root}
+use Rattle.pv_graph.specs.declared.node.Op.TheVariants.{Int, Long, Null, Param, Heap0, Unit, Clear, Scalar, Root}
 use Rattle.pv_graph.specs.declared.node.OpSort.{OpSort}
 use Rattle.pv_graph.specs.declared.node.OpSort.TheVariants.{I, L, A, F, T, H, R}
 use Rattle.pv_graph.specs.declared.node.Node.{Node}
@@ -15,14 +17,34 @@ root_sort A = Some R
 root_sort T = Some R
 root_sort s = None
 
+-- an argument is an int, a long or a reference
+abbrev pub param_sort : OpSort → Option OpSort
+param_sort I = Some I
+param_sort L = Some L
+param_sort A = Some A
+param_sort s = None
+
+-- an int over two ints
+abbrev pub over_ints : List OpSort → Option OpSort
+over_ints (I ∷ I ∷ []) = Some I
+over_ints sorts = None
+
+-- what each scalar operation takes and gives
+abbrev pub scalar_sort : ScalarOp → List OpSort → Option OpSort
+scalar_sort Iadd sorts = over_ints sorts
+scalar_sort Isub sorts = over_ints sorts
+scalar_sort Imul sorts = over_ints sorts
+
 -- the sort of an operation's value over kids of these sorts, where they fit it
 abbrev pub sort_over : Op → List OpSort → Option OpSort
 sort_over (Int c) [] = Some I
 sort_over (Long c) [] = Some L
 sort_over Null [] = Some A
+sort_over (Param j s) [] = param_sort s
 sort_over Heap0 [] = Some H
 sort_over Unit [] = Some T
 sort_over Clear [] = Some F
+sort_over (Scalar o) sorts = scalar_sort o sorts
 sort_over Root (T ∷ F ∷ s ∷ H ∷ []) = root_sort s
 sort_over op sorts = None
 

@@ -3,13 +3,14 @@
 ghost use Rattle.std.specs.Prelude.{◌≡◌, ◌<◌, ◌↔◌, length, Some, slice_get, [], MatchOption, IsTrue, IfOk, IfErr, OnErr};
 ghost use Rattle.std.specs.List.{All};
 ghost use Rattle.pv_graph.specs.Nodes.{node_of, IsAbsent, IsGraph, Interned};
-ghost use Rattle.pv_graph.specs.Sorts.{root_sort, sort_over, HaveSorts, FitsOver};
+ghost use Rattle.pv_graph.specs.Sorts.{root_sort, param_sort, scalar_sort, sort_over, HaveSorts, FitsOver};
 ghost use Rattle.pv_graph.specs.Tables.{IsTable, IsNew};
 ghost use Rattle.std.specs.Map.{keys_of, values_of};
 
 use crate::fault::GraphFault;
 use crate::node::{Kids, Node, NodeId, Op, OpSort};
 use indexmap::IndexMap;
+use pv_value::ScalarOp;
 use std::alloc::{AllocError, Global};
 use std::marker::Model;
 
@@ -43,6 +44,28 @@ fn sort_of_root(value: OpSort) -> Option<OpSort>
     }
 }
 
+// The sort of an argument of this sort.
+fn sort_of_param(sort: OpSort) -> Option<OpSort>
+    ensures { result ≡ param_sort sort }
+{
+    match sort {
+        OpSort::I | OpSort::L | OpSort::A => Some(sort),
+        _ => None,
+    }
+}
+
+// The sort of a scalar operation over operands of these sorts.
+fn sort_of_scalar(op: ScalarOp, kids: &[OpSort]) -> Option<OpSort>
+    ensures { result ≡ scalar_sort op kids.now }
+{
+    match (op, kids) {
+        (ScalarOp::Iadd | ScalarOp::Isub | ScalarOp::Imul, [OpSort::I, OpSort::I]) => {
+            Some(OpSort::I)
+        }
+        _ => None,
+    }
+}
+
 // The sort of an operation over kids of these sorts.
 fn sort_of(op: Op, kids: &[OpSort]) -> Option<OpSort>
     ensures { result ≡ sort_over op kids.now }
@@ -51,9 +74,11 @@ fn sort_of(op: Op, kids: &[OpSort]) -> Option<OpSort>
         (Op::Int(_), []) => Some(OpSort::I),
         (Op::Long(_), []) => Some(OpSort::L),
         (Op::Null, []) => Some(OpSort::A),
+        (Op::Param(_, sort), []) => sort_of_param(sort),
         (Op::Heap0, []) => Some(OpSort::H),
         (Op::Unit, []) => Some(OpSort::T),
         (Op::Clear, []) => Some(OpSort::F),
+        (Op::Scalar(op), _) => sort_of_scalar(op, kids),
         (Op::Root, [OpSort::T, OpSort::F, value, OpSort::H]) => sort_of_root(*value),
         _ => None,
     }

@@ -6,7 +6,7 @@ ghost use Rattle.std.specs.Cmp.Rules.{comparing, hashing};
 ghost use Rattle.std.specs.Hash as fed;
 ghost use Rattle.std.proofs.Common.{rules};
 
-use pv_value::Memory;
+use pv_value::{Memory, ScalarOp};
 use std::alloc::Global;
 use std::hash::{Hash, Hasher};
 use std::marker::Model;
@@ -14,21 +14,25 @@ use std::marker::Model;
 /// The number of a node.
 pub type NodeId = u32;
 
-/// An operation. `Heap0` is the heap at the start, `Clear` the fault of a method that returns, and
-/// `Root` the end of a method over its token, fault, result and heap.
+/// An operation. `Param` is an argument of a sort, `I`, `L` or `A`: the first has number 0, and
+/// `this` has none. `Heap0` is the heap at the start, `Clear` the fault of a method that returns,
+/// `Scalar` an operation over its operands, and `Root` the end of a method over its token, fault,
+/// result and heap.
 #[derive(Clone, Copy, Debug, PartialEq, Eq, Hash)]
 pub enum Op {
     Int(i32),
     Long(i64),
     Null,
+    Param(u32, OpSort),
     Heap0,
     Unit,
     Clear,
+    Scalar(ScalarOp),
     Root,
 }
 
 /// The sort of a node's value: int, long, reference, count, fault, token, heap, root.
-#[derive(Clone, Copy, Debug, PartialEq, Eq)]
+#[derive(Clone, Copy, Debug, PartialEq, Eq, Hash)]
 pub enum OpSort {
     I,
     L,

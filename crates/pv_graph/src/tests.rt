@@ -1,4 +1,5 @@
-use crate::{Graph, GraphFault, NodeId, Op};
+use crate::{Graph, GraphFault, NodeId, Op, OpSort};
+use pv_value::ScalarOp;
 use std::alloc::Global;
 
 // A call with kids that the graph has; a kid that it lacks counts as of the wrong sort.
@@ -80,4 +81,59 @@ fn empty_graph(rt: HostRuntime) {
     let graph = Graph::new(rt.alloc());
     assert!(rt; graph.is_empty());
     assert_eq!(rt; graph.len(), 0);
+}
+
+#[test]
+fn sums_of_arguments(rt: HostRuntime) -> Result<(), GraphFault> {
+    let alloc = rt.alloc();
+    let mut graph = Graph::new(alloc);
+    assert_eq!(rt; add(&mut graph, alloc, Op::Param(0, OpSort::I), &[])?, 0);
+    assert_eq!(rt; add(&mut graph, alloc, Op::Param(1, OpSort::I), &[])?, 1);
+    assert_eq!(rt; add(&mut graph, alloc, Op::Param(1, OpSort::L), &[])?, 2);
+    assert_eq!(rt;
+        add(&mut graph, alloc, Op::Scalar(ScalarOp::Iadd), &[0, 1])?,
+        3
+    );
+    assert_eq!(rt;
+        add(&mut graph, alloc, Op::Scalar(ScalarOp::Imul), &[0, 1])?,
+        4
+    );
+    assert_eq!(rt;
+        add(&mut graph, alloc, Op::Scalar(ScalarOp::Iadd), &[1, 0])?,
+        5
+    );
+    assert_eq!(rt; add(&mut graph, alloc, Op::Param(1, OpSort::I), &[])?, 1);
+    assert_eq!(rt;
+        add(&mut graph, alloc, Op::Scalar(ScalarOp::Iadd), &[0, 1])?,
+        3
+    );
+    assert_eq!(rt;
+        add(&mut graph, alloc, Op::Scalar(ScalarOp::Isub), &[3, 4])?,
+        6
+    );
+    assert_eq!(rt; graph.len(), 7);
+    Ok(())
+}
+
+#[test]
+fn wrong_operands(rt: HostRuntime) -> Result<(), GraphFault> {
+    let alloc = rt.alloc();
+    let mut graph = Graph::new(alloc);
+    add(&mut graph, alloc, Op::Param(0, OpSort::I), &[])?;
+    add(&mut graph, alloc, Op::Param(1, OpSort::L), &[])?;
+    let refused: [&[NodeId]; 5] = [&[], &[0], &[0, 1], &[1, 1], &[0, 0, 0]];
+    for kids in refused {
+        assert_eq!(rt;
+            add(&mut graph, alloc, Op::Scalar(ScalarOp::Isub), kids),
+            Err(GraphFault::Sort)
+        );
+    }
+    for sort in [OpSort::N, OpSort::F, OpSort::T, OpSort::H, OpSort::R] {
+        assert_eq!(rt;
+            add(&mut graph, alloc, Op::Param(0, sort), &[]),
+            Err(GraphFault::Sort)
+        );
+    }
+    assert_eq!(rt; graph.len(), 2);
+    Ok(())
 }

@@ -6,3 +6,5 @@ pub mod Reading
 pub mod Once
 pub mod Inputs
 pub mod Worlds
+pub mod Scalar
+pub mod ScalarLaws

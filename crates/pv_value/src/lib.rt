@@ -1,4 +1,5 @@
-//! Values of the virtual machine: names, numbers, heaps, worlds, inputs and descriptors.
+//! Values of the virtual machine: names, numbers and the operations on them, heaps, worlds, inputs
+//! and descriptors.
 //!
 //! This is the lowest layer and stands on nothing. `specs/` holds what the values mean: a heap is a
 //! finite map from locations to numbers other than 0 (`Heaps`), a world is its five tables
@@ -6,6 +7,10 @@
 //! the grammar of JVMS 4.3 (`Descriptors`), by which a text is a descriptor of at most one type
 //! (`Once`). `Reading` is private to this crate. The layers above see a name as its bytes, a list
 //! of numbers or types as a list, a heap as its map and a world as its tables.
+//!
+//! `scalar` gives the value of an operation on numbers: the low bits of the exact value, in two's
+//! complement (`Scalar`). It is an operand again, and exact where the exact value is in the range
+//! (`ScalarLaws`).
 //!
 //! `read_field_type` and `read_descriptor` find the type of each text that the grammar has, and
 //! find none in any other, in a stack that doesn't grow with the text. The grammar sets no limit on
@@ -17,6 +22,7 @@ mod heap;
 mod memory;
 mod name;
 mod number;
+mod operation;
 mod outcome;
 #[cfg(test)]
 mod tests;
@@ -27,5 +33,6 @@ pub use heap::{Heap, Kind, Loc};
 pub use memory::Memory;
 pub use name::{Name, Sym};
 pub use number::{Num, Nums};
+pub use operation::{ScalarOp, scalar};
 pub use outcome::{Fault, Input, Outcome, Val};
 pub use world::{Booleans, Call, Calls, Homes, Lengths, Literals, World};

@@ -1,5 +1,6 @@
 use super::*;
 use crate::JType::{A, B, C, D, F, I, J, S, Z};
+use crate::ScalarOp::{Iadd, Imul, Isub};
 use std::test::Fail;
 
 #[test]
@@ -64,4 +65,30 @@ fn heaps(rt: HostRuntime) -> Result<(), Fail> {
     }
     assert_eq!(rt; heap.get(&Loc::Elem(Kind::Int, 8, 3)), i64::MAX);
     Ok(())
+}
+
+#[test]
+fn scalars(rt: HostRuntime) {
+    let table = [
+        (Iadd, 2147483647, 1, -2147483648),
+        (Iadd, -2147483648, -2147483648, 0),
+        (Iadd, 2147483647, 2147483647, -2),
+        (Iadd, -7, 9, 2),
+        (Isub, -2147483648, 1, 2147483647),
+        (Isub, 0, -2147483648, -2147483648),
+        (Isub, 7, 9, -2),
+        (Imul, 65536, 65536, 0),
+        (Imul, 46341, 46341, -2147479015),
+        (Imul, -2147483648, -1, -2147483648),
+        (Imul, 2147483647, 2147483647, 1),
+        (Imul, -6, 7, -42),
+    ];
+    for (op, a, b, value) in table {
+        assert_eq!(rt; int(op, a, b), value);
+    }
+}
+
+// The value of an operation on two ints.
+fn int(op: ScalarOp, a: i32, b: i32) -> i64 {
+    scalar(op, i64::from(a), i64::from(b))
 }

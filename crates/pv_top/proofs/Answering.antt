@@ -20,7 +20,7 @@ use Rattle.pv_top.specs.Verdicts.{IsVerdict}
 use Rattle.pv_top.specs.Lines.{bad_class, line_of, line_text, side_word}
 use Rattle.pv_top.specs.Report.{IsReport, Judged}
 use Rattle.pv_top.specs.Judging.{JudgesFetched}
-use Rattle.pv_top.specs.Run.{Holds, Says, SaidOf, Answered, AskedFor, IsLineOf, EndsWith, HaveOneMeaning, EachEquivalent}
+use Rattle.pv_top.specs.Run.{Holds, Puts, Says, SaidOf, Answered, AskedFor, IsLineOf, EndsWith, HaveOneMeaning, EachEquivalent}
 use Rattle.pv_top.specs.Fetching.{HoldsFetched}
 use Rattle.pv_top.proofs.SameMeanings.{same_meaning}
 use Rattle.pv_top.proofs.WholeLines.{IsWhole, no_line_of_nothing, line_of_front, first_or_later}
@@ -38,6 +38,15 @@ too_long None name limit r e h = let l = long_list limit in (l.0, tt, l.1)
 too_long (Some m) name limit r e h = subst (λ (x : Result (Vec ℕ) FileFault). FetchGives (Some m) name limit x) e h
 
 -- ---- the answer of a command that said something
+
+more_nothing : (o : Option (List ℕ)) → o ≡ more o []
+more_nothing None = refl
+more_nothing (Some xs) = ap Some (sym (append-nil xs))
+
+-- what is said was put, or had nothing in it
+as_put : (old new : Option (List ℕ)) (text : List ℕ) (meant result : Status) (rose : Type 0) → Says old new text meant result rose → Puts old new text meant result rose
+as_put old new [] meant result rose says = inl (says.0, says.1 ∙ more_nothing old)
+as_put old new (b ∷ text) meant result rose says = says
 
 pub said_of : (held : Option Stored) (a b : List ℕ) (first second : Fetched) (old new : Option (List ℕ)) (rose : Type 0) (text : List ℕ) (meant result : Status) → HoldsFetched held a first → HoldsFetched held b second → JudgesFetched first second text meant
     → Says old new text meant result rose → SaidOf held a b old new rose result
@@ -58,12 +67,12 @@ no_judged a b text s (inr e) h = subst (λ (x : Status). Judged a b text x) e h
 
 no_said : (held : Option Stored) (a b : List ℕ) (old new : Option (List ℕ)) (rose : Type 0) (result : Status) → (result ≡ status.ReadFault) ⊎ (result ≡ status.Memory) → SaidOf held a b old new rose result → ⊥
 no_said held a b old new rose result (inl e) said =
-    elim said.says [
+    elim (as_put old new said.text said.meant result rose said.says) [
       | inl s ↦ no_judged said.first said.second said.text said.meant (inl (sym s.0 ∙ e)) said.judged
       | inr s ↦ absurd (cc (e, s.0))
     ]
 no_said held a b old new rose result (inr e) said =
-    elim said.says [
+    elim (as_put old new said.text said.meant result rose said.says) [
       | inl s ↦ no_judged said.first said.second said.text said.meant (inr (sym s.0 ∙ e)) said.judged
       | inr s ↦ absurd (cc (e, s.0))
     ]
@@ -96,7 +105,7 @@ asked_both old mid new a b result p q =
 -- ---- each whole line that says `equivalent`
 
 -- what was taken is a front of what was said
-taken_front : (before taken text : List ℕ) (old new : Option (List ℕ)) (meant result : Status) (rose : Type 0) → old ≡ Some before → new ≡ Some (before ++ taken) → Says old new text meant result rose → (rest : List ℕ) × (text ≡ taken ++ rest)
+taken_front : (before taken text : List ℕ) (old new : Option (List ℕ)) (meant result : Status) (rose : Type 0) → old ≡ Some before → new ≡ Some (before ++ taken) → Puts old new text meant result rose → (rest : List ℕ) × (text ≡ taken ++ rest)
 taken_front before taken text old new meant result rose p q (inl s) =
     let grown : ◌≡◌ {A = Option (List ℕ)} (Some (before ++ taken)) (Some (before ++ text)) = sym q ∙ s.1 ∙ ap (λ (o : Option (List ℕ)). more o text) p in
     let same : taken ≡ text = append_cancel_left before taken text (cc grown) in
@@ -165,7 +174,7 @@ judged_line held a b first second text status.Memory line p q h l ends = absurd 
 
 said_line : (held : Option Stored) (a b : List ℕ) (old new : Option (List ℕ)) (rose : Type 0) (result : Status) → SaidOf held a b old new rose result → EachEquivalent held a b old new
 said_line held a b old new rose result said before taken line p q l ends =
-    let front = taken_front before taken said.text old new said.meant result rose p q said.says in
+    let front = taken_front before taken said.text old new said.meant result rose p q (as_put old new said.text said.meant result rose said.says) in
     judged_line held a b said.first said.second said.text said.meant line said.first_held said.second_held said.judged (line_of_front said.text taken front.0 line front.1 l) ends
 
 nothing_taken : (old new : Option (List ℕ)) (before taken : List ℕ) → new ≡ old → old ≡ Some before → new ≡ Some (before ++ taken) → taken ≡ []

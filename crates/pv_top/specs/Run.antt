@@ -23,8 +23,13 @@ Holds None name bytes = Unit {0}
 Holds (Some m) name bytes = get m name ≡ Some bytes
 
 -- the text was taken, and the status goes with it; or the sink failed, and took a front of the text
+abbrev pub Puts : Option (List ℕ) → Option (List ℕ) → List ℕ → Status → Status → Type 0 → Type 0
+Puts old new text meant result rose = ((result ≡ meant) × (new ≡ more old text)) ⊎ ((result ≡ status.WriteFault) × rose × ((n : ℕ) × (new ≡ more old (take n text))))
+
+-- an empty text is not put, so that nothing of it can fail
 abbrev pub Says : Option (List ℕ) → Option (List ℕ) → List ℕ → Status → Status → Type 0 → Type 0
-Says old new text meant result rose = ((result ≡ meant) × (new ≡ more old text)) ⊎ ((result ≡ status.WriteFault) × rose × ((n : ℕ) × (new ≡ more old (take n text))))
+Says old new [] meant result rose = (result ≡ meant) × (new ≡ old)
+Says old new (b ∷ text) meant result rose = Puts old new (b ∷ text) meant result rose
 
 -- what is said of the bytes that the store had under the two names was said
 pub record SaidOf (held : Option Stored) (a b : List ℕ) (old new : Option (List ℕ)) (write_rose : Type 0) (result : Status) : Type 0 where

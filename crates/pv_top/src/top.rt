@@ -89,10 +89,13 @@ fn fetched<F: Files>(alloc: Global, name: &str, files: &mut F) -> Result<Fetched
     }
 }
 
-// Puts a text, and answers the status that goes with it.
+// Says a text, where there is one, and answers the status that goes with it.
 fn say<K: Sink>(out: &mut K, text: &[u8], status: Status) -> Status
     ensures { Says (K.sent out.old) (K.sent out.new) text.now status result (Rose (K.faults out.old) (K.faults out.new)) }
 {
+    if text.is_empty() {
+        return status;
+    }
     match out.put(text) {
         Ok(()) => status,
         Err(_) => Status::WriteFault,

@@ -1,9 +1,8 @@
 -- What is said of two files that both have a reading.
-use Rattle.std.proofs.Common.{◌≡◌, ℕ, List, Result, Ok, Err, Some}
+use Rattle.std.proofs.Common.{ℕ, List, Result, Ok, Err, Some}
 use Rattle.std.specs.Prelude.{IfOk}
 use Rattle.std.specs.Global.{Vec}
 use Rattle.pv_value.specs.declared.memory.Memory.{Memory}
-use Rattle.pv_class.specs.declared.file.Method.{Method}
 use Rattle.pv_class.specs.declared.file.ClassFile.{ClassFile}
 use Rattle.pv_class.specs.ClassFiles.{IsClass}
 use Rattle.pv_top.specs.declared.report.Fetched.{Fetched}
@@ -11,7 +10,7 @@ use Rattle.pv_top.specs.declared.status.Status.{Status}
 use Rattle.pv_top.specs.declared.status.Status.TheVariants as status
 use Rattle.pv_top.specs.declared.verdict.Verdict.{Verdict}
 use Rattle.pv_top.specs.Report.{IsReport, Judged}
-use Rattle.pv_top.specs.Judging.{IsFetched, ReadsFetched, JudgesFetched, Told, Compares}
+use Rattle.pv_top.specs.Judging.{ReadsFetched, JudgesFetched, Told, Compares}
 
 report_of : (a b : List ℕ) (one two : ClassFile) (verdicts : List Verdict) (text : List ℕ) → IsClass a one → IsClass b two → Told one.methods two.methods verdicts text → IsReport a b verdicts text
 report_of a b one two verdicts text p q t = record { first = one; second = two; first_is = p; second_is = q; each = t.each; text_is = t.text_is }

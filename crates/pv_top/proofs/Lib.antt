@@ -9,3 +9,9 @@ pub mod SameRoots
 pub mod Shown
 pub mod SoFar
 pub mod Judgements
+pub mod Commands
+pub mod SameMeanings
+pub mod WholeLines
+pub mod SaidLines
+pub mod Answering
+pub mod ReportOnce

@@ -1,5 +1,5 @@
 -- Looking for the partner of a method.
-use Rattle.std.proofs.Common.{◌≡◌, ℕ, ◌+◌, ◌<◌, List, length, get_or, sym, subst, ◌∙◌, ap}
+use Rattle.std.proofs.Common.{ℕ, ◌+◌, ◌<◌, List, length, get_or, sym, subst}
 use borrow.Author.Count.{below_more}
 use Rattle.pv_class.specs.declared.file.Method.{Method}
 use Rattle.pv_top.specs.Verdicts.{IsLike, IsPartner}

@@ -1,11 +1,10 @@
 -- Two roots in one graph are one node exactly where their trees are equal.
-use Rattle.std.proofs.Common.{◌≡◌, ℕ, ℤ, List, sym, ap, subst, refl, ◌∙◌, arith}
+use Rattle.std.proofs.Common.{◌≡◌, ℕ, List, sym, ap, subst, refl, ◌∙◌, arith}
 use Rattle.pv_class.specs.declared.file.Method.{Method}
 use Rattle.pv_graph.specs.declared.node.Node.{Node}
-use Rattle.pv_graph.specs.declared.node.Op.TheVariants.{Int}
 use Rattle.pv_graph.specs.Trees.{Tree, unfold_at}
 use Rattle.pv_graph.specs.TreeLaws.{one_tree}
-use Rattle.pv_top.specs.Roots.{HasTree, IsRootOf, cut_at, leaf, returning}
+use Rattle.pv_top.specs.Roots.{HasTree, IsRootOf, cut_at}
 use Rattle.pv_top.specs.Conversion.{Grows}
 
 -- a tree of a method goes no deeper than two operations

@@ -5,6 +5,8 @@ pub mod Roots
 pub mod Verdicts
 pub mod Lines
 pub mod Report
+pub mod Commands
 pub mod Judging
 pub mod Run
+pub mod Fetching
 pub mod Conversion

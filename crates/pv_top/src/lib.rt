@@ -12,8 +12,14 @@ mod conversion;
 mod line;
 mod report;
 mod status;
+mod top;
 mod verdict;
+mod words;
 
 pub use cause::{Cause, CauseKind, Refused};
 pub use status::Status;
+pub use top::run;
 pub use verdict::{Side, Verdict};
+
+#[cfg(test)]
+mod tests;

@@ -1,7 +1,5 @@
 use Rattle.std.proofs.Common.{List, ℕ, ◌≡◌, sym, subst, ◌∙◌}
-use Rattle.pv_class.specs.declared.file.ClassFile.{ClassFile}
 use Rattle.pv_class.specs.ClassFiles.{IsClass}
-use Rattle.pv_top.specs.Judging.{IsFetched}
 use Rattle.pv_top.proofs.report.class_of.Goals as goal
 
 pub returns-in-Err-NotBuilt : goal.returns-in-Err-NotBuilt

@@ -1,4 +1,3 @@
-use Rattle.std.proofs.Common.{◌≡◌}
 use Rattle.pv_top.proofs.SameRoots.{same_root, apart_roots}
 use Rattle.pv_top.proofs.verdict.verdict_with.Goals as goal
 

@@ -1,0 +1,188 @@
+-- What the top call answers, from what was fetched and said.
+use Rattle.std.proofs.Common.{◌≡◌, ◌⊎◌, ℕ, zero, suc, ◌<◌, List, [], ◌∷◌, ◌++◌, length, take, drop, Option, Some, None, inl, inr, refl, sym, ap, subst, ◌∙◌, arith, Err, Result}
+use Rattle.std.specs.Prelude.{codes}
+use Rattle.std.specs.Global.{Vec}
+use Rattle.std.proofs.lemmas.List.{append_cancel_left, append-nil, take-append-drop}
+use Rattle.pv_base.specs.Stored.{Stored}
+use Rattle.pv_base.specs.Outside.{FetchGives, more, more_more}
+use Rattle.pv_base.specs.declared.outside.Asked.{Asked}
+use Rattle.pv_base.specs.declared.outside.Asked.TheVariants.{Fetch}
+use Rattle.pv_base.specs.declared.outside.FileFault.{FileFault}
+use Rattle.pv_base.specs.declared.outside.FileFault.TheVariants as file
+use Rattle.pv_top.specs.declared.report.Fetched.{Fetched}
+use Rattle.pv_top.specs.declared.status.Status.{Status}
+use Rattle.pv_top.specs.declared.status.Status.TheVariants as status
+use Rattle.pv_top.specs.declared.verdict.Side.{Side}
+use Rattle.pv_top.specs.declared.verdict.Side.TheVariants as side
+use Rattle.pv_top.specs.declared.verdict.Verdict.{Verdict}
+use Rattle.pv_top.specs.declared.verdict.Verdict.TheVariants.{Equivalent}
+use Rattle.pv_top.specs.Verdicts.{IsVerdict}
+use Rattle.pv_top.specs.Lines.{bad_class, line_of, line_text, side_word}
+use Rattle.pv_top.specs.Report.{IsReport, Judged}
+use Rattle.pv_top.specs.Judging.{JudgesFetched}
+use Rattle.pv_top.specs.Run.{Holds, Says, SaidOf, Answered, AskedFor, IsLineOf, EndsWith, HaveOneMeaning, EachEquivalent}
+use Rattle.pv_top.specs.Fetching.{HoldsFetched}
+use Rattle.pv_top.proofs.SameMeanings.{same_meaning}
+use Rattle.pv_top.proofs.WholeLines.{IsWhole, no_line_of_nothing, line_of_front, first_or_later}
+use Rattle.pv_top.proofs.SaidLines.{tested, differ, last_two, line_of_method, only_equivalent}
+
+-- ---- what was fetched
+
+long_list : (n : ℕ) → (bytes : List ℕ) × (n < length bytes)
+long_list zero = (0 ∷ [], omega arith)
+long_list (suc n) = let l = long_list n in (0 ∷ l.0, omega (arith, l.1))
+
+-- a file that is too long has bytes, where the store tells them, and may have any else
+pub too_long : (held : Option Stored) (name : List ℕ) (limit : ℕ) (r : Result (Vec ℕ) FileFault) → r ≡ Err file.TooLong → FetchGives held name limit r → (bytes : List ℕ) × Holds held name bytes × (limit < length bytes)
+too_long None name limit r e h = let l = long_list limit in (l.0, tt, l.1)
+too_long (Some m) name limit r e h = subst (λ (x : Result (Vec ℕ) FileFault). FetchGives (Some m) name limit x) e h
+
+-- ---- the answer of a command that said something
+
+pub said_of : (held : Option Stored) (a b : List ℕ) (first second : Fetched) (old new : Option (List ℕ)) (rose : Type 0) (text : List ℕ) (meant result : Status) → HoldsFetched held a first → HoldsFetched held b second → JudgesFetched first second text meant
+    → Says old new text meant result rose → SaidOf held a b old new rose result
+said_of held a b first second old new rose text meant result p q judged says = record {
+  first = p.0;
+  second = q.0;
+  first_held = p.1;
+  second_held = q.1;
+  text = text;
+  meant = meant;
+  judged = judged p.0 q.0 p.2 q.2;
+  says = says;
+}
+
+no_judged : (a b text : List ℕ) (s : Status) → (s ≡ status.ReadFault) ⊎ (s ≡ status.Memory) → Judged a b text s → ⊥
+no_judged a b text s (inl e) h = subst (λ (x : Status). Judged a b text x) e h
+no_judged a b text s (inr e) h = subst (λ (x : Status). Judged a b text x) e h
+
+no_said : (held : Option Stored) (a b : List ℕ) (old new : Option (List ℕ)) (rose : Type 0) (result : Status) → (result ≡ status.ReadFault) ⊎ (result ≡ status.Memory) → SaidOf held a b old new rose result → ⊥
+no_said held a b old new rose result (inl e) said =
+    elim said.says [
+      | inl s ↦ no_judged said.first said.second said.text said.meant (inl (sym s.0 ∙ e)) said.judged
+      | inr s ↦ absurd (cc (e, s.0))
+    ]
+no_said held a b old new rose result (inr e) said =
+    elim said.says [
+      | inl s ↦ no_judged said.first said.second said.text said.meant (inr (sym s.0 ∙ e)) said.judged
+      | inr s ↦ absurd (cc (e, s.0))
+    ]
+
+pub answered_said : (held : Option Stored) (a b : List ℕ) (old new : Option (List ℕ)) (read_rose write_rose : Type 0) (result : Status) → SaidOf held a b old new write_rose result → Answered held a b old new read_rose write_rose result
+answered_said held a b old new read_rose write_rose status.ReadFault said = absurd (no_said held a b old new write_rose status.ReadFault (inl refl) said)
+answered_said held a b old new read_rose write_rose status.Memory said = absurd (no_said held a b old new write_rose status.Memory (inr refl) said)
+answered_said held a b old new read_rose write_rose status.AllEquivalent said = said
+answered_said held a b old new read_rose write_rose status.Others said = said
+answered_said held a b old new read_rose write_rose status.BadClass said = said
+answered_said held a b old new read_rose write_rose status.BadCert said = said
+answered_said held a b old new read_rose write_rose status.BadWords said = said
+answered_said held a b old new read_rose write_rose status.WriteFault said = said
+
+pub asked_both : (old mid new : Option (List Asked)) (a b : List ℕ) (result : Status) → mid ≡ more old (Fetch a ∷ []) → new ≡ more mid (Fetch b ∷ []) → AskedFor old new a b result
+asked_both old mid new a b result p q =
+    let both : new ≡ more old (Fetch a ∷ Fetch b ∷ []) = q ∙ ap (λ (o : Option (List Asked)). more o (Fetch b ∷ [])) p ∙ more_more old (Fetch a ∷ []) (Fetch b ∷ []) in
+    asked_all old new a b result both
+  where
+    asked_all : (old new : Option (List Asked)) (a b : List ℕ) (result : Status) → new ≡ more old (Fetch a ∷ Fetch b ∷ []) → AskedFor old new a b result
+    asked_all old new a b status.AllEquivalent e = e
+    asked_all old new a b status.Others e = e
+    asked_all old new a b status.BadClass e = e
+    asked_all old new a b status.BadCert e = e
+    asked_all old new a b status.BadWords e = e
+    asked_all old new a b status.ReadFault e = inr e
+    asked_all old new a b status.WriteFault e = e
+    asked_all old new a b status.Memory e = inr (inr e)
+
+-- ---- each whole line that says `equivalent`
+
+-- what was taken is a front of what was said
+taken_front : (before taken text : List ℕ) (old new : Option (List ℕ)) (meant result : Status) (rose : Type 0) → old ≡ Some before → new ≡ Some (before ++ taken) → Says old new text meant result rose → (rest : List ℕ) × (text ≡ taken ++ rest)
+taken_front before taken text old new meant result rose p q (inl s) =
+    let grown : ◌≡◌ {A = Option (List ℕ)} (Some (before ++ taken)) (Some (before ++ text)) = sym q ∙ s.1 ∙ ap (λ (o : Option (List ℕ)). more o text) p in
+    let same : taken ≡ text = append_cancel_left before taken text (cc grown) in
+    ([], sym (append-nil taken ∙ same))
+taken_front before taken text old new meant result rose p q (inr s) =
+    let n = s.2.0 in
+    let grown : ◌≡◌ {A = Option (List ℕ)} (Some (before ++ taken)) (Some (before ++ take n text)) = sym q ∙ s.2.1 ∙ ap (λ (o : Option (List ℕ)). more o (take n text)) p in
+    let same : taken ≡ take n text = append_cancel_left before taken (take n text) (cc grown) in
+    (drop n text, sym (take-append-drop n text) ∙ ap (λ (t : List ℕ). t ++ drop n text) (sym same))
+
+report_line : (held : Option Stored) (a b first second text : List ℕ) (verdicts : List Verdict) (line : List ℕ) → Holds held a first → Holds held b second → IsReport first second verdicts text → IsLineOf text line → EndsWith line (codes " equivalent") → HaveOneMeaning held a b line
+report_line held a b first second text verdicts line p q r l ends =
+    let found = line_of_method r.first.methods r.second.methods verdicts line r.each (subst (λ (t : List ℕ). IsLineOf t line) r.text_is l) in
+    let is = only_equivalent found.method r.second.methods found.verdict line found.is found.says ends in
+    let equal : IsVerdict found.method r.second.methods Equivalent = subst (λ (v : Verdict). IsVerdict found.method r.second.methods v) is found.is in
+    record {
+      first = first;
+      second = second;
+      first_held = p;
+      second_held = q;
+      first_file = r.first;
+      second_file = r.second;
+      first_is = r.first_is;
+      second_is = r.second_is;
+      method = found.method;
+      among = found.among;
+      partner = equal.0;
+      partner_is = equal.1;
+      says = found.says ∙ ap (line_of found.method) is;
+      same = same_meaning found.method equal.0 equal.2.0 equal.2.1 equal.2.2;
+    }
+
+-- what is said of a file without a reading
+abbrev bad_class_words : Side → List ℕ
+bad_class_words s = (codes "bad class " ++ side_word s) ++ codes " not-built at 0"
+
+bad_class_text : (s : Side) → bad_class s ≡ line_text (bad_class_words s)
+bad_class_text side.First = refl
+bad_class_text side.Second = refl
+
+whole_bad_class : (s : Side) → IsWhole (bad_class_words s)
+whole_bad_class side.First = tested (bad_class_words side.First) refl
+whole_bad_class side.Second = tested (bad_class_words side.Second) refl
+
+bad_class_line : (s : Side) (text line : List ℕ) → text ≡ bad_class s → IsLineOf text line → EndsWith line (codes " equivalent") → ⊥
+bad_class_line s text line e l ends =
+    let parts : IsLineOf (line_text (bad_class_words s) ++ []) line = subst (λ (t : List ℕ). IsLineOf t line) (e ∙ bad_class_text s ∙ sym (append-nil (line_text (bad_class_words s)))) l in
+    elim (first_or_later (bad_class_words s) [] line (whole_bad_class s) parts) [
+      | inl is ↦ differ 48 116 refl (last_two line ends.0 (codes "bad class " ++ side_word s) (codes " not-built at") 32 48 is ends.1).1
+      | inr rest ↦ no_line_of_nothing line rest
+    ]
+
+judged_line : (held : Option Stored) (a b first second text : List ℕ) (s : Status) (line : List ℕ) → Holds held a first → Holds held b second → Judged first second text s → IsLineOf text line → EndsWith line (codes " equivalent") → HaveOneMeaning held a b line
+judged_line held a b first second text status.AllEquivalent line p q h l ends = report_line held a b first second text h.0 line p q h.1 l ends
+judged_line held a b first second text status.Others line p q h l ends = report_line held a b first second text h.0 line p q h.1 l ends
+judged_line held a b first second text status.BadClass line p q h l ends =
+    elim h [
+      | inl x ↦ absurd (bad_class_line side.First text line x.1 l ends)
+      | inr x ↦ absurd (bad_class_line side.Second text line x.2 l ends)
+    ]
+judged_line held a b first second text status.BadCert line p q h l ends = absurd h
+judged_line held a b first second text status.BadWords line p q h l ends = absurd h
+judged_line held a b first second text status.ReadFault line p q h l ends = absurd h
+judged_line held a b first second text status.WriteFault line p q h l ends = absurd h
+judged_line held a b first second text status.Memory line p q h l ends = absurd h
+
+said_line : (held : Option Stored) (a b : List ℕ) (old new : Option (List ℕ)) (rose : Type 0) (result : Status) → SaidOf held a b old new rose result → EachEquivalent held a b old new
+said_line held a b old new rose result said before taken line p q l ends =
+    let front = taken_front before taken said.text old new said.meant result rose p q said.says in
+    judged_line held a b said.first said.second said.text said.meant line said.first_held said.second_held said.judged (line_of_front said.text taken front.0 line front.1 l) ends
+
+nothing_taken : (old new : Option (List ℕ)) (before taken : List ℕ) → new ≡ old → old ≡ Some before → new ≡ Some (before ++ taken) → taken ≡ []
+nothing_taken old new before taken e p q =
+    let same : ◌≡◌ {A = Option (List ℕ)} (Some (before ++ taken)) (Some (before ++ [])) = sym q ∙ e ∙ p ∙ ap Some (sym (append-nil before)) in
+    append_cancel_left before taken [] (cc same)
+
+silent : (held : Option Stored) (a b : List ℕ) (old new : Option (List ℕ)) → new ≡ old → EachEquivalent held a b old new
+silent held a b old new e before taken line p q l ends = absurd (no_line_of_nothing line (subst (λ (t : List ℕ). IsLineOf t line) (nothing_taken old new before taken e p q) l))
+
+-- so it is under every answer
+pub each_equivalent : (held : Option Stored) (a b : List ℕ) (old new : Option (List ℕ)) (read_rose write_rose : Type 0) (result : Status) → Answered held a b old new read_rose write_rose result → EachEquivalent held a b old new
+each_equivalent held a b old new read_rose write_rose status.ReadFault h = silent held a b old new h.1
+each_equivalent held a b old new read_rose write_rose status.Memory h = silent held a b old new h
+each_equivalent held a b old new read_rose write_rose status.AllEquivalent h = said_line held a b old new write_rose status.AllEquivalent h
+each_equivalent held a b old new read_rose write_rose status.Others h = said_line held a b old new write_rose status.Others h
+each_equivalent held a b old new read_rose write_rose status.BadClass h = said_line held a b old new write_rose status.BadClass h
+each_equivalent held a b old new read_rose write_rose status.BadCert h = said_line held a b old new write_rose status.BadCert h
+each_equivalent held a b old new read_rose write_rose status.BadWords h = said_line held a b old new write_rose status.BadWords h
+each_equivalent held a b old new read_rose write_rose status.WriteFault h = said_line held a b old new write_rose status.WriteFault h

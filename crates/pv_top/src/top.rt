@@ -1,0 +1,100 @@
+//! The top call.
+
+ghost use Rattle.std.specs.Prelude.{◌≡◌, ◌≤◌, IfOk, IfErr, List, ℕ};
+ghost use Rattle.pv_base.specs.Outside.{Rose};
+ghost use Rattle.pv_base.specs.declared.outside.Asked.TheVariants.{Fetch};
+ghost use Rattle.pv_top.specs.Words.{IsValidate, IsNoCommand};
+ghost use Rattle.pv_top.specs.Lines.{bad_words};
+ghost use Rattle.pv_top.specs.Run.{Answered, AskedFor, EachEquivalent, Says};
+ghost use Rattle.pv_top.specs.Fetching.{Asks, HoldsFetched, ReadFailed};
+
+use crate::report::{Fetched, judge};
+use crate::status::Status;
+use crate::words::{Command, read_words};
+use pv_base::{FileFault, Files, Gate, Sink};
+use std::alloc::Global;
+use std::thread::Threads;
+
+const MAX_CLASS: usize = 4194304;
+
+/// Does what the words of a command line say, and answers how that went.
+///
+/// `words` are the words after the program's name. `validate A B` fetches the class files A and B
+/// and says, in a line for each method of A, whether its partner in B has the same meaning.
+pub fn run<R: Threads + Sync, F: Files, K: Sink, G: Gate>(
+    _rt: &R,
+    alloc: Global,
+    words: &[&str],
+    files: &mut F,
+    out: &mut K,
+    _gate: &G,
+) -> Status
+    // Whatever else happened, each whole line `.. equivalent` that the sink took is true.
+    ensures equivalent { (a b : List ℕ) → IsValidate words.now a b → EachEquivalent (F.held files.old) a b (K.sent out.old) (K.sent out.new) }
+
+    // What is said, and with which status.
+    ensures answered { (a b : List ℕ) → IsValidate words.now a b → Answered (F.held files.old) a b (K.sent out.old) (K.sent out.new) (Rose (F.faults files.old) (F.faults files.new)) (Rose (K.faults out.old) (K.faults out.new)) result }
+    ensures bad_words { IsNoCommand words.now → Says (K.sent out.old) (K.sent out.new) bad_words Status.BadWords result (Rose (K.faults out.old) (K.faults out.new)) }
+
+    // What is asked of the files, and what they hold afterwards.
+    ensures asked { (a b : List ℕ) → IsValidate words.now a b → AskedFor (F.asked files.old) (F.asked files.new) a b result }
+    ensures none_asked { IsNoCommand words.now → F.asked files.new ≡ F.asked files.old }
+    ensures held { F.held files.new ≡ F.held files.old }
+{
+    match read_words(words) {
+        Some(Command::Validate { first, second }) => validate(alloc, first, second, files, out),
+        None => say(out, b"bad words\n", Status::BadWords),
+    }
+}
+
+// Fetches both files, and says what there is to say of them.
+fn validate<F: Files, K: Sink>(
+    alloc: Global,
+    a: &str,
+    b: &str,
+    files: &mut F,
+    out: &mut K,
+) -> Status
+    ensures answered { Answered (F.held files.old) a.now b.now (K.sent out.old) (K.sent out.new) (Rose (F.faults files.old) (F.faults files.new)) (Rose (K.faults out.old) (K.faults out.new)) result }
+    ensures asked { AskedFor (F.asked files.old) (F.asked files.new) a.now b.now result }
+    ensures held { F.held files.new ≡ F.held files.old }
+{
+    let first = match fetched(alloc, a, files) {
+        Ok(first) => first,
+        Err(status) => return status,
+    };
+    let second = match fetched(alloc, b, files) {
+        Ok(second) => second,
+        Err(status) => return status,
+    };
+    match judge(alloc, &first, &second) {
+        Ok((text, status)) => say(out, &text, status),
+        Err(_) => Status::Memory,
+    }
+}
+
+// What is under a name.
+fn fetched<F: Files>(alloc: Global, name: &str, files: &mut F) -> Result<Fetched, Status>
+    ensures content { IfOk result (λ fetched. HoldsFetched (F.held files.old) name.now fetched) }
+    ensures fault { IfErr result (λ status. ReadFailed status (Rose (F.faults files.old) (F.faults files.new))) }
+    ensures later { F.faults files.old ≤ F.faults files.new }
+    ensures asked { Asks (F.asked files.old) (F.asked files.new) (Fetch name.now) result }
+    ensures held { F.held files.new ≡ F.held files.old }
+{
+    match files.fetch(alloc, name, MAX_CLASS) {
+        Ok(bytes) => Ok(Fetched::Bytes(bytes)),
+        Err(FileFault::TooLong) => Ok(Fetched::TooLong),
+        Err(FileFault::Failed) => Err(Status::ReadFault),
+        Err(FileFault::Memory) => Err(Status::Memory),
+    }
+}
+
+// Puts a text, and answers the status that goes with it.
+fn say<K: Sink>(out: &mut K, text: &[u8], status: Status) -> Status
+    ensures { Says (K.sent out.old) (K.sent out.new) text.now status result (Rose (K.faults out.old) (K.faults out.new)) }
+{
+    match out.put(text) {
+        Ok(()) => status,
+        Err(_) => Status::WriteFault,
+    }
+}

@@ -1,0 +1,39 @@
+//! The words of the command line.
+
+ghost use Rattle.std.specs.Prelude.{◌≡◌, ◌↔◌, IsTrue};
+ghost use Rattle.pv_top.specs.Words.{IsFileName};
+ghost use Rattle.pv_top.specs.Commands.{IsCommand};
+
+/// A command, by its words.
+#[derive(Clone, Copy, Debug)]
+pub enum Command<'a> {
+    /// Compare two class files.
+    Validate { first: &'a str, second: &'a str },
+}
+
+/// The command that the words are, None where they are none.
+pub fn read_words<'a>(words: &[&'a str]) -> Option<Command<'a>>
+    ensures { IsCommand words.now result }
+{
+    match words {
+        [command, first, second] => {
+            let (command, first, second): (&str, &str, &str) = (*command, *first, *second);
+            if command == "validate" && is_file_name(first) && is_file_name(second) {
+                Some(Command::Validate { first, second })
+            } else {
+                None
+            }
+        }
+        _ => None,
+    }
+}
+
+// Whether a word is the name of a file: it isn't empty and doesn't begin with `-`.
+fn is_file_name(word: &str) -> bool
+    ensures { IsTrue result ↔ IsFileName word.now }
+{
+    match word.as_bytes() {
+        [] => false,
+        [first, ..] => *first != b'-',
+    }
+}

@@ -48,7 +48,7 @@ same_ops op.Unit op.Unit e = refl
 same_ops op.Clear op.Clear e = refl
 same_ops (op.Scalar a) (op.Scalar b) e = ap op.Scalar (same_scalars a b e)
 same_ops op.Root op.Root e = refl
-same_ops a b e = absurd (cc)
+same_ops a b e = absurd (true≢false (sym e))
 
 pub same_nodes : (a b : Node) → node_eq.it a b ≡ true → a ≡ b
 same_nodes a b e =

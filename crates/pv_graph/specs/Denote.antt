@@ -35,7 +35,7 @@ abbrev pub values : (ℕ → Option Val) → List ℕ → Option (List Val)
 values kid [] = Some []
 values kid (k ∷ ks) = bind (kid k) (λ v. bind (values kid ks) (λ vs. Some (v ∷ vs)))
 
--- the number where it is of this sort, else 0; of another sort than I and L a reference, else null
+-- the number where it is of this sort, else 0 or null; no argument is of another sort than I, L or A, so the rest is as A
 abbrev pub number_of : OpSort → Option Num → Num
 number_of I (Some (num.Int n)) = num.Int n
 number_of I n = num.Int (pos 0)

@@ -3,7 +3,9 @@
 //! This layer stands on `pv_value`. A graph is a list of nodes, each an operation over kids, which
 //! are numbers of nodes. `specs/` says which sorts fit (`Sorts`), what every graph is and what it is
 //! to number a node (`Nodes`), what a node means in a world, at an input and an iteration of the
-//! loops around it (`Denote`), and what the tree under a node is (`Trees`).
+//! loops around it (`Denote`), and what the tree under a node is (`Trees`). An argument that an input
+//! lacks, or has of another sort, reads 0 or null. A scalar operation has the value that `pv_value`
+//! gives it.
 //!
 //! `Graph::add` gives the least number of a node with an operation and kids, which it finds through a
 //! hashed table, and adds one behind the others where there is none. The layers above use its

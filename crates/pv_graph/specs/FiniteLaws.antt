@@ -1,5 +1,6 @@
 -- From nodes to finite trees, and from finite trees to values.
-use Rattle.std.specs.Prelude.{◌≡◌, ◌↔◌, ℕ, zero, suc, ◌+◌, ◌<◌, ◌≤◌, List, [], ◌∷◌, length, Option, Some, None, slice_get, refl}
+use Rattle.std.specs.Prelude.{◌≡◌, ◌↔◌, ℕ, zero, suc, ◌+◌, ◌<◌, ◌≤◌, List, [], ◌∷◌, length, Option, Some, slice_get, refl}
+use Rattle.std.specs.List.{AllByRecursion}
 use Rattle.std.proofs.Common.{ap, ◌∙◌, sym, subst, arith}
 use Rattle.std.proofs.lemmas.Option.{slice_get_within}
 use Rattle.pv_value.specs.declared.world.World.{World}
@@ -7,11 +8,12 @@ use Rattle.pv_value.specs.declared.outcome.Input.{Input}
 use Rattle.pv_value.specs.declared.outcome.Val.{Val}
 use Rattle.pv_graph.specs.declared.node.Op.{Op}
 use Rattle.pv_graph.specs.declared.node.Node.{Node}
-use Rattle.pv_graph.specs.Nodes.{node_of, IsGraph}
-use Rattle.pv_graph.specs.Denote.{Index, outside, bind, values, strict, root_over, Shape, plain, root, shaped, shape, node_value, den, Value}
+use Rattle.pv_graph.specs.Elements.{found}
+use Rattle.pv_graph.specs.Nodes.{node_of, IsAcyclic, IsGraph, Interned}
+use Rattle.pv_graph.specs.Denote.{Index, outside, bind, values, strict, root_over, Shape, plain, root, shaped, shape, den, Value}
 use Rattle.pv_graph.specs.Trees.{Tree, Trees, cut, over, none, first, trees_of, unfold_at}
 use Rattle.pv_graph.specs.TreeLaws.{unfold_of, den_at, one_tree}
-use Rattle.pv_graph.specs.Growth.{Extends}
+use Rattle.pv_graph.specs.Growth.{Extends, extends_interned}
 use Rattle.pv_graph.specs.Once.{den_later}
 use Rattle.pv_graph.specs.Finite.{cut_at, cut_all, height, height_all, IsTree, AreTrees, all_of, root_of, op_value, tree_value, kid_values}
 
@@ -27,6 +29,15 @@ pub node_tree : (g : List Node) (n : ℕ) (op : Op) (kids : List ℕ) (ts : Tree
 unfolding IsTree
 node_tree g n op kids ts is are = (kids, is, are)
 
+-- trees of no kids, and of a kid more
+pub no_trees : (g : List Node) → AreTrees g [] none
+unfolding IsTree
+no_trees g = tt
+
+pub more_trees : (g : List Node) (k : ℕ) (ks : List ℕ) (t : Tree) (ts : Trees) → IsTree g k t → AreTrees g ks ts → AreTrees g (k ∷ ks) (first t ts)
+unfolding IsTree
+more_trees g k ks t ts is are = (is, are)
+
 pub is_tree_in_range : (g : List Node) (n : ℕ) (t : Tree) → IsTree g n t → n < length g
 unfolding IsTree
 is_tree_in_range g n cut is = absurd is
@@ -34,6 +45,7 @@ is_tree_in_range g n (over op ts) is = slice_get_within g n (node_of op is.0) is
 
 mutual
   unfolding IsTree cut_at unfold_at
+
   -- a node unfolds to its tree, cut at the depth
   pub is_tree_unfolds : (g : List Node) (n : ℕ) (t : Tree) → IsTree g n t → (m : ℕ) → unfold_at g m n ≡ cut_at m t
   is_tree_unfolds g n cut is m = absurd is
@@ -48,6 +60,7 @@ mutual
 
 mutual
   unfolding IsTree
+
   -- a graph that grows keeps the trees of its nodes
   pub is_tree_kept : (g h : List Node) (n : ℕ) (t : Tree) → Extends g h → IsTree g n t → IsTree h n t
   is_tree_kept g h n cut grows is = is
@@ -59,6 +72,11 @@ mutual
   are_trees_kept g h (k ∷ ks) none grows are = are
   are_trees_kept g h (k ∷ ks) (first t ts) grows are = (is_tree_kept g h k t grows are.0, are_trees_kept g h ks ts grows are.1)
 
+-- a call that numbers a node over kids with trees gives it the tree over them
+pub interned_tree : (old new : List Node) (op : Op) (kids : List ℕ) (n : ℕ) (ts : Trees) → IsGraph old → Interned old new (node_of op kids) n → AreTrees old kids ts → IsTree new n (over op ts)
+interned_tree old new op kids n ts graph made are =
+    node_tree new n op kids ts made.first.there (are_trees_kept old new kids ts (extends_interned old new (node_of op kids) n graph made) are)
+
 -- one node at a number
 one_there : (g : List Node) (n : ℕ) (op op' : Op) (ks ls : List ℕ) → slice_get g n ≡ Some (node_of op ks) → slice_get g n ≡ Some (node_of op' ls) → (op ≡ op') × (ks ≡ ls)
 one_there g n op op' ks ls p q =
@@ -67,6 +85,7 @@ one_there g n op op' ks ls p q =
 
 mutual
   unfolding IsTree
+
   -- a node has at most one tree
   pub is_tree_once : (g : List Node) (n : ℕ) (t u : Tree) → IsTree g n t → IsTree g n u → t ≡ u
   is_tree_once g n cut u p q = absurd p
@@ -94,6 +113,7 @@ one_node g a b t graph p q = one_tree g graph a b (is_tree_in_range g a t p) (is
 
 mutual
   unfolding height cut_at
+
   -- a cut at its height or deeper leaves a tree as it is
   pub cut_whole : (t : Tree) (m : ℕ) → height t ≤ m → cut_at m t ≡ t
   cut_whole cut m le = refl
@@ -110,6 +130,24 @@ one_tree_of_both g h a b t u same p q =
     let m = height t + height u in
     let cuts : cut_at m t ≡ cut_at m u = sym (is_tree_unfolds g a t p m) ∙ same m ∙ is_tree_unfolds h b u q m in
     sym (cut_whole t m (omega arith)) ∙ cuts ∙ cut_whole u m (omega arith)
+
+trees_below : (g : List Node) (ks : List ℕ) (n : ℕ) → ((k : ℕ) → k < n → (t : Tree) × IsTree g k t) → AllByRecursion (λ k. k < n) ks → (ts : Trees) × AreTrees g ks ts
+trees_below g [] n each low = (none, no_trees g)
+trees_below g (k ∷ ks) n each low =
+    let top = each k low.0 in
+    let others = trees_below g ks n each low.1 in
+    (first top.0 others.0, more_trees g k ks top.0 others.0 top.1 others.1)
+
+tree_below : (g : List Node) → IsAcyclic g → (m n : ℕ) → n < m → n < length g → (t : Tree) × IsTree g n t
+tree_below g acyclic zero n lt within = absurd (omega arith)
+tree_below g acyclic (suc m) n lt within =
+    let node = found g n within in
+    let ts = trees_below g node.0.kids n (λ k low. tree_below g acyclic m k (omega arith) (omega arith)) (acyclic n node.0 node.1) in
+    (over node.0.op ts.0, node_tree g n node.0.op node.0.kids ts.0 node.1 ts.1)
+
+-- in an acyclic graph each node has a tree
+pub tree_of : (g : List Node) → IsAcyclic g → (n : ℕ) → n < length g → (t : Tree) × IsTree g n t
+tree_of g acyclic n within = tree_below g acyclic (suc n) n (omega arith) within
 
 -- ---- trees and their values
 
@@ -133,6 +171,7 @@ shaped_over w x ev root o ks i = root_over_of (λ k. ev k i) ks
 
 mutual
   unfolding IsTree height tree_value
+
   -- by as much fuel as its tree is high a node has the tree's value
   pub tree_den_at : (g : List Node) (w : World) (x : Input) (n : ℕ) (t : Tree) → IsTree g n t → (fuel : ℕ) → height t ≤ fuel → den g w x fuel n outside ≡ tree_value w x t
   tree_den_at g w x n cut is fuel le = absurd is
@@ -156,6 +195,6 @@ pub tree_den : (g : List Node) (w : World) (x : Input) (n : ℕ) (t : Tree) → 
 tree_den g w x n t is v = (
   (λ e. (height t, tree_den_at g w x n t is (height t) (omega arith) ∙ e)),
   (λ y.
-    let enough = tree_den_at g w x n t is (y.0 + height t) (omega arith) in
-    sym enough ∙ den_later g w x y.0 (y.0 + height t) n outside v (omega arith) y.1),
+      let enough = tree_den_at g w x n t is (y.0 + height t) (omega arith) in
+      sym enough ∙ den_later g w x y.0 (y.0 + height t) n outside v (omega arith) y.1),
 )

@@ -9,13 +9,16 @@ use Rattle.pv_value.specs.declared.number.Num.{Num}
 use Rattle.pv_value.specs.declared.number.Num.TheVariants as num
 use Rattle.pv_value.specs.declared.operation.ScalarOp.TheVariants.{Iadd, Isub, Imul}
 use Rattle.pv_value.specs.declared.outcome.Outcome.TheVariants.{Returned}
+use Rattle.pv_graph.specs.declared.node.Op.{Op}
 use Rattle.pv_graph.specs.declared.node.Op.TheVariants as op
 use Rattle.pv_graph.specs.declared.node.Node.{Node}
 use Rattle.pv_graph.specs.declared.node.OpSort.TheVariants.{T, F, I, L, N, H, R, A}
 use Rattle.pv_graph.specs.Nodes.{node_of}
 use Rattle.pv_graph.specs.Sorts.{sort_over}
-use Rattle.pv_graph.specs.Denote.{param_of, den, outside}
-use Rattle.pv_graph.specs.Trees.{cut, over, none, first, unfold_at}
+use Rattle.pv_graph.specs.Denote.{bind, result_of, param_of, den, outside}
+use Rattle.pv_graph.specs.Trees.{Tree, cut, over, none, first, unfold_at}
+use Rattle.pv_graph.specs.FiniteLaws.{is_tree_once}
+use Rattle.pv_graph.specs.Finite.{cut_at, height, IsTree, tree_value}
 
 abbrev one : List Node
 one = node_of op.Unit [] ∷ node_of op.Clear [] ∷ node_of (op.Int (pos 1)) [] ∷ node_of op.Heap0 [] ∷ node_of op.Root (0 ∷ 1 ∷ 2 ∷ 3 ∷ []) ∷ []
@@ -128,3 +131,66 @@ difference_over_long = refl
 
 difference_of_one : sort_over (op.Scalar Isub) (I ∷ []) ≡ None
 difference_of_one = refl
+
+-- ---- finite trees
+
+abbrev leaf : Op → Tree
+leaf o = over o none
+
+-- the sum of argument 0 and 1, as a tree
+abbrev sum_tree : Tree
+sum_tree = over (op.Scalar Iadd) (first (leaf (op.Param 0 I)) (first (leaf (op.Int (pos 1))) none))
+
+sum_is_tree : IsTree sums 2 sum_tree
+unfolding IsTree
+sum_is_tree = (0 ∷ 1 ∷ [], refl, (([], refl, tt), (([], refl, tt), tt)))
+
+-- with one operand alone it is of no node
+sum_of_one_tree : IsTree sums 2 (over (op.Scalar Iadd) (first (leaf (op.Param 0 I)) none)) → ⊥
+sum_of_one_tree is = let same = is_tree_once sums 2 _ sum_tree is sum_is_tree in absurd (cc)
+
+-- 5 + 1 is 6
+tree_of_five : (w : World) → tree_value w (given (num.Int (pos 5) ∷ [])) sum_tree ≡ Some (val.Num (num.Int (pos 6)))
+unfolding tree_value int_wrap
+tree_of_five w = refl
+
+-- a cut operand has no value, and neither has the sum
+tree_of_cut : (w : World) (x : Input) → tree_value w x (over (op.Scalar Iadd) (first (leaf (op.Int (pos 1))) (first cut none))) ≡ None
+unfolding tree_value
+tree_of_cut w x = refl
+
+-- a method that returns the value of a tree
+abbrev returning : Tree → Tree
+returning t = over op.Root (first (leaf op.Unit) (first (leaf op.Clear) (first t (first (leaf op.Heap0) none))))
+
+-- it returns 1, and the heap as it was
+tree_returns : (w : World) (x : Input) → tree_value w x (returning (leaf (op.Int (pos 1)))) ≡ Some (val.End (Returned (Some (num.Int (pos 1))) x.heap))
+unfolding tree_value
+tree_returns w x = refl
+
+-- of any tree it returns the number that the tree has, where it has one
+tree_returns_its_value : (w : World) (x : Input) (t : Tree) → tree_value w x (returning t) ≡ bind (tree_value w x t) (λ v. bind (result_of v) (λ n. Some (val.End (Returned n x.heap))))
+unfolding tree_value
+tree_returns_its_value w x t = refl
+
+-- a root over a fault in the place of its token has no value
+tree_swapped : (w : World) (x : Input) → tree_value w x (over op.Root (first (leaf op.Clear) (first (leaf op.Unit) (first (leaf (op.Int (pos 1))) (first (leaf op.Heap0) none))))) ≡ None
+unfolding tree_value
+tree_swapped w x = refl
+
+one_is_tree : IsTree one 4 (returning (leaf (op.Int (pos 1))))
+unfolding IsTree
+one_is_tree = (0 ∷ 1 ∷ 2 ∷ 3 ∷ [], refl, (([], refl, tt), (([], refl, tt), (([], refl, tt), (([], refl, tt), tt)))))
+
+returning_height : height (returning (leaf (op.Int (pos 1)))) ≡ 2
+unfolding height
+returning_height = refl
+
+-- cut at 1, and at its height
+returning_cut : cut_at 1 (returning (leaf (op.Int (pos 1)))) ≡ over op.Root (first cut (first cut (first cut (first cut none))))
+unfolding cut_at
+returning_cut = refl
+
+returning_whole : cut_at 2 (returning (leaf (op.Int (pos 1)))) ≡ returning (leaf (op.Int (pos 1)))
+unfolding cut_at
+returning_whole = refl

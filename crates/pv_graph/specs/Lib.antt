@@ -8,3 +8,5 @@ pub mod Once
 pub mod Growth
 pub mod SortLaws
 pub mod Tables
+pub mod Finite
+pub mod FiniteLaws

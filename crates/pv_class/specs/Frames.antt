@@ -1,5 +1,5 @@
 -- Typed frames: the sorts of the operand stack and of the locals before each instruction (JVMS 4.10.1).
-use Rattle.std.specs.Prelude.{◌≡◌, ◌⊎◌, ℕ, suc, ◌+◌, ◌-◌, ◌≤◌, Bool, true, false, List, [], ◌∷◌, ◌++◌, length, sum_by, Option, Some, None, slice_get, replicate}
+use Rattle.std.specs.Prelude.{◌≡◌, ◌⊎◌, ℕ, suc, ◌-◌, ◌≤◌, Bool, true, false, List, [], ◌∷◌, ◌++◌, length, sum_by, Option, Some, slice_get, replicate}
 use Rattle.std.specs.List.{AllZip, flat_map}
 use Rattle.pv_value.specs.declared.descriptor.JType.{JType}
 use Rattle.pv_value.specs.declared.descriptor.JType.TheVariants.{Z, B, C, S, I, J, F, D, A}

@@ -5,5 +5,6 @@ pub mod Instructions
 pub mod Actions
 pub mod Machine
 pub mod Frames
+pub mod Walking
 pub mod Reading
 pub mod Layouts

@@ -32,6 +32,9 @@ pub record Program : Type 0 where
   pub desc : Descriptor
   pub max_locals : ℕ
 
+abbrev pub program_of : List Insn → Bool → Descriptor → ℕ → Program
+program_of insns instance desc max_locals = record { insns = insns; instance = instance; desc = desc; max_locals = max_locals }
+
 -- ACC_STATIC (JVMS 4.6) is not set
 abbrev pub is_instance : ℕ → Bool
 is_instance flags = bit_and flags 0x0008 == 0

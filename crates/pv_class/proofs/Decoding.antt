@@ -5,7 +5,7 @@ use Rattle.std.proofs.lemmas.Int.{to_z-of_z}
 use Rattle.std.proofs.lemmas.List.{append-nil}
 use Rattle.std.specs.Int.{Width, w8, w16, cast_unsigned, to_be_bytes}
 use Rattle.pv_class.specs.declared.instruction.Insn.{Insn}
-use Rattle.pv_class.specs.declared.instruction.Insn.TheVariants.{Plain, Push}
+use Rattle.pv_class.specs.declared.instruction.Insn.TheVariants.{Plain, Local, Push}
 use Rattle.pv_class.specs.Instructions.{IsPlain, IsCode, Begins, BeginsSigned}
 
 -- a number behind the opcode of bipush
@@ -51,37 +51,67 @@ signed_short_once m n x y p q e =
     let same : a ≡ b = omega arith in
     (one_signed w16 m n p q same, tails)
 
+abbrev opcode_of : Insn → ℕ
+opcode_of (Plain op) = op
+opcode_of (Local op n) = op
+opcode_of (Push op n) = op
+
+-- the opcode is one of this form
+abbrev IsInForm : Insn → Type 0
+IsInForm (Plain op) = IsPlain op
+IsInForm (Local op n) = op ≡ 21
+IsInForm (Push op n) = (op ≡ 16) ⊎ (op ≡ 17)
+
+abbrev AreAlike : Insn → Insn → Type 0
+AreAlike (Plain a) (Plain b) = Unit {0}
+AreAlike (Local a m) (Local b n) = Unit {0}
+AreAlike (Push a m) (Push b n) = Unit {0}
+AreAlike i j = ⊥
+
+-- the opcode tells the form
+alike : (i j : Insn) → IsInForm i → IsInForm j → opcode_of i ≡ opcode_of j → AreAlike i j
+alike (Plain a) (Plain b) p q e = tt
+alike (Local a m) (Local b n) p q e = tt
+alike (Push a m) (Push b n) p q e = tt
+alike i j p q e = grind arith
+
 -- an instruction without operands, in front
 plain_parts : (bytes : List ℕ) (op : ℕ) (x : List ℕ) → Begins bytes (Plain op) x → IsPlain op × (bytes ≡ op ∷ x)
 plain_parts bytes op x b = (b.spells.0, b.parts ∙ ap (λ (f : List ℕ). f ++ x) b.spells.1)
 
+-- an instruction with the number of a local, in front
+local_parts : (bytes : List ℕ) (op n : ℕ) (x : List ℕ) → Begins bytes (Local op n) x → (op ≡ 21) × (bytes ≡ op ∷ n ∷ x)
+local_parts bytes op n x b = (b.spells.0, b.parts ∙ ap (λ (f : List ℕ). f ++ x) b.spells.2 ∙ ap (λ (o : ℕ). o ∷ n ∷ x) (sym b.spells.0))
+
 -- an instruction that pushes its operand, in front
 abbrev IsPushed : ℕ → Width → List ℕ → ℕ → ℤ → List ℕ → Type 0
-IsPushed code w bytes op n x = (op ≡ code) × FitsSigned w n × (bytes ≡ code ∷ (to_be_bytes w (cast_unsigned w n) ++ x))
+IsPushed code w bytes op n x = (op ≡ code) × FitsSigned w n × (bytes ≡ op ∷ (to_be_bytes w (cast_unsigned w n) ++ x))
 
 push_parts : (bytes : List ℕ) (op : ℕ) (n : ℤ) (x : List ℕ) → Begins bytes (Push op n) x → IsPushed 16 w8 bytes op n x ⊎ IsPushed 17 w16 bytes op n x
 push_parts bytes op n x b =
     elim b.spells [
-      | inl byte ↦ inl (byte.0, byte.1.number, b.parts ∙ ap (λ (f : List ℕ). f ++ x) byte.1.spelled)
-      | inr short ↦ inr (short.0, short.1.number, b.parts ∙ ap (λ (f : List ℕ). f ++ x) short.1.spelled)
+      | inl byte ↦ inl (byte.0, byte.1.number, b.parts ∙ ap (λ (f : List ℕ). f ++ x) byte.1.spelled ∙ ap (λ (o : ℕ). o ∷ (to_be_bytes w8 (cast_unsigned w8 n) ++ x)) (sym byte.0))
+      | inr short ↦ inr (short.0, short.1.number, b.parts ∙ ap (λ (f : List ℕ). f ++ x) short.1.spelled ∙ ap (λ (o : ℕ). o ∷ (to_be_bytes w16 (cast_unsigned w16 n) ++ x)) (sym short.0))
     ]
 
-not_plain : (a : ℕ) → IsPlain a → (a ≡ 16) ⊎ (a ≡ 17) → ⊥
-not_plain a (inl constant) (inl e) = omega arith
-not_plain a (inl constant) (inr e) = omega arith
-not_plain a (inr return) (inl e) = omega arith
-not_plain a (inr return) (inr e) = omega arith
+-- the opcode in front
+leads : (bytes : List ℕ) (i : Insn) (x : List ℕ) → Begins bytes i x → IsInForm i × ((rest : List ℕ) × (bytes ≡ opcode_of i ∷ rest))
+leads bytes (Plain a) x b = let p = plain_parts bytes a x b in (p.0, (x, p.1))
+leads bytes (Local a n) x b = let p = local_parts bytes a n x b in (p.0, (n ∷ x, p.1))
+leads bytes (Push a n) x b =
+    elim (push_parts bytes a n x b) [
+      | inl byte ↦ (inl byte.0, (_, byte.2))
+      | inr short ↦ (inr short.0, (_, short.2))
+    ]
 
 heads : (bytes : List ℕ) (a b : ℕ) (s t : List ℕ) → bytes ≡ a ∷ s → bytes ≡ b ∷ t → (a ≡ b) × (s ≡ t)
 heads bytes a b s t e h = (cc (e, h), cc (e, h))
 
-apart : {P : Type 0} (bytes : List ℕ) (a op : ℕ) (n : ℤ) (x y : List ℕ) → Begins bytes (Plain a) x → Begins bytes (Push op n) y → P
-apart bytes a op n x y p q =
-    let plain = plain_parts bytes a x p in
-    elim (push_parts bytes op n y q) [
-      | inl byte ↦ absurd (not_plain a plain.0 (inl (heads bytes a 16 x _ plain.1 byte.2).0))
-      | inr short ↦ absurd (not_plain a plain.0 (inr (heads bytes a 17 x _ plain.1 short.2).0))
-    ]
+begin_alike : (bytes : List ℕ) (i j : Insn) (x y : List ℕ) → Begins bytes i x → Begins bytes j y → AreAlike i j
+begin_alike bytes i j x y p q =
+    let a = leads bytes i x p in
+    let b = leads bytes j y q in
+    alike i j a.0 b.0 (heads bytes (opcode_of i) (opcode_of j) a.1.0 b.1.0 a.1.1 b.1.1).0
 
 same_push : (a b : ℕ) (m n : ℤ) (x y : List ℕ) → a ≡ b → (m ≡ n) × (x ≡ y) → (Push a m ≡ Push b n) × (x ≡ y)
 same_push a b m n x y e h = (cc (e, h.0), h.1)
@@ -91,25 +121,29 @@ pub begins_once : (bytes : List ℕ) (i j : Insn) (x y : List ℕ) → Begins by
 begins_once bytes (Plain a) (Plain b) x y p q =
     let h = heads bytes a b x y (plain_parts bytes a x p).1 (plain_parts bytes b y q).1 in
     (ap Plain h.0, h.1)
-begins_once bytes (Plain a) (Push b n) x y p q = apart bytes a b n x y p q
-begins_once bytes (Push a m) (Plain b) x y p q = apart bytes b a m y x q p
+begins_once bytes (Local a m) (Local b n) x y p q =
+    let h = (local_parts bytes a m x p).1 in
+    let k = (local_parts bytes b n y q).1 in
+    (cc (h, k), cc (h, k))
 begins_once bytes (Push a m) (Push b n) x y p q =
     elim (push_parts bytes a m x p) [
       | inl one ↦
           elim (push_parts bytes b n y q) [
-            | inl other ↦ same_push a b m n x y (one.0 ∙ sym other.0) (signed_byte_once m n x y one.1 other.1 (heads bytes 16 16 _ _ one.2 other.2).1)
-            | inr other ↦ absurd (let e = (heads bytes 16 17 _ _ one.2 other.2).0 in omega arith)
+            | inl other ↦ let h = heads bytes a b _ _ one.2 other.2 in same_push a b m n x y h.0 (signed_byte_once m n x y one.1 other.1 h.1)
+            | inr other ↦ absurd (let e = (heads bytes a b _ _ one.2 other.2).0 in omega arith)
           ]
       | inr one ↦
           elim (push_parts bytes b n y q) [
-            | inl other ↦ absurd (let e = (heads bytes 17 16 _ _ one.2 other.2).0 in omega arith)
-            | inr other ↦ same_push a b m n x y (one.0 ∙ sym other.0) (signed_short_once m n x y one.1 other.1 (heads bytes 17 17 _ _ one.2 other.2).1)
+            | inl other ↦ absurd (let e = (heads bytes a b _ _ one.2 other.2).0 in omega arith)
+            | inr other ↦ let h = heads bytes a b _ _ one.2 other.2 in same_push a b m n x y h.0 (signed_short_once m n x y one.1 other.1 h.1)
           ]
     ]
+begins_once bytes i j x y p q = absurd (begin_alike bytes i j x y p q)
 
 -- an instruction takes a byte or more
 pub begins_longer : (bytes : List ℕ) (i : Insn) (x : List ℕ) → Begins bytes i x → length x < length bytes
 begins_longer bytes (Plain a) x p = let e = ap (λ (l : List ℕ). length l) (plain_parts bytes a x p).1 in omega arith
+begins_longer bytes (Local a n) x p = let e = ap (λ (l : List ℕ). length l) (local_parts bytes a n x p).1 in omega arith
 begins_longer bytes (Push a n) x p =
     elim (push_parts bytes a n x p) [
       | inl byte ↦ let e = ap (λ (l : List ℕ). length l) byte.2 in omega arith

@@ -1,5 +1,5 @@
--- Worked examples: the class of one method `f ()I` whose code is iconst_1, ireturn, and a run of it.
-use Rattle.std.proofs.Common.{◌≡◌, ◌∷◌, [], List, ℕ, pos, Some, false, refl, lit≤, inl, inr}
+-- Worked examples: the class of one method `f ()I` whose code is iconst_1, ireturn, and a run of it; runs of a sum and a difference of two arguments.
+use Rattle.std.proofs.Common.{◌≡◌, ◌∷◌, [], List, ℕ, ℤ, pos, negsuc, Some, false, refl, subst, rules, lit≤, inl, inr}
 use Rattle.std.specs.Prelude.{codes}
 use Rattle.std.specs.FinMap.{empty}
 use Rattle.pv_value.specs.declared.descriptor.JType.TheVariants.{I}
@@ -7,6 +7,8 @@ use Rattle.pv_value.specs.declared.descriptor.Descriptor.{Descriptor}
 use Rattle.pv_value.specs.declared.number.Num.TheVariants as num
 use Rattle.pv_value.specs.declared.outcome.Input.{Input}
 use Rattle.pv_value.specs.declared.outcome.Outcome.TheVariants.{Returned}
+use Rattle.pv_value.specs.declared.operation.ScalarOp.TheVariants.{Iadd, Isub}
+use Rattle.pv_value.specs.ScalarLaws.{scalar_exact}
 use Rattle.pv_value.specs.Descriptors.{IsMethodType}
 use Rattle.pv_value.specs.Worlds.{empty_world}
 use Rattle.pv_class.specs.declared.file.Entry.{Entry}
@@ -14,7 +16,7 @@ use Rattle.pv_class.specs.declared.file.Entry.TheVariants.{Utf8, Class}
 use Rattle.pv_class.specs.declared.instruction.Insn.{Insn}
 use Rattle.pv_class.specs.declared.instruction.Insn.TheVariants.{Plain}
 use Rattle.pv_class.specs.Items.{Items, CodeItems, code_text, file_text}
-use Rattle.pv_class.specs.Instructions.{IsCode}
+use Rattle.pv_class.specs.Instructions.{IsPlain, IsCode}
 use Rattle.pv_class.specs.Machine.{Program, running, ended, after, start}
 
 -- the 98 bytes
@@ -53,7 +55,7 @@ abbrev insns : List Insn
 insns = Plain 4 ∷ Plain 172 ∷ []
 
 code_spelled : IsCode code.code insns
-code_spelled = (4 ∷ [], 0xAC ∷ [], refl, (inl (lit≤ tt, lit≤ tt), refl), (0xAC ∷ [], [], refl, (inr refl, refl), refl))
+code_spelled = (4 ∷ [], 0xAC ∷ [], refl, (inr (inl (lit≤ tt, lit≤ tt)), refl), (0xAC ∷ [], [], refl, (inr (inr (inr (inr (inr (inr refl))))), refl), refl))
 
 abbrev desc : Descriptor
 desc = record { params = []; result = Some I }
@@ -75,3 +77,36 @@ first_step = refl
 second_step : after program empty_world (start program input) 2 ≡ ended (Returned (Some (num.Int (pos 1))) empty)
 unfolding after
 second_step = refl
+
+-- iload_0, iload_1, an operation, ireturn
+abbrev of_two : ℕ → List Insn
+of_two op = Plain 26 ∷ Plain 27 ∷ Plain op ∷ Plain 172 ∷ []
+
+of_two_spelled : (op : ℕ) → IsPlain op → IsCode (26 ∷ 27 ∷ op ∷ 172 ∷ []) (of_two op)
+of_two_spelled op is =
+    (26 ∷ [], 27 ∷ op ∷ 172 ∷ [], refl, (inr (inr (inl (lit≤ tt, lit≤ tt))), refl), (27 ∷ [], op ∷ 172 ∷ [], refl, (inr (inr (inl (lit≤ tt, lit≤ tt))), refl), (op ∷ [], 172 ∷ [], refl, (is, refl), (172 ∷ [], [], refl, (inr (inr (inr (inr (inr (inr refl))))), refl), refl))))
+
+-- 96 is iadd, 100 isub
+sum_spelled : IsCode (0x1A ∷ 0x1B ∷ 0x60 ∷ 0xAC ∷ []) (of_two 96)
+sum_spelled = of_two_spelled 96 (inr (inr (inr (inl refl))))
+
+difference_spelled : IsCode (0x1A ∷ 0x1B ∷ 0x64 ∷ 0xAC ∷ []) (of_two 100)
+difference_spelled = of_two_spelled 100 (inr (inr (inr (inr (inl refl)))))
+
+abbrev program_of_two : ℕ → Program
+program_of_two op = record { insns = of_two op; instance = false; desc = record { params = I ∷ I ∷ []; result = Some I }; max_locals = 2 }
+
+abbrev five_and_seven : Input
+five_and_seven = record { this = 1; args = num.Int (pos 5) ∷ num.Int (pos 7) ∷ []; heap = empty }
+
+abbrev EndsWith : ℕ → ℤ → Type 0
+EndsWith op n = after (program_of_two op) empty_world (start (program_of_two op) five_and_seven) 4 ≡ ended (Returned (Some (num.Int n)) empty)
+
+-- after four steps it has returned the value of the operation: the sum of 5 and 7 is 12, and their difference -2
+sum_ends : EndsWith 96 (pos 12)
+unfolding after
+sum_ends = let P : ℤ → Type 0 = λ n. EndsWith 96 n in subst P (scalar_exact Iadd (pos 5) (pos 7) (search rules)) refl
+
+difference_ends : EndsWith 100 (negsuc 1)
+unfolding after
+difference_ends = let P : ℤ → Type 0 = λ n. EndsWith 100 n in subst P (scalar_exact Isub (pos 5) (pos 7) (search rules)) refl

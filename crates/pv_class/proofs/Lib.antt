@@ -1,6 +1,7 @@
 pub mod Examples
 pub mod Decoding
 pub mod Running
+pub mod Walks
 pub mod Programs
 pub mod Formats
 pub mod Loop

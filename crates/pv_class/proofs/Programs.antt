@@ -1,13 +1,11 @@
 -- A method has one program, and so ends in one way.
-use Rattle.std.proofs.Common.{◌≡◌, ℕ, List, Bool, Option, Some, refl, sym, ap, subst, ◌∙◌}
-use Rattle.pv_value.specs.declared.descriptor.Descriptor.{Descriptor}
+use Rattle.std.proofs.Common.{◌≡◌, Option, Some, sym, ap, subst, ◌∙◌}
 use Rattle.pv_value.specs.declared.world.World.{World}
 use Rattle.pv_value.specs.declared.outcome.Input.{Input}
 use Rattle.pv_value.specs.declared.outcome.Outcome.{Outcome}
 use Rattle.pv_value.specs.Once.{method_type_once}
 use Rattle.pv_class.specs.declared.file.Method.{Method}
 use Rattle.pv_class.specs.declared.file.Code.{Code}
-use Rattle.pv_class.specs.declared.instruction.Insn.{Insn}
 use Rattle.pv_class.specs.Instructions.{IsCode}
 use Rattle.pv_class.specs.Machine.{Program, IsProgram, RunEnds, Ends}
 use Rattle.pv_class.proofs.Decoding.{code_once}

@@ -1,12 +1,12 @@
 -- Instructions and their spelling (JVMS 6.5).
-use Rattle.std.specs.Prelude.{◌≡◌, ◌⊎◌, ℕ, ℤ, ◌≤◌, List, [], ◌∷◌, ◌++◌, FitsSigned}
+use Rattle.std.specs.Prelude.{◌≡◌, ◌⊎◌, ℕ, ℤ, ◌≤◌, ◌<◌, ◌^◌, List, [], ◌∷◌, ◌++◌, FitsSigned}
 use Rattle.std.specs.Int.{Width, w8, w16, to_be_bytes, cast_unsigned}
 use Rattle.pv_class.specs.declared.instruction.Insn.{Insn}
-use Rattle.pv_class.specs.declared.instruction.Insn.TheVariants.{Plain, Push}
+use Rattle.pv_class.specs.declared.instruction.Insn.TheVariants.{Plain, Local, Push}
 
--- the opcodes without operands: iconst_m1 to iconst_5, ireturn
+-- the opcodes without operands: nop; iconst_m1 to iconst_5; iload_0 to iload_3; iadd; isub; imul; ireturn
 abbrev pub IsPlain : ℕ → Type 0
-IsPlain op = ((2 ≤ op) × (op ≤ 8)) ⊎ (op ≡ 172)
+IsPlain op = (op ≡ 0) ⊎ ((2 ≤ op) × (op ≤ 8)) ⊎ ((26 ≤ op) × (op ≤ 29)) ⊎ (op ≡ 96) ⊎ (op ≡ 100) ⊎ (op ≡ 104) ⊎ (op ≡ 172)
 
 -- the opcode, and a number of this width in two's complement
 pub record IsPush (op : ℕ) (w : Width) (n : ℤ) (bytes : List ℕ) : Type 0 where
@@ -16,6 +16,8 @@ pub record IsPush (op : ℕ) (w : Width) (n : ℤ) (bytes : List ℕ) : Type 0 w
 -- the bytes of an instruction
 abbrev pub Spells : Insn → List ℕ → Type 0
 Spells (Plain op) bytes = IsPlain op × (bytes ≡ op ∷ [])
+-- iload
+Spells (Local op n) bytes = (op ≡ 21) × (n < 2 ^ 8) × (bytes ≡ 21 ∷ n ∷ [])
 -- bipush, sipush
 Spells (Push op n) bytes = ((op ≡ 16) × IsPush 16 w8 n bytes) ⊎ ((op ≡ 17) × IsPush 17 w16 n bytes)
 

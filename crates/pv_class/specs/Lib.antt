@@ -4,5 +4,7 @@ pub mod ClassFiles
 pub mod Instructions
 pub mod Actions
 pub mod Machine
+pub mod Frames
+pub mod Walking
 pub mod Reading
 pub mod Layouts

@@ -12,12 +12,14 @@ use Rattle.pv_value.specs.declared.outcome.Input.{Input}
 use Rattle.pv_value.specs.declared.outcome.Outcome.{Outcome}
 use Rattle.pv_value.specs.declared.outcome.Outcome.TheVariants.{Returned}
 use Rattle.pv_value.specs.declared.heap.Heap.{Heap}
+use Rattle.pv_value.specs.declared.operation.ScalarOp.{ScalarOp}
+use Rattle.pv_value.specs.Scalar.{scalar_of}
 use Rattle.pv_value.specs.Descriptors.{IsMethodType}
 use Rattle.pv_value.specs.Inputs.{Fits}
 use Rattle.pv_value.specs.Worlds.{IsWorld}
 use Rattle.pv_class.specs.declared.instruction.Insn.{Insn}
 use Rattle.pv_class.specs.declared.instruction.Action.{Action}
-use Rattle.pv_class.specs.declared.instruction.Action.TheVariants.{Push, ReturnInt, Unknown}
+use Rattle.pv_class.specs.declared.instruction.Action.TheVariants.{Nop, Push, Load, Scalar, ReturnInt, Unknown}
 use Rattle.pv_class.specs.declared.file.Method.{Method}
 use Rattle.pv_class.specs.declared.file.Code.{Code}
 use Rattle.pv_class.specs.Instructions.{IsCode}
@@ -29,6 +31,9 @@ pub record Program : Type 0 where
   pub instance : Bool
   pub desc : Descriptor
   pub max_locals : ℕ
+
+abbrev pub program_of : List Insn → Bool → Descriptor → ℕ → Program
+program_of insns instance desc max_locals = record { insns = insns; instance = instance; desc = desc; max_locals = max_locals }
 
 -- ACC_STATIC (JVMS 4.6) is not set
 abbrev pub is_instance : ℕ → Bool
@@ -89,9 +94,25 @@ abbrev pub return_as : State → Option JType → List Num → Now
 return_as s (Some t) (num.Int n ∷ rest) = returned s (narrowed t n)
 return_as s t stack = running s
 
+-- goes on to the next place with this operand stack
+abbrev pub next : State → List Num → Now
+next s stack = running (record { at = s.at + 1; stack = stack; locals = s.locals; heap = s.heap })
+
+abbrev pub loaded : State → Option (Option Num) → Now
+loaded s (Some (Some (num.Int n))) = next s (num.Int n ∷ s.stack)
+loaded s local = running s
+
+-- the second operand lies on top
+abbrev pub computed : State → ScalarOp → List Num → Now
+computed s op (num.Int b ∷ num.Int a ∷ stack) = next s (num.Int (scalar_of op a b) ∷ stack)
+computed s op stack = running s
+
 -- where an instruction doesn't find what it needs, the machine stays where it is
 abbrev pub perform : Program → State → Action → Now
-perform p s (Push n) = running (record { at = s.at + 1; stack = num.Int n ∷ s.stack; locals = s.locals; heap = s.heap })
+perform p s Nop = next s s.stack
+perform p s (Push n) = next s (num.Int n ∷ s.stack)
+perform p s (Load k) = loaded s (slice_get s.locals k)
+perform p s (Scalar op) = computed s op s.stack
 perform p s ReturnInt = return_as s p.desc.result s.stack
 perform p s Unknown = running s
 

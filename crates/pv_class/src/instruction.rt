@@ -5,7 +5,7 @@ ghost use Rattle.pv_class.specs.declared.instruction.Insn.{Insn};
 ghost use Rattle.std.specs.Int.{w8, w16};
 ghost use Rattle.pv_class.specs.Instructions.{IsCode, Begins, BeginsSigned, HasNoNumber};
 
-use pv_value::Memory;
+use pv_value::{Memory, ScalarOp};
 use std::alloc::Global;
 use std::marker::Model;
 
@@ -14,6 +14,8 @@ use std::marker::Model;
 pub enum Insn {
     /// An instruction without operands.
     Plain(u8),
+    /// iload, with the number of its local.
+    Local(u8, u16),
     /// bipush or sipush, with the number that it pushes.
     Push(u8, i16),
 }
@@ -21,8 +23,14 @@ pub enum Insn {
 /// What an instruction does.
 #[derive(Clone, Copy, Debug, PartialEq, Eq)]
 pub enum Action {
+    /// Does nothing.
+    Nop,
     /// Pushes an int.
     Push(i32),
+    /// Pushes the int in a local.
+    Load(u16),
+    /// Takes two ints from the operand stack, and pushes what the operation gives of them.
+    Scalar(ScalarOp),
     /// Ends the method with the int on top of the operand stack.
     ReturnInt,
     /// Something that isn't built yet.
@@ -37,9 +45,15 @@ impl Insn {
         ensures { result ≡ action self }
     {
         match self {
+            Insn::Plain(0) => Action::Nop,
             Insn::Plain(opcode @ 2..=8) => Action::Push(i32::from(opcode) - 3),
+            Insn::Plain(opcode @ 26..=29) => Action::Load(u16::from(opcode) - 26),
+            Insn::Plain(96) => Action::Scalar(ScalarOp::Iadd),
+            Insn::Plain(100) => Action::Scalar(ScalarOp::Isub),
+            Insn::Plain(104) => Action::Scalar(ScalarOp::Imul),
             Insn::Plain(172) => Action::ReturnInt,
             Insn::Plain(_) => Action::Unknown,
+            Insn::Local(_, local) => Action::Load(local),
             Insn::Push(_, number) => Action::Push(i32::from(number)),
         }
     }
@@ -92,7 +106,11 @@ fn first_instruction(bytes: &[u8]) -> Option<(Insn, &[u8])>
 {
     let (opcode, rest) = bytes.split_first()?;
     match *opcode {
-        opcode @ (2..=8 | 172) => Some((Insn::Plain(opcode), rest)),
+        opcode @ (0 | 2..=8 | 26..=29 | 96 | 100 | 104 | 172) => Some((Insn::Plain(opcode), rest)),
+        21 => {
+            let (local, rest) = rest.split_first()?;
+            Some((Insn::Local(21, u16::from(*local)), rest))
+        }
         16 => {
             let (number, rest) = signed_byte(rest)?;
             Some((Insn::Push(16, number), rest))

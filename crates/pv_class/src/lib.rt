@@ -11,6 +11,7 @@
 mod class;
 mod fault;
 mod file;
+mod frames;
 mod instruction;
 mod layout;
 mod method_type;
@@ -20,4 +21,5 @@ mod text;
 pub use class::read_class;
 pub use fault::ClassFault;
 pub use file::{ClassFile, Code, Entry, Method, Methods, Pool};
+pub use frames::{Sort, has_frames};
 pub use instruction::{Action, Insn, Insns, instructions};

@@ -131,5 +131,8 @@ pub fn has_frames(
             Lead::Stuck => return Ok(false),
         }
     }
-    Ok(false)
+    Ok(false) // the code goes on behind its end
 }
+
+#[cfg(test)]
+mod tests;

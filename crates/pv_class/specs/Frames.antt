@@ -29,6 +29,7 @@ sorts_of F = sort.Unknown ∷ []
 sorts_of A = sort.Ref ∷ []
 sorts_of t = sort.Int ∷ []
 
+-- an instance method has `this` in its first local
 abbrev pub this_sorts : Bool → List Sort
 this_sorts true = sort.Ref ∷ []
 this_sorts false = []
@@ -41,6 +42,7 @@ passed_sorts instance params = this_sorts instance ++ flat_map sorts_of params
 abbrev pub padded_sorts : ℕ → List Sort → List Sort
 padded_sorts n sorts = sorts ++ replicate (n - length sorts) sort.Unknown
 
+-- what a program is passed
 abbrev pub passed_to : Program → List Sort
 passed_to p = passed_sorts p.instance p.desc.params
 

@@ -32,6 +32,7 @@ pub record Program : Type 0 where
   pub desc : Descriptor
   pub max_locals : ℕ
 
+-- the program of these parts
 abbrev pub program_of : List Insn → Bool → Descriptor → ℕ → Program
 program_of insns instance desc max_locals = record { insns = insns; instance = instance; desc = desc; max_locals = max_locals }
 

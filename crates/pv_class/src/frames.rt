@@ -1,7 +1,6 @@
 //! Whether the instructions of a method have typed frames (JVMS 4.10.1).
 
-ghost use Rattle.std.specs.Prelude.{◌≡◌, ◌↔◌, ◌++◌, ◌-◌, ◌<◌, ◌≤◌, ◌^◌, List, IsTrue, IfOk, MatchOption, length, replicate, slice_get};
-ghost use Rattle.std.specs.List.{flat_map};
+ghost use Rattle.std.specs.Prelude.{◌≡◌, ◌↔◌, ◌<◌, ◌^◌, IsTrue, IfOk, slice_get};
 ghost use Rattle.pv_class.specs.Machine.{program_of};
 ghost use Rattle.pv_class.specs.Frames.{sorts_of, passed_sorts, padded_sorts, IsIntType, HasFrames};
 ghost use Rattle.pv_class.specs.Walking.{int_frame, Leads};

@@ -1,0 +1,4 @@
+pub mod Texts
+pub mod Entries
+pub mod Pools
+pub mod Faults

@@ -2,16 +2,18 @@
 //!
 //! Each function reads an item at the front of the bytes, and gives the bytes behind it too.
 
-ghost use Rattle.std.specs.Prelude.{◌≡◌};
+ghost use Rattle.std.specs.Prelude.{◌≡◌, ◌++◌, OnOk, MatchResult};
 ghost use Rattle.std.specs.Int.{w8, w16, w32, w64};
 ghost use Rattle.pv_pool.specs.declared.entry.Entry.TheVariants.{MethodHandle};
+ghost use Rattle.pv_pool.specs.Pools.{cells};
+ghost use Rattle.pv_pool.specs.Stops.{HasSlots, HasStop, IsLayout, StopsLayout};
 ghost use Rattle.pv_pool.specs.Reading.{Gives, number_at, run_at, text_at, pair_at, two_at, entry_at};
 
 use crate::entry::Entry;
 use crate::fault::Stop;
 use crate::text::is_text;
 use pv_value::Name;
-use std::alloc::Global;
+use std::alloc::{AllocError, Global};
 
 /// A number of one byte.
 fn u8_at(bytes: &[u8]) -> Result<(u8, &[u8]), Stop>
@@ -25,7 +27,7 @@ fn u8_at(bytes: &[u8]) -> Result<(u8, &[u8]), Stop>
 }
 
 /// A number of two bytes, the high one first.
-pub(crate) fn u16_at(bytes: &[u8]) -> Result<(u16, &[u8]), Stop>
+fn u16_at(bytes: &[u8]) -> Result<(u16, &[u8]), Stop>
     ensures { Gives (λ x. (x.0, x.1.now)) result (number_at w16 bytes.now) }
 {
     if bytes.len() < 2 {
@@ -131,4 +133,47 @@ fn entry_at(alloc: Global, bytes: &[u8]) -> Result<(Entry, &[u8]), Stop>
         20 => u16_at(rest).map(|(name, rest)| (Entry::Package(name), rest)),
         _ => Err(Stop::Tag(1 + rest.len())),
     }
+}
+
+/// Puts an entry under the next index, and nothing under a second one that it takes.
+fn push_entry(slots: &mut Vec<Option<Entry>>, entry: Entry) -> Result<(), AllocError>
+    ensures { OnOk result (slots.new.items ≡ slots.old.items ++ cells entry) }
+{
+    let width = entry.width();
+    slots.push(Some(entry))?;
+    if width == 2 {
+        slots.push(None)?;
+    }
+    Ok(())
+}
+
+/// The entries of a pool of this count, by their indices from 0 on.
+fn slots_at(
+    alloc: Global,
+    count: u16,
+    bytes: &[u8],
+) -> Result<(Vec<Option<Entry>>, &[u8]), Stop>
+    ensures { MatchResult result (λ x. HasSlots count bytes.now x.0.items x.1.now) (HasStop count bytes.now) }
+{
+    let mut slots = Vec::new(alloc);
+    slots.push(None)?;
+    let mut rest = bytes;
+    while slots.len() < count as usize {
+        let (entry, after) = entry_at(alloc, rest)?;
+        push_entry(&mut slots, entry)?;
+        rest = after;
+    }
+    Ok((slots, rest))
+}
+
+/// The count of a pool and its entries, by their indices from 0 on (JVMS 4.1).
+pub(crate) fn layout_at(
+    alloc: Global,
+    bytes: &[u8],
+) -> Result<(u16, Vec<Option<Entry>>, &[u8]), Stop>
+    ensures { MatchResult result (λ x. IsLayout bytes.now x.0 x.1.items x.2.now) (StopsLayout bytes.now) }
+{
+    let (count, rest) = u16_at(bytes)?;
+    let (slots, rest) = slots_at(alloc, count, rest)?;
+    Ok((count, slots, rest))
 }

@@ -41,11 +41,16 @@ unfoldable pub is_text_from : List ℕ → ℕ → Bool
 is_text_from [] n = n == 0
 is_text_from (b ∷ bytes) n = holds (is_text_from bytes) (awaited n b)
 
+-- a run of bytes behind its length
+unfoldable pub sized_at : List ℕ → Result (List ℕ × List ℕ) Stop
+sized_at bytes = do
+  size ← number_at w16 bytes
+  run_at size.0 size.1
+
 -- a Utf8 behind its tag
 unfoldable pub text_at : List ℕ → Result (Entry × List ℕ) Stop
 text_at bytes = do
-  size ← number_at w16 bytes
-  text ← run_at size.0 size.1
+  text ← sized_at bytes
   if is_text_from text.0 0 then Ok (Utf8 text.0, text.1) else Err (stop.Utf8 (1 + length bytes))
 
 -- what stands behind a tag: a text, one number, two numbers, or nothing that is known

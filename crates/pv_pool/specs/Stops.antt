@@ -70,7 +70,7 @@ pub record IsLayout (bytes : List ℕ) (count : ℕ) (slots : List (Option Entry
   pub entries : List ℕ
   pub spelled : bytes ≡ to_be_bytes w16 count ++ entries
   pub fits : FitsNumber w16 count
-  pub slots : HasSlots count entries slots rest
+  pub has : HasSlots count entries slots rest
 
 pub record StopsInEntries (bytes : List ℕ) (s : Stop) : Type 0 where
   pub count : ℕ

@@ -7,7 +7,7 @@ ghost use Rattle.std.specs.Int.{w8, w16, w32, w64};
 ghost use Rattle.pv_pool.specs.declared.entry.Entry.TheVariants.{MethodHandle};
 ghost use Rattle.pv_pool.specs.Pools.{cells};
 ghost use Rattle.pv_pool.specs.Stops.{HasSlots, HasStop, IsLayout, StopsLayout};
-ghost use Rattle.pv_pool.specs.Reading.{Gives, number_at, run_at, text_at, pair_at, two_at, entry_at};
+ghost use Rattle.pv_pool.specs.Reading.{Gives, number_at, run_at, sized_at, text_at, pair_at, two_at, entry_at};
 
 use crate::entry::Entry;
 use crate::fault::Stop;
@@ -74,13 +74,21 @@ fn run_at(size: usize, bytes: &[u8]) -> Result<(&[u8], &[u8]), Stop>
     Ok(bytes.split_at(size))
 }
 
+/// A run of bytes behind its length, a number of two bytes.
+#[tactic(auto, unfolding(crate::specs::Reading::sized_at))]
+fn sized_at(bytes: &[u8]) -> Result<(&[u8], &[u8]), Stop>
+    ensures { Gives (λ x. (x.0.now, x.1.now)) result (sized_at bytes.now) }
+{
+    let (size, rest) = u16_at(bytes)?;
+    run_at(size as usize, rest)
+}
+
 /// A Utf8 behind its tag (JVMS 4.4.7).
 #[tactic(auto, unfolding(crate::specs::Reading::text_at))]
 fn text_at(alloc: Global, bytes: &[u8]) -> Result<(Entry, &[u8]), Stop>
     ensures { Gives (λ x. (x.0, x.1.now)) result (text_at bytes.now) }
 {
-    let (size, rest) = u16_at(bytes)?;
-    let (text, rest) = run_at(size as usize, rest)?;
+    let (text, rest) = sized_at(bytes)?;
     if !is_text(text) {
         return Err(Stop::Utf8(1 + bytes.len()));
     }

@@ -1,3 +1,4 @@
 pub mod Formats
 pub mod Groups
 pub mod Contents
+pub mod Entering

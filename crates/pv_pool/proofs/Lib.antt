@@ -2,3 +2,5 @@ pub mod Formats
 pub mod Groups
 pub mod Contents
 pub mod Entering
+pub mod Layouts
+pub mod References

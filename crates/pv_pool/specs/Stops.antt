@@ -60,10 +60,13 @@ pub record StopsBehind (count : ℕ) (bytes : List ℕ) (s : Stop) : Type 0 wher
   pub room : length (indices entries) < count
   pub stops : EntryStops rest s
 
--- unless memory ran out
+-- a fact, unless memory ran out
+abbrev pub UnlessMemory : Stop → Type 0 → Type 0
+UnlessMemory stop.Memory P = Unit {0}
+UnlessMemory s P = P
+
 abbrev pub HasStop : ℕ → List ℕ → Stop → Type 0
-HasStop count bytes stop.Memory = Unit {0}
-HasStop count bytes s = StopsBehind count bytes s
+HasStop count bytes s = UnlessMemory s (StopsBehind count bytes s)
 
 -- the count, and the entries by their indices
 pub record IsLayout (bytes : List ℕ) (count : ℕ) (slots : List (Option Entry)) (rest : List ℕ) : Type 0 where
@@ -72,13 +75,17 @@ pub record IsLayout (bytes : List ℕ) (count : ℕ) (slots : List (Option Entry
   pub fits : FitsNumber w16 count
   pub has : HasSlots count entries slots rest
 
+-- an entry behind the count is not read
 pub record StopsInEntries (bytes : List ℕ) (s : Stop) : Type 0 where
   pub count : ℕ
   pub entries : List ℕ
   pub spelled : bytes ≡ to_be_bytes w16 count ++ entries
   pub fits : FitsNumber w16 count
-  pub stops : HasStop count entries s
+  pub stops : StopsBehind count entries s
 
 -- the count is cut, or an entry is not read
+abbrev pub StopsPool : List ℕ → Stop → Type 0
+StopsPool bytes s = ((s ≡ stop.Truncated (length bytes)) × (length bytes < 2)) ⊎ StopsInEntries bytes s
+
 abbrev pub StopsLayout : List ℕ → Stop → Type 0
-StopsLayout bytes s = ((s ≡ stop.Truncated (length bytes)) × (length bytes < 2)) ⊎ StopsInEntries bytes s
+StopsLayout bytes s = UnlessMemory s (StopsPool bytes s)

@@ -4,3 +4,4 @@ pub mod Contents
 pub mod Entering
 pub mod Layouts
 pub mod References
+pub mod Members

@@ -67,9 +67,6 @@ stop_answers file at stop.Memory le h = tt
 -- ---- the pool
 
 module _ (file : List ℕ) (at count : ℕ) (slots : List (Option Entry)) (rest : List ℕ) (le : at ≤ length file) (l : IsLayout (drop at file) count slots rest) where
-  pool : List Entry
-  pool = entries_of slots
-
   parts : drop at file ≡ spelling count (entries_of slots) ++ rest
   parts = spelled_behind count (entries_of slots) (drop at file) l.entries rest l.spelled l.has.read.spelled
 

@@ -98,8 +98,8 @@ module _ (file : List ℕ) (at count : ℕ) (slots : List (Option Entry)) (rest 
       let front = spelling count b.before in
       let behind = flat_map entry_text (b.entry ∷ b.after) ++ rest in
       let texts : spelling count (entries_of slots) ≡ front ++ flat_map entry_text (b.entry ∷ b.after) =
-          ap (spelling count) b.parts ∙ ap (λ (u : List ℕ). to_be_bytes w16 count ++ u) (flat_map-append entry_text b.before (b.entry ∷ b.after))
-          ∙ sym (append_assoc (to_be_bytes w16 count) (flat_map entry_text b.before) (flat_map entry_text (b.entry ∷ b.after))) in
+      ap (spelling count) b.parts ∙ ap (λ (u : List ℕ). to_be_bytes w16 count ++ u) (flat_map-append entry_text b.before (b.entry ∷ b.after))
+      ∙ sym (append_assoc (to_be_bytes w16 count) (flat_map entry_text b.before) (flat_map entry_text (b.entry ∷ b.after))) in
       let P : List Entry → Type 0 = λ u. AllByRecursion (Refers u) b.before × ((Refers u b.entry → ⊥) ⊎ (count < length (indices (b.before ++ b.entry ∷ [])))) × AllByRecursion IsEntry u × IsWhole count u in
       let whole : IsWhole count (entries_of slots) = record { each = l.has.read.below; enough = omega (arith, l.has.enough, long) } in
       let moved = subst P b.parts (b.good, b.bad, l.has.read.each, whole) in

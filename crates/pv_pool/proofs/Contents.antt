@@ -308,15 +308,15 @@ module _ (tag : ℕ) (v w : Width) (make : ℕ → ℕ → Entry) (is : Makes ta
       let contents : number v o.0 ∷ number w o.1 ∷ [] ≡ c.before ++ c.item ∷ c.after = sym (ap contents_of o.2 ∙ (is.2 o.0 o.1).1) ∙ c.items in
       let all : AllByRecursion FitsItem (number v o.0 ∷ number w o.1 ∷ []) = let P : List Item → Type 0 = AllByRecursion FitsItem in subst P (ap contents_of o.2 ∙ (is.2 o.0 o.1).1) c.fits in
       elim (split_two (number v o.0) (number w o.1) c.before c.item c.after contents) [
-        inl s ↦
-          let rest : bytes ≡ c.rest = c.stands ∙ ap (λ (b : List Item). flat_map item_text b ++ c.rest) s.0 in
-          let size : length (item_text c.item) ≡ byte_len v = ap (λ (i : Item). length (item_text i)) s.1 ∙ is.0.len o.0 in
-          let same : length bytes ≡ length c.rest = ap length rest in
-          inl (ap stop.Truncated (c.far ∙ sym same), omega (arith, same, size, c.short))
-      | inr s ↦
-          let rest : bytes ≡ to_be_bytes v o.0 ++ c.rest = c.stands ∙ ap (λ (b : List Item). flat_map item_text b ++ c.rest) s.0 ∙ ap (λ (u : List ℕ). u ++ c.rest) (one_text (number v o.0)) in
-          let size : length (item_text c.item) ≡ byte_len w = ap (λ (i : Item). length (item_text i)) s.1 ∙ is.1.len o.1 in
-          inr (o.0, c.rest, rest, all.0, (ap stop.Truncated c.far, omega (arith, size, c.short)))
+        | inl s ↦
+            let rest : bytes ≡ c.rest = c.stands ∙ ap (λ (b : List Item). flat_map item_text b ++ c.rest) s.0 in
+            let size : length (item_text c.item) ≡ byte_len v = ap (λ (i : Item). length (item_text i)) s.1 ∙ is.0.len o.0 in
+            let same : length bytes ≡ length c.rest = ap length rest in
+            inl (ap stop.Truncated (c.far ∙ sym same), omega (arith, same, size, c.short))
+        | inr s ↦
+            let rest : bytes ≡ to_be_bytes v o.0 ++ c.rest = c.stands ∙ ap (λ (b : List Item). flat_map item_text b ++ c.rest) s.0 ∙ ap (λ (u : List ℕ). u ++ c.rest) (one_text (number v o.0)) in
+            let size : length (item_text c.item) ≡ byte_len w = ap (λ (i : Item). length (item_text i)) s.1 ∙ is.1.len o.1 in
+            inr (o.0, c.rest, rest, all.0, (ap stop.Truncated c.far, omega (arith, size, c.short)))
       ]
 
   two_back : (bytes : List ℕ) (e : Stop) → IsBytes bytes → ContentsStop tag bytes e → Either (ℕ × ℕ) (IsPair v w) (CutsPair v w) (λ p. Never) bytes e
@@ -439,20 +439,20 @@ text_fails : (bytes : List ℕ) (e : Stop) → IsBytes bytes → text_at bytes �
 unfolding text_at formed
 text_fails bytes e fits h =
     elim (bind_err (sized_at bytes) (formed (1 + length bytes)) e h) [
-      inl here ↦ text_cut bytes e (sized_format.fails bytes e fits here)
-    | inr b ↦
-      let p = sized_format.takes bytes b.0 fits b.1 in
-      let g = test_err (is_text_from b.0.0 0) (stop.Utf8 (1 + length bytes)) e (Utf8 b.0.0, b.0.1) b.2 in
-      let made : IllContents 1 bytes (1 + length bytes) = record {
-        written = b.0.0;
-        others = b.0.1;
-        tagged = refl;
-        stands = p.1 ∙ ap (λ (u : List ℕ). u ++ b.0.1) p.2.0;
-        fits = p.2.1;
-        ill = no_text_of_test b.0.0 g.0;
-        far = refl;
-      } in
-      subst (ContentsStop 1 bytes) g.1 made
+      | inl here ↦ text_cut bytes e (sized_format.fails bytes e fits here)
+      | inr b ↦
+          let p = sized_format.takes bytes b.0 fits b.1 in
+          let g = test_err (is_text_from b.0.0 0) (stop.Utf8 (1 + length bytes)) e (Utf8 b.0.0, b.0.1) b.2 in
+          let made : IllContents 1 bytes (1 + length bytes) = record {
+            written = b.0.0;
+            others = b.0.1;
+            tagged = refl;
+            stands = p.1 ∙ ap (λ (u : List ℕ). u ++ b.0.1) p.2.0;
+            fits = p.2.1;
+            ill = no_text_of_test b.0.0 g.0;
+            far = refl;
+          } in
+          subst (ContentsStop 1 bytes) g.1 made
     ]
 
 text_cut_back : (bytes : List ℕ) (left : ℕ) → CutsContents 1 bytes left → CutsSized bytes (stop.Truncated left)
@@ -462,15 +462,15 @@ text_cut_back bytes left c =
     let contents : number w16 n ∷ run o.0 ∷ [] ≡ c.before ++ c.item ∷ c.after = sym (ap contents_of o.1) ∙ c.items in
     let all : AllByRecursion FitsItem (number w16 n ∷ run o.0 ∷ []) = let P : List Item → Type 0 = AllByRecursion FitsItem in subst P (ap contents_of o.1) c.fits in
     elim (split_two (number w16 n) (run o.0) c.before c.item c.after contents) [
-      inl s ↦
-        let rest : bytes ≡ c.rest = c.stands ∙ ap (λ (b : List Item). flat_map item_text b ++ c.rest) s.0 in
-        let size : length (item_text c.item) ≡ 2 = ap (λ (i : Item). length (item_text i)) s.1 in
-        let same : length bytes ≡ length c.rest = ap length rest in
-        inl (ap stop.Truncated (c.far ∙ sym same), omega (arith, same, size, c.short))
-    | inr s ↦
-        let rest : bytes ≡ to_be_bytes w16 n ++ c.rest = c.stands ∙ ap (λ (b : List Item). flat_map item_text b ++ c.rest) s.0 ∙ ap (λ (u : List ℕ). u ++ c.rest) (one_text (number w16 n)) in
-        let size : length (item_text c.item) ≡ n = ap (λ (i : Item). length (item_text i)) s.1 in
-        inr (n, c.rest, rest, all.0, (ap stop.Truncated c.far, omega (arith, size, c.short)))
+      | inl s ↦
+          let rest : bytes ≡ c.rest = c.stands ∙ ap (λ (b : List Item). flat_map item_text b ++ c.rest) s.0 in
+          let size : length (item_text c.item) ≡ 2 = ap (λ (i : Item). length (item_text i)) s.1 in
+          let same : length bytes ≡ length c.rest = ap length rest in
+          inl (ap stop.Truncated (c.far ∙ sym same), omega (arith, same, size, c.short))
+      | inr s ↦
+          let rest : bytes ≡ to_be_bytes w16 n ++ c.rest = c.stands ∙ ap (λ (b : List Item). flat_map item_text b ++ c.rest) s.0 ∙ ap (λ (u : List ℕ). u ++ c.rest) (one_text (number w16 n)) in
+          let size : length (item_text c.item) ≡ n = ap (λ (i : Item). length (item_text i)) s.1 in
+          inr (n, c.rest, rest, all.0, (ap stop.Truncated c.far, omega (arith, size, c.short)))
     ]
 
 text_stops : (bytes : List ℕ) (e : Stop) → IsBytes bytes → ContentsStop 1 bytes e → text_at bytes ≡ Err e

@@ -110,7 +110,7 @@ out bytes (stop.Utf8 left) (inr b) =
     let t = c.written in
     let text : entry_text (Utf8 t) ≡ 1 ∷ (to_be_bytes w16 (length t) ++ t) = front_text 1 (contents_of (Utf8 t)) ∙ ap (λ (u : List ℕ). 1 ∷ u) (flat_map-cons item_text (number w16 (length t)) (run t ∷ []) ∙ ap (λ (u : List ℕ). to_be_bytes w16 (length t) ++ u) (one_text (run t))) in
     let stands : bytes ≡ entry_text (Utf8 t) ++ c.others =
-        is ∙ ap (λ (n : ℕ). n ∷ b.back) (sym c.tagged) ∙ ap (λ (u : List ℕ). 1 ∷ u) c.stands ∙ ap (λ (u : List ℕ). u ++ c.others) (sym text) in
+    is ∙ ap (λ (n : ℕ). n ∷ b.back) (sym c.tagged) ∙ ap (λ (u : List ℕ). 1 ∷ u) c.stands ∙ ap (λ (u : List ℕ). u ++ c.others) (sym text) in
     (c.far ∙ sym (longer bytes b.first b.back is), record { text = t; others = c.others; stands = stands; fits = (omega arith, (c.fits, (tt, tt))); ill = c.ill })
 out bytes stop.Memory (inr b) = b.stops
 

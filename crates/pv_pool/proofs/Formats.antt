@@ -105,18 +105,18 @@ then_format {A = A} {B = B} {r = r} {q = q} f g =
           ∙ (g s.first).again s.back y rest s.others;
       fails = λ bytes e fits h.
           elim (bind_err (r bytes) k e h) [
-            inl here ↦ inl (f.fails bytes e fits here)
-          | inr b ↦
-            let p = f.takes bytes b.0 fits b.1 in
-            inr (record { first = b.0.0; front = p.0; back = b.0.1; parts = p.1; fits = p.2; stops = (g b.0.0).fails b.0.1 e (bytes_behind bytes p.0 b.0.1 p.1 fits) b.2 })
+            | inl here ↦ inl (f.fails bytes e fits here)
+            | inr b ↦
+                let p = f.takes bytes b.0 fits b.1 in
+                inr (record { first = b.0.0; front = p.0; back = b.0.1; parts = p.1; fits = p.2; stops = (g b.0.0).fails b.0.1 e (bytes_behind bytes p.0 b.0.1 p.1 fits) b.2 })
           ];
       stops = λ bytes e fits h.
           elim h [
-            inl here ↦ ap (λ (o : Result (A × List ℕ) Stop). o >>= k) (f.stops bytes e fits here)
-          | inr s ↦
-            ap (λ (b : List ℕ). r b >>= k) s.parts
-            ∙ ap (λ (o : Result (A × List ℕ) Stop). o >>= k) (f.again s.front s.first s.back s.fits)
-            ∙ (g s.first).stops s.back e (bytes_behind bytes s.front s.back s.parts fits) s.stops
+            | inl here ↦ ap (λ (o : Result (A × List ℕ) Stop). o >>= k) (f.stops bytes e fits here)
+            | inr s ↦
+                ap (λ (b : List ℕ). r b >>= k) s.parts
+                ∙ ap (λ (o : Result (A × List ℕ) Stop). o >>= k) (f.again s.front s.first s.back s.fits)
+                ∙ (g s.first).stops s.back e (bytes_behind bytes s.front s.back s.parts fits) s.stops
           ];
     }
 

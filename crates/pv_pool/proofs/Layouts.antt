@@ -39,8 +39,8 @@ split_snoc (y ∷ xs) x (b ∷ before) e after h =
     let tail : xs ++ x ∷ [] ≡ before ++ e ∷ after = cc in
     let head : b ≡ y = cc in
     elim (split_snoc xs x before e after tail) [
-      inl same ↦ inl cc
-    | inr s ↦ inr (s.0, let rest = s.1 in cc)
+      | inl same ↦ inl cc
+      | inr s ↦ inr (s.0, let rest = s.1 in cc)
     ]
 
 -- ---- entries and their indices
@@ -77,8 +77,8 @@ more count bytes es rest e t after r room parts text is = record {
   each = all_snoc IsEntry es e r.each is;
   below = λ before others d h.
       elim (split_snoc es e before d others h) [
-        inl same ↦ let P : List Entry → Type 0 = λ u. length (indices u) < count in subst P (sym same) room
-      | inr s ↦ r.below before s.0 d s.1
+        | inl same ↦ let P : List Entry → Type 0 = λ u. length (indices u) < count in subst P (sym same) room
+        | inr s ↦ r.below before s.0 d s.1
       ];
 }
 

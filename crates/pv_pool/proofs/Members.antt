@@ -33,10 +33,12 @@ module _ (slots : List (Option Entry)) (is : IsSlots slots) where
       let r = refers i (NameAndType h.0 h.1) h.2 in
       let name = text_found h.0 r.0 in
       let desc = text_found h.1 r.1 in
-      let pool = entries_of slots in
-      ((name.0, desc.0), ap (λ (o : Option Entry). o >>= λ entry. name_and_type_of entry >>= λ named. text_under pool named.0 >>= λ name. text_under pool named.1 >>= λ desc. Some (name, desc)) h.2
-          ∙ ap (λ (o : Option (List ℕ)). o >>= λ n. text_under pool h.1 >>= λ d. Some (n, d)) name.1
-          ∙ ap (λ (o : Option (List ℕ)). o >>= λ d. Some (name.0, d)) desc.1)
+      let pool = entries_of slots in (
+        (name.0, desc.0),
+        ap (λ (o : Option Entry). o >>= λ entry. name_and_type_of entry >>= λ named. text_under pool named.0 >>= λ name. text_under pool named.1 >>= λ desc. Some (name, desc)) h.2
+            ∙ ap (λ (o : Option (List ℕ)). o >>= λ n. text_under pool h.1 >>= λ d. Some (n, d)) name.1
+            ∙ ap (λ (o : Option (List ℕ)). o >>= λ d. Some (name.0, d)) desc.1,
+      )
 
   parts : (p q : ℕ × ℕ) → Some p ≡ Some q → HasClass (entries_of slots) p.0 × HasNameAndType (entries_of slots) p.1 → HasClass (entries_of slots) q.0 × HasNameAndType (entries_of slots) q.1
   parts p q h r =

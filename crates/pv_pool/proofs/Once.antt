@@ -160,9 +160,9 @@ two_splits (a ∷ xs) (b ∷ ys) x y us vs h =
     let head : a ≡ b = cc in
     let tail : xs ++ x ∷ us ≡ ys ++ y ∷ vs = cc in
     elim (two_splits xs ys x y us vs tail) [
-      inl same ↦ inl cc
-    | inr (inl m) ↦ inr (inl (m.0, let rest = m.1 in cc))
-    | inr (inr m) ↦ inr (inr (m.0, let rest = m.1 in cc))
+      | inl same ↦ inl cc
+      | inr (inl m) ↦ inr (inl (m.0, let rest = m.1 in cc))
+      | inr (inr m) ↦ inr (inr (m.0, let rest = m.1 in cc))
     ]
 
 not_before : (count : ℕ) (pool before other m : List Entry) (h : HasBad count pool before) → HasBad count pool other → other ≡ before ++ h.entry ∷ m → ⊥
@@ -176,9 +176,9 @@ not_before count pool before other m h k longer = go h.bad where
 one_bad : (count : ℕ) (pool before other : List Entry) → HasBad count pool before → HasBad count pool other → before ≡ other
 one_bad count pool before other h k =
     elim (two_splits before other h.entry k.entry h.after k.after (sym h.parts ∙ k.parts)) [
-      inl same ↦ same
-    | inr (inl m) ↦ absurd (not_before count pool before other m.0 h k m.1)
-    | inr (inr m) ↦ absurd (not_before count pool other before m.0 k h m.1)
+      | inl same ↦ same
+      | inr (inl m) ↦ absurd (not_before count pool before other m.0 h k m.1)
+      | inr (inr m) ↦ absurd (not_before count pool other before m.0 k h m.1)
     ]
 
 -- ---- answers
@@ -205,10 +205,15 @@ found_pool file at pool after le p =
     let parts : drop at file ≡ spelling t.count pool ++ p.rest = p.stands ∙ ap (λ (u : List ℕ). u ++ p.rest) t.spelled in
     let place = p.behind ∙ place_left file at p.text p.rest le p.stands in
     let room : length (indices pool) ≤ max 1 t.count = omega (arith, t.counted) in
-    inr (t.count, pool, p.rest, record {
-      is = reads_whole t.count pool (drop at file) p.rest parts t.fits t.entries (whole_of t.count pool t.counted);
-      then = inl ((t.references, room), ap (λ (n : ℕ). Ok (pool, n)) place);
-    })
+    inr (
+      t.count,
+      pool,
+      p.rest,
+      record {
+        is = reads_whole t.count pool (drop at file) p.rest parts t.fits t.entries (whole_of t.count pool t.counted);
+        then = inl ((t.references, room), ap (λ (n : ℕ). Ok (pool, n)) place);
+      },
+    )
 
 found_stop : (file : List ℕ) (at : ℕ) (s : Stop) (f : PoolFault) → f ≡ fault_of (length file) s → read (drop at file) ≡ Err s → Found file at (Err f)
 found_stop file at s f is r = inl (s, r, ap (λ (g : PoolFault). Err g) is)
@@ -222,14 +227,19 @@ found_reference file at place p =
     let pool = n.before ++ n.entry ∷ n.after in
     let texts : flat_map entry_text n.before ++ flat_map entry_text (n.entry ∷ n.after) ≡ flat_map entry_text pool = sym (flat_map-append entry_text n.before (n.entry ∷ n.after)) in
     let parts : drop at file ≡ spelling n.count pool ++ n.others =
-        p.stands ∙ ap (λ (u : List ℕ). u ++ p.rest) n.spelled ∙ ap (λ (u : List ℕ). spelling n.count n.before ++ u) n.stands
-        ∙ sym (append_assoc (spelling n.count n.before) (flat_map entry_text (n.entry ∷ n.after)) n.others)
-        ∙ ap (λ (u : List ℕ). u ++ n.others) (append_assoc (to_be_bytes w16 n.count) (flat_map entry_text n.before) (flat_map entry_text (n.entry ∷ n.after)) ∙ ap (λ (u : List ℕ). to_be_bytes w16 n.count ++ u) texts) in
+    p.stands ∙ ap (λ (u : List ℕ). u ++ p.rest) n.spelled ∙ ap (λ (u : List ℕ). spelling n.count n.before ++ u) n.stands
+    ∙ sym (append_assoc (spelling n.count n.before) (flat_map entry_text (n.entry ∷ n.after)) n.others)
+    ∙ ap (λ (u : List ℕ). u ++ n.others) (append_assoc (to_be_bytes w16 n.count) (flat_map entry_text n.before) (flat_map entry_text (n.entry ∷ n.after)) ∙ ap (λ (u : List ℕ). to_be_bytes w16 n.count ++ u) texts) in
     let bad : HasBad n.count pool n.before = record { entry = n.entry; after = n.after; parts = refl; whole = n.whole; good = n.good; bad = n.bad } in
-    inr (n.count, pool, n.others, record {
-      is = reads_whole n.count pool (drop at file) n.others parts n.fits n.each n.whole;
-      then = inr (n.before, bad, ap (λ (k : ℕ). Err (fault.Reference k)) (p.far ∙ ap (λ (u : List ℕ). at + length u) n.spelled));
-    })
+    inr (
+      n.count,
+      pool,
+      n.others,
+      record {
+        is = reads_whole n.count pool (drop at file) n.others parts n.fits n.each n.whole;
+        then = inr (n.before, bad, ap (λ (k : ℕ). Err (fault.Reference k)) (p.far ∙ ap (λ (u : List ℕ). at + length u) n.spelled));
+      },
+    )
 
 found_cut : (file : List ℕ) (at place : ℕ) (front rest : List ℕ) → at ≤ length file → IsBytes (drop at file) → drop at file ≡ front ++ rest → place ≡ at + length front → IsTruncated front rest → Found file at (Err (fault.Truncated place))
 found_cut file at place front rest le fits stands far (inl h) =

@@ -81,6 +81,6 @@ module _ (slots : List (Option Entry)) (i : ℕ) (d : Option Entry) (lt : i < le
       let done = entries_of (take i slots) in
       let after = entries_of (drop (suc i) slots) in
       let whole : flat_map entry_text (entries_of slots) ≡ flat_map entry_text done ++ (entry_text e ++ flat_map entry_text after) =
-          ap (flat_map entry_text) (all_parts e is) ∙ flat_map-append entry_text done (e ∷ after) ∙ ap (λ (u : List ℕ). flat_map entry_text done ++ u) (flat_map-cons entry_text e after) in
+      ap (flat_map entry_text) (all_parts e is) ∙ flat_map-append entry_text done (e ∷ after) ∙ ap (λ (u : List ℕ). flat_map entry_text done ++ u) (flat_map-cons entry_text e after) in
       let long = ap length whole ∙ length-append (flat_map entry_text done) (entry_text e ++ flat_map entry_text after) in
       omega (arith, long, length-append (entry_text e) (flat_map entry_text after), s.far)

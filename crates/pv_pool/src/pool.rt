@@ -1,11 +1,8 @@
 //! Constant pools.
 
-ghost use Rattle.std.specs.Prelude.{◌≡◌, ◌↔◌, ◌+◌, ◌<◌, ◌≤◌, ◌^◌, length, drop, IfOk, IsSome, IsTrue, MatchOption};
-ghost use Rattle.std.specs.List.{flat_map};
+ghost use Rattle.std.specs.Prelude.{◌≡◌, ◌↔◌, ◌≤◌, length, IfOk, IsSome};
 ghost use Rattle.std.specs.Option.{option_map};
-ghost use Rattle.pv_pool.specs.Entries.{entry_text};
-ghost use Rattle.pv_pool.specs.Pools.{indices, under, entry_under, HasText, HasClass, HasNameAndType, Refers};
-ghost use Rattle.pv_pool.specs.Slots.{entries_of, AreGood, IsFirstBad};
+ghost use Rattle.pv_pool.specs.Pools.{entry_under};
 ghost use Rattle.pv_pool.specs.Answers.{Answers, Tells};
 ghost use Rattle.pv_pool.specs.Readers.{text_under, class_name_under, named_under, constant_under, member_under, HasMember};
 
@@ -13,81 +10,10 @@ use crate::constant::{Constant, Member};
 use crate::entry::Entry;
 use crate::fault::PoolFault;
 use crate::reading::layout_at;
+use crate::slots::{bad_reference, under};
 use pv_value::{Memory, Name, Sym};
 use std::alloc::Global;
 use std::marker::Model;
-
-/// The entry under an index, where slots are what stands under each index.
-pub(crate) fn under(slots: &[Option<Entry>], i: u16) -> Option<&Entry>
-    ensures { option_map (λ entry. entry.now) result ≡ under slots.now i }
-{
-    match slots.get(i as usize) {
-        Some(Some(entry)) => Some(entry),
-        _ => None,
-    }
-}
-
-/// Whether a Utf8 is under an index.
-fn has_text(slots: &[Option<Entry>], i: u16) -> bool
-    requires { slots.now ≡ indices (entries_of slots.now) }
-    ensures { IsTrue result ↔ HasText (entries_of slots.now) i }
-{
-    matches!(under(slots, i), Some(Entry::Utf8(_)))
-}
-
-/// Whether a Class is under an index.
-fn has_class(slots: &[Option<Entry>], i: u16) -> bool
-    requires { slots.now ≡ indices (entries_of slots.now) }
-    ensures { IsTrue result ↔ HasClass (entries_of slots.now) i }
-{
-    matches!(under(slots, i), Some(Entry::Class(_)))
-}
-
-/// Whether a NameAndType is under an index.
-fn has_named(slots: &[Option<Entry>], i: u16) -> bool
-    requires { slots.now ≡ indices (entries_of slots.now) }
-    ensures { IsTrue result ↔ HasNameAndType (entries_of slots.now) i }
-{
-    matches!(under(slots, i), Some(Entry::NameAndType(..)))
-}
-
-/// Whether what an entry refers to is of the right kind.
-fn refers(slots: &[Option<Entry>], entry: &Entry) -> bool
-    requires { slots.now ≡ indices (entries_of slots.now) }
-    ensures { IsTrue result ↔ Refers (entries_of slots.now) entry.now }
-{
-    match entry {
-        Entry::Class(text) | Entry::Text(text) => has_text(slots, *text),
-        Entry::Fieldref(class, named)
-        | Entry::Methodref(class, named)
-        | Entry::InterfaceMethodref(class, named) => {
-            has_class(slots, *class) && has_named(slots, *named)
-        }
-        Entry::NameAndType(name, desc) => has_text(slots, *name) && has_text(slots, *desc),
-        _ => true,
-    }
-}
-
-/// Where the first entry begins that refers to what it may not, or whose last index isn't below
-/// the count, if there is one. The first entry of all begins at `first`.
-fn bad_reference(slots: &[Option<Entry>], count: u16, first: usize) -> Option<usize>
-    requires placed { slots.now ≡ indices (entries_of slots.now) }
-    requires within { first + length (flat_map entry_text (entries_of slots.now)) < 2 ^ 64 }
-    ensures { MatchOption result (AreGood slots.now count) (IsFirstBad slots.now count first) }
-{
-    let mut at = first;
-    let mut taken = 1;
-    for slot in slots {
-        if let Some(entry) = slot {
-            taken += entry.width();
-            if taken > count as usize || !refers(slots, entry) {
-                return Some(at);
-            }
-            at += entry.size();
-        }
-    }
-    None
-}
 
 /// A well-formed constant pool (JVMS 4.4), seen as its entries in order.
 ///

@@ -19,11 +19,10 @@ use std::alloc::{AllocError, Global};
 fn u8_at(bytes: &[u8]) -> Result<(u8, &[u8]), Stop>
     ensures { Gives (λ x. (x.0, x.1.now)) result (number_at w8 bytes.now) }
 {
-    if bytes.len() < 1 {
-        return Err(Stop::Truncated(bytes.len()));
+    match bytes {
+        [number, rest @ ..] => Ok((*number, rest)),
+        [] => Err(Stop::Truncated(0)),
     }
-    let (front, rest) = bytes.split_at(1);
-    Ok((front[0], rest))
 }
 
 /// A number of two bytes, the high one first.
@@ -131,12 +130,18 @@ fn entry_at(alloc: Global, bytes: &[u8]) -> Result<(Entry, &[u8]), Stop>
         8 => u16_at(rest).map(|(text, rest)| (Entry::Text(text), rest)),
         9 => pair_at(rest).map(|((class, named), rest)| (Entry::Fieldref(class, named), rest)),
         10 => pair_at(rest).map(|((class, named), rest)| (Entry::Methodref(class, named), rest)),
-        11 => pair_at(rest).map(|((class, named), rest)| (Entry::InterfaceMethodref(class, named), rest)),
+        11 => pair_at(rest).map(|((class, named), rest)| (
+            Entry::InterfaceMethodref(class, named),
+            rest,
+        )),
         12 => pair_at(rest).map(|((name, desc), rest)| (Entry::NameAndType(name, desc), rest)),
         15 => handle_at(rest),
         16 => u16_at(rest).map(|(desc, rest)| (Entry::MethodType(desc), rest)),
         17 => pair_at(rest).map(|((method, named), rest)| (Entry::Dynamic(method, named), rest)),
-        18 => pair_at(rest).map(|((method, named), rest)| (Entry::InvokeDynamic(method, named), rest)),
+        18 => pair_at(rest).map(|((method, named), rest)| (
+            Entry::InvokeDynamic(method, named),
+            rest,
+        )),
         19 => u16_at(rest).map(|(name, rest)| (Entry::Module(name), rest)),
         20 => u16_at(rest).map(|(name, rest)| (Entry::Package(name), rest)),
         _ => Err(Stop::Tag(1 + rest.len())),
@@ -156,11 +161,7 @@ fn push_entry(slots: &mut Vec<Option<Entry>>, entry: Entry) -> Result<(), AllocE
 }
 
 /// The entries of a pool of this count, by their indices from 0 on.
-fn slots_at(
-    alloc: Global,
-    count: u16,
-    bytes: &[u8],
-) -> Result<(Vec<Option<Entry>>, &[u8]), Stop>
+fn slots_at(alloc: Global, count: u16, bytes: &[u8]) -> Result<(Vec<Option<Entry>>, &[u8]), Stop>
     ensures { MatchResult result (λ x. HasSlots count bytes.now x.0.items x.1.now) (HasStop count bytes.now) }
 {
     let mut slots = Vec::new(alloc);

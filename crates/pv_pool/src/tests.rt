@@ -5,7 +5,8 @@ const LONG: &[u8] = &[0, 4, 5, 0, 0, 0, 0, 0, 0, 0, 1, 3, 0, 0, 0, 7];
 
 // A Methodref under 1, whose Class is under 2 and whose NameAndType is under 4.
 const METHOD: &[u8] = &[
-    0, 7, 10, 0, 2, 0, 4, 7, 0, 3, 1, 0, 1, b'A', 12, 0, 5, 0, 6, 1, 0, 1, b'f', 1, 0, 3, b'(', b')', b'V', 9,
+    0, 7, 10, 0, 2, 0, 4, 7, 0, 3, 1, 0, 1, b'A', 12, 0, 5, 0, 6, 1, 0, 1, b'f', 1, 0, 3, b'(',
+    b')', b'V', 9,
 ];
 
 #[test]
@@ -43,7 +44,11 @@ fn members(rt: HostRuntime) -> Result<(), Fail> {
 
 #[test]
 fn no_entries(rt: HostRuntime) -> Result<(), Fail> {
-    let table: [(&[u8], usize, usize); 3] = [(&[0, 0], 0, 2), (&[0, 1, 9], 0, 2), (&[9, 0, 0], 1, 3)];
+    let table: [(&[u8], usize, usize); 3] = [
+        (&[0, 0], 0, 2),
+        (&[0, 1, 9], 0, 2),
+        (&[9, 0, 0], 1, 3),
+    ];
     for (bytes, at, end) in table {
         let (pool, after) = read_pool(rt.alloc(), bytes, at)?;
         assert_eq!(rt; after, end);
@@ -55,7 +60,11 @@ fn no_entries(rt: HostRuntime) -> Result<(), Fail> {
 #[test]
 fn faults(rt: HostRuntime) -> Result<(), Fail> {
     let table: [(&[u8], usize, PoolFault); 10] = [
-        (&[0, 2, 5, 0, 0, 0, 0, 0, 0, 0, 1], 0, PoolFault::Reference(2)),
+        (
+            &[0, 2, 5, 0, 0, 0, 0, 0, 0, 0, 1],
+            0,
+            PoolFault::Reference(2),
+        ),
         (&[0, 2, 1, 0, 1, 0xF0], 0, PoolFault::Utf8(2)),
         (&[0, 2, 2], 0, PoolFault::Tag(2)),
         (&[0], 0, PoolFault::Truncated(0)),
@@ -66,7 +75,11 @@ fn faults(rt: HostRuntime) -> Result<(), Fail> {
         (&[0, 2, 1, 0, 2, b'a'], 0, PoolFault::Truncated(5)),
         // the class of a Methodref is a Utf8, but the last entry is unknown
         (&[0, 4, 10, 0, 2, 0, 2, 1, 0, 0, 13], 0, PoolFault::Tag(10)),
-        (&[7, 0, 3, 1, 0, 0, 10, 0, 1, 0, 1], 1, PoolFault::Reference(6)),
+        (
+            &[7, 0, 3, 1, 0, 0, 10, 0, 1, 0, 1],
+            1,
+            PoolFault::Reference(6),
+        ),
     ];
     for (bytes, at, fault) in table {
         match read_pool(rt.alloc(), bytes, at) {

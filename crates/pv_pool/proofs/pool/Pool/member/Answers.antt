@@ -15,12 +15,12 @@ returns-in_default-2-clause-some c =
     let P : List Entry → Type 0 = λ pool. named_under pool c.in-Some-parts.named ≡ Some found.1.0 in
     let Q : List Entry → Type 0 = λ pool. class_name_under pool c.in-Some-parts.class ≡ Some found.0.0 in
     elim c.in_default-2.branch [
-      in_default-2-via-in-Some+in_default w ↦
-        let some = subst P c.self.view_is found.1.1 in
-        let none = rw w.in_default-2.is-1 at c.named.ensures in
-        absurd (cc)
-    | in_default-2-via-in_default w ↦
-        let some = subst Q c.self.view_is found.0.1 in
-        let none = rw w.in_default-2.is-0 at c.class_name.ensures in
-        absurd (cc)
+      | in_default-2-via-in-Some+in_default w ↦
+          let some = subst P c.self.view_is found.1.1 in
+          let none = rw w.in_default-2.is-1 at c.named.ensures in
+          absurd (cc)
+      | in_default-2-via-in_default w ↦
+          let some = subst Q c.self.view_is found.0.1 in
+          let none = rw w.in_default-2.is-0 at c.class_name.ensures in
+          absurd (cc)
     ]

@@ -1,9 +1,9 @@
 -- What stands behind a tag: it is read exactly where it spells the contents of an entry with that tag.
-use Rattle.std.proofs.Common.{◌≡◌, ◌⊎◌, inl, inr, ℕ, zero, suc, ◌+◌, ◌^◌, ◌<◌, Bool, true, false, cond, eqb, List, [], ◌∷◌, ◌++◌, length, Result, Ok, Err, refl, sym, ap, subst, ◌∙◌, append_assoc, arith}
+use Rattle.std.proofs.Common.{◌≡◌, ◌⊎◌, inl, inr, ℕ, zero, suc, ◌+◌, ◌<◌, Bool, true, false, cond, eqb, List, [], ◌∷◌, ◌++◌, length, Result, Ok, Err, refl, sym, ap, subst, ◌∙◌, arith}
 use Rattle.std.specs.List.{flat_map, AllByRecursion}
 use Rattle.std.specs.Int.{Width, w8, w16, w32, w64, byte_len, to_be_bytes}
 use Rattle.std.proofs.lemmas.Bool.{eqb-true}
-use Rattle.std.proofs.lemmas.List.{append-nil, length-append}
+use Rattle.std.proofs.lemmas.List.{append-nil}
 use Rattle.std.proofs.lemmas.List.Concat.{flat_map-cons}
 use Rattle.pv_pool.specs.declared.entry.Entry.{Entry}
 use Rattle.pv_pool.specs.declared.entry.Entry.TheVariants.{Utf8, Integer, Float, Long, Double, Class, Text, Fieldref, Methodref, InterfaceMethodref, NameAndType, MethodHandle, MethodType, Dynamic, InvokeDynamic, Module, Package}
@@ -11,8 +11,8 @@ use Rattle.pv_pool.specs.declared.fault.Stop.{Stop}
 use Rattle.pv_pool.specs.declared.fault.Stop.TheVariants as stop
 use Rattle.pv_pool.specs.Texts.{IsText}
 use Rattle.pv_pool.specs.Entries.{Item, number, run, item_text, FitsNumber, FitsItem, tag_of, contents_of, HasForm}
-use Rattle.pv_pool.specs.Reading.{◌>>=◌, number_at, run_at, sized_at, is_text_from, text_at, pair_at, one_at, two_at, Shape, text, one, two, unknown, contents_at, shape_of}
-use Rattle.pv_pool.proofs.Formats.{IsBytes, IsFormat, bind_ok, bind_err, test_ok, test_err, same_format, Then, Behind, Either, then_format, Done, Never, done_format, IsShort, IsWide, wide8, wide16, wide32, wide64, Run, run_format, Number, number_format}
+use Rattle.pv_pool.specs.Reading.{◌>>=◌, sized_at, is_text_from, text_at, pair_at, one_at, two_at, Shape, text, one, two, unknown, contents_at, shape_of}
+use Rattle.pv_pool.proofs.Formats.{IsBytes, IsFormat, bind_ok, bind_err, test_ok, test_err, same_format, Then, Either, then_format, Done, Never, done_format, IsShort, IsWide, wide8, wide16, wide32, wide64, run_format, Number, number_format}
 use Rattle.pv_pool.proofs.Groups.{text_of_test, test_of_text, no_text_of_test, test_of_no_text}
 
 -- the bytes spell the contents of this entry, which has this tag

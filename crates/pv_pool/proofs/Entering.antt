@@ -1,18 +1,16 @@
 -- An entry is read exactly where its items stand, and reading stops exactly where the definition says.
-use Rattle.std.proofs.Common.{◌≡◌, ◌⊎◌, inl, inr, ℕ, zero, suc, ◌+◌, ◌^◌, ◌<◌, List, [], ◌∷◌, ◌++◌, length, Result, Ok, Err, refl, sym, ap, subst, ◌∙◌, append_assoc, arith}
+use Rattle.std.proofs.Common.{◌≡◌, inl, inr, ℕ, ◌+◌, ◌<◌, List, [], ◌∷◌, ◌++◌, length, refl, sym, ap, subst, ◌∙◌, append_assoc, arith}
 use Rattle.std.specs.List.{flat_map, AllByRecursion}
 use Rattle.std.specs.Int.{w8, w16, to_be_bytes}
-use Rattle.std.proofs.lemmas.List.{append-nil, length-append}
 use Rattle.std.proofs.lemmas.List.Concat.{flat_map-cons}
 use Rattle.pv_pool.specs.declared.entry.Entry.{Entry}
 use Rattle.pv_pool.specs.declared.entry.Entry.TheVariants.{Utf8, Class}
 use Rattle.pv_pool.specs.declared.fault.Stop.{Stop}
 use Rattle.pv_pool.specs.declared.fault.Stop.TheVariants as stop
 use Rattle.pv_pool.specs.Entries.{Item, number, run, item_text, FitsNumber, FitsItem, tag_of, contents_of, items_of, entry_text, IsEntry}
-use Rattle.pv_pool.specs.Faults.{BeforeItem, CutsItem, NoTag, NoText}
 use Rattle.pv_pool.specs.Stops.{IsCut, EntryStops}
 use Rattle.pv_pool.specs.Reading.{entry_at}
-use Rattle.pv_pool.proofs.Formats.{IsBytes, IsFormat, same_format, Then, Behind, Either, then_format, IsShort, wide8, Number, number_format}
+use Rattle.pv_pool.proofs.Formats.{IsBytes, IsFormat, same_format, Then, Either, then_format, IsShort, wide8, Number, number_format}
 use Rattle.pv_pool.proofs.Contents.{IsContents, CutsContents, IllContents, ContentsStop, contents_format, one_text}
 
 abbrev pub IsEntryText : List ℕ → Entry → Type 0

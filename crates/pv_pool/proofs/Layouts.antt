@@ -1,9 +1,9 @@
 -- Reading the entries of a pool one after the other.
-use Rattle.std.proofs.Common.{◌≡◌, ◌⊎◌, inl, inr, ℕ, suc, ◌+◌, ◌≤◌, ◌<◌, List, [], ◌∷◌, ◌++◌, length, Option, Some, None, Result, Ok, Err, refl, sym, ap, subst, ◌∙◌, append_assoc, arith}
-use Rattle.std.specs.List.{flat_map, filter_map, AllByRecursion}
-use Rattle.std.specs.Int.{w16, to_be_bytes}
+use Rattle.std.proofs.Common.{◌≡◌, ◌⊎◌, inl, inr, ℕ, ◌≤◌, ◌<◌, List, [], ◌∷◌, ◌++◌, length, Option, None, Result, Ok, Err, refl, sym, ap, subst, ◌∙◌, append_assoc}
+use Rattle.std.specs.List.{flat_map, AllByRecursion}
+use Rattle.std.specs.Int.{w16}
 use Rattle.std.proofs.lemmas.Grind.{flat_map-append}
-use Rattle.std.proofs.lemmas.List.{append-nil, length-append}
+use Rattle.std.proofs.lemmas.List.{append-nil}
 use Rattle.std.proofs.lemmas.List.Concat.{flat_map-cons}
 use Rattle.std.proofs.lemmas.List.Elements.{filter_map-append}
 use Rattle.pv_pool.specs.declared.entry.Entry.{Entry}
@@ -13,9 +13,9 @@ use Rattle.pv_pool.specs.declared.fault.Stop.TheVariants as stop
 use Rattle.pv_pool.specs.Entries.{entry_text, IsEntry}
 use Rattle.pv_pool.specs.Pools.{cells, indices}
 use Rattle.pv_pool.specs.Slots.{entries_of}
-use Rattle.pv_pool.specs.Stops.{EntryStops, ReadsEntries, HasSlots, StopsBehind, UnlessMemory, HasStop, IsLayout, StopsLayout}
+use Rattle.pv_pool.specs.Stops.{ReadsEntries, HasSlots, StopsBehind, UnlessMemory, HasStop, IsLayout, StopsLayout}
 use Rattle.pv_pool.specs.Reading.{Fails, number_at, entry_at}
-use Rattle.pv_pool.proofs.Formats.{IsBytes, bytes_behind, IsFormat, wide16, number_format}
+use Rattle.pv_pool.proofs.Formats.{IsBytes, bytes_behind, wide16, number_format}
 use Rattle.pv_pool.proofs.Entering.{entry_format}
 
 -- ---- lists with one more

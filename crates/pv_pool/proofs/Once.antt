@@ -1,26 +1,25 @@
 -- There is one answer: what the bytes spell determines the pool, and what of it fails first.
-use Rattle.std.proofs.Common.{◌≡◌, ◌⊎◌, inl, inr, ℕ, zero, suc, ◌+◌, ◌-◌, ◌≤◌, ◌<◌, Bool, true, false, cond, eqb, List, [], ◌∷◌, ◌++◌, length, drop, take, max, Option, Some, None, Result, Ok, Err, refl, sym, ap, subst, ◌∙◌, append_assoc, arith}
+use Rattle.std.proofs.Common.{◌≡◌, ◌⊎◌, inl, inr, ℕ, zero, suc, ◌+◌, ◌-◌, ◌≤◌, ◌<◌, false, cond, eqb, List, [], ◌∷◌, ◌++◌, length, drop, take, max, Option, Result, Ok, Err, refl, sym, ap, subst, ◌∙◌, append_assoc, arith}
 use Rattle.std.specs.List.{flat_map, AllByRecursion}
 use Rattle.std.specs.Int.{w16, to_be_bytes}
-use Rattle.std.proofs.lemmas.Bool.{eqb-true}
 use Rattle.std.proofs.lemmas.Bool.Decides.{nat_tests}
 use Rattle.std.proofs.lemmas.List.{append-nil, length-append, length-drop, take-append-drop}
 use Rattle.std.proofs.lemmas.List.Concat.{flat_map-cons}
 use Rattle.std.proofs.lemmas.Grind.{flat_map-append}
 use Rattle.pv_pool.specs.declared.entry.Entry.{Entry}
-use Rattle.pv_pool.specs.declared.entry.Entry.TheVariants.{Utf8, Long, Double}
+use Rattle.pv_pool.specs.declared.entry.Entry.TheVariants.{Long, Double}
 use Rattle.pv_pool.specs.declared.fault.PoolFault.{PoolFault}
 use Rattle.pv_pool.specs.declared.fault.PoolFault.TheVariants as fault
 use Rattle.pv_pool.specs.declared.fault.Stop.{Stop}
 use Rattle.pv_pool.specs.declared.fault.Stop.TheVariants as stop
 use Rattle.pv_pool.specs.Entries.{entry_text, IsEntry, FitsNumber}
-use Rattle.pv_pool.specs.Pools.{cells, indices, Refers, spelling, IsPoolText, IsPoolAt}
-use Rattle.pv_pool.specs.Faults.{BeforeEntry, CutsEntry, IsTruncated, NoTag, NoText, IsWhole, NoReference, IsPlace, HasFault, IsAnswer}
+use Rattle.pv_pool.specs.Pools.{cells, indices, Refers, spelling, IsPoolAt}
+use Rattle.pv_pool.specs.Faults.{BeforeEntry, IsTruncated, IsWhole, NoReference, IsPlace, IsAnswer}
 use Rattle.pv_pool.specs.Stops.{IsCut, EntryStops, fault_of}
 use Rattle.pv_pool.specs.Reading.{◌>>=◌, number_at, entry_at}
-use Rattle.pv_pool.proofs.Formats.{IsBytes, bytes_behind, IsFormat, wide16, number_format}
+use Rattle.pv_pool.proofs.Formats.{IsBytes, bytes_behind, wide16, number_format}
 use Rattle.pv_pool.proofs.Entering.{entry_format}
-use Rattle.pv_pool.proofs.Layouts.{indices-snoc, no_split}
+use Rattle.pv_pool.proofs.Layouts.{indices-snoc}
 
 -- ---- lengths
 

@@ -1,0 +1,9 @@
+pub mod Texts
+pub mod Entries
+pub mod Pools
+pub mod Faults
+pub mod Slots
+pub mod Stops
+pub mod Readers
+pub mod Answers
+pub mod Reading

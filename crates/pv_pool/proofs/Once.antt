@@ -16,7 +16,8 @@ use Rattle.pv_pool.specs.Entries.{entry_text, IsEntry, FitsNumber}
 use Rattle.pv_pool.specs.Pools.{cells, indices, Refers, spelling, IsPoolAt}
 use Rattle.pv_pool.specs.Faults.{BeforeEntry, IsTruncated, IsWhole, NoReference, IsPlace, IsAnswer}
 use Rattle.pv_pool.specs.Stops.{IsCut, EntryStops, fault_of}
-use Rattle.pv_pool.specs.Reading.{◌>>=◌, number_at, entry_at}
+use Rattle.pv_pool.specs.Fronts.{◌>>=◌}
+use Rattle.pv_pool.specs.Reading.{number_at, entry_at}
 use Rattle.pv_pool.proofs.Formats.{IsBytes, bytes_behind, wide16, number_format}
 use Rattle.pv_pool.proofs.Entering.{entry_format}
 use Rattle.pv_pool.proofs.Layouts.{indices-snoc}
@@ -103,7 +104,7 @@ read_open count pool room (suc fuel) front (e ∷ es) rest s parts le all fits h
 counted : (count : ℕ) (entries bytes : List ℕ) (r : Result (List Entry × List ℕ) Stop) → bytes ≡ to_be_bytes w16 count ++ entries → FitsNumber w16 count → entries_at count (count - 1) entries ≡ r → read bytes ≡ (r >>= λ es. Ok (count, es))
 unfolding read
 counted count entries bytes r parts fits h =
-    ap (λ (o : Result (ℕ × List ℕ) Stop). o >>= λ c. entries_at c.0 (c.0 - 1) c.1 >>= λ es. Ok (c.0, es)) (ap (number_at w16) parts ∙ (number_format w16 wide16).again (to_be_bytes w16 count) count entries (refl, fits))
+    ap (λ (o : Result (ℕ × List ℕ) Stop). o >>= λ c. entries_at c.0 (c.0 - 1) c.1 >>= λ es. Ok (c.0, es)) (ap (number_at w16) parts ∙ (number_format stop.Truncated w16 wide16).again (to_be_bytes w16 count) count entries (refl, fits))
     ∙ ap (λ (o : Result (List Entry × List ℕ) Stop). o >>= λ es. Ok (count, es)) h
 
 spelled_front : (count : ℕ) (es : List Entry) (bytes rest : List ℕ) → bytes ≡ spelling count es ++ rest → bytes ≡ to_be_bytes w16 count ++ (flat_map entry_text es ++ rest)
@@ -121,7 +122,7 @@ reads_open bytes front rest s parts b fits h =
 reads_no_count : (bytes : List ℕ) → IsBytes bytes → length bytes < 2 → read bytes ≡ Err (stop.Truncated (length bytes))
 unfolding read
 reads_no_count bytes fits lt =
-    ap (λ (o : Result (ℕ × List ℕ) Stop). o >>= λ c. entries_at c.0 (c.0 - 1) c.1 >>= λ es. Ok (c.0, es)) ((number_format w16 wide16).stops bytes (stop.Truncated (length bytes)) fits (refl, lt))
+    ap (λ (o : Result (ℕ × List ℕ) Stop). o >>= λ c. entries_at c.0 (c.0 - 1) c.1 >>= λ es. Ok (c.0, es)) ((number_format stop.Truncated w16 wide16).stops bytes (stop.Truncated (length bytes)) fits (refl, lt))
 
 -- ---- places
 

@@ -18,10 +18,10 @@ mod instruction;
 mod layout;
 mod method_type;
 mod reading;
-mod text;
 
 pub use class::read_class;
 pub use fault::ClassFault;
-pub use file::{ClassFile, Code, Entry, Method, Methods, Pool};
+pub use file::{ClassFile, Code, Method, Methods};
 pub use frames::{Sort, has_frames};
 pub use instruction::{Action, Insn, Insns, instructions};
+pub use pv_pool::{Entry, Pool};

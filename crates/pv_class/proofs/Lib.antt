@@ -1,9 +1,9 @@
-pub mod Examples
-pub mod Decoding
+pub mod MethodReads
+pub mod MethodAttributes
+pub mod Codes
+pub mod Deciding
+pub mod Grammars
 pub mod Running
-pub mod Walks
+pub mod Decoding
 pub mod Programs
-pub mod Formats
-pub mod Spelled
-pub mod Parts
-pub mod ClassLaws
+pub mod Walks

@@ -5,7 +5,6 @@ use Rattle.pv_value.specs.declared.descriptor.Descriptor.{Descriptor}
 use Rattle.pv_value.specs.declared.descriptor.JType.{JType}
 use Rattle.pv_value.specs.Descriptors.{IsFieldType, IsMethodType}
 use Rattle.pv_pool.specs.declared.entry.Entry.{Entry}
-use Rattle.pv_pool.specs.declared.entry.Entry.TheVariants.{Utf8, Class}
 use Rattle.pv_pool.specs.Pools.{HasText, HasClass, IsPoolText}
 use Rattle.pv_pool.specs.Readers.{text_under}
 use Rattle.pv_class.specs.declared.file.Code.{Code}
@@ -81,34 +80,9 @@ pub record Describes (i : Items) (file : ClassFile) : Type 0 where
   pub attributes : AllByRecursion (λ a. HasText i.pool a.name) i.attributes
   pub pool_is : file.pool ≡ i.pool
 
--- a Utf8 or a Class
-abbrev pub IsFirstEntry : Entry → Type 0
-IsFirstEntry (Utf8 text) = Unit {0}
-IsFirstEntry (Class name) = Unit {0}
-IsFirstEntry _ = ⊥
-
--- a Code without attributes of its own
-abbrev pub IsFirstCode : Attribute → Type 0
-IsFirstCode a = (items : CodeItems) × (a.contents ≡ code_text items) × FitsCode items × (items.attributes ≡ [])
-
--- a method whose only attribute is a Code
-abbrev pub IsFirstMethod : List Entry → Member → Type 0
-IsFirstMethod pool m = (a : Attribute) × (m.attributes ≡ a ∷ []) × IsCodeAttribute pool a × IsFirstCode a
-
--- the form of files that is read by now: a pool of texts and classes, no interface, field or class attribute, and exactly one method
-pub record IsFirstForm (i : Items) : Type 0 where
-  pub pool : AllByRecursion IsFirstEntry i.pool
-  pub interfaces : i.interfaces ≡ []
-  pub fields : i.fields ≡ []
-  pub attributes : i.attributes ≡ []
-  pub method : Member
-  pub one : i.methods ≡ method ∷ []
-  pub first : IsFirstMethod i.pool method
-
--- the bytes are the class file of first form
+-- the bytes are the class file
 pub record IsClass (bytes : List ℕ) (file : ClassFile) : Type 0 where
   pub items : Items
   pub spelled : bytes ≡ file_text items
   pub small : length bytes ≤ 4194304
   pub describes : Describes items file
-  pub first : IsFirstForm items

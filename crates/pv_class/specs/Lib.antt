@@ -1,4 +1,10 @@
-pub mod Faults
+pub mod Checks
+pub mod Grammars
+pub mod Deciding
+pub mod ClassGrammar
+pub mod ClassFaults
+pub mod Reading
+pub mod Answers
 pub mod Items
 pub mod ClassFiles
 pub mod Instructions
@@ -6,5 +12,3 @@ pub mod Actions
 pub mod Machine
 pub mod Frames
 pub mod Walking
-pub mod Reading
-pub mod Layouts

@@ -1,113 +1,41 @@
--- Reading a class file of first form from left to right: an item, and the bytes behind it, or that none is read.
-use Rattle.std.specs.Prelude.{◌≡◌, ℕ, ◌*◌, List, length, drop, Result, Ok, Err, ◌==◌, if◌then◌else◌}
-use Rattle.std.specs.Int.{Width, w16, w32}
-use Rattle.pv_pool.specs.Fronts.{◌>>=◌, number_or, run_or}
-use Rattle.pv_pool.specs.Pools.{IsPoolAt}
-use Rattle.pv_class.specs.declared.fault.ClassFault.{ClassFault}
-use Rattle.pv_class.specs.declared.fault.ClassFault.TheVariants as fault
-use Rattle.pv_class.specs.declared.file.Code.{Code}
-use Rattle.pv_class.specs.declared.file.ClassFile.{ClassFile}
-use Rattle.pv_class.specs.declared.layout.MethodLayout.{MethodLayout}
-use Rattle.pv_class.specs.declared.layout.Layout.{Layout}
-use Rattle.pv_class.specs.ClassFiles.{IsClass}
+-- Reading by a grammar, from left to right, and what the readers of a class file answer.
+use Rattle.std.specs.Prelude.{◌≡◌, ℕ, ◌+◌, Bool, true, List, [], ◌∷◌, ◌++◌, length, take, drop, Result, Ok, Err, nat_lt, if◌then◌else◌}
+use Rattle.pv_pool.specs.declared.entry.Entry.{Entry}
+use Rattle.pv_class.specs.declared.fault.Failure.{Failure}
+use Rattle.pv_class.specs.declared.fault.Stop.{Stop}
+use Rattle.pv_class.specs.declared.fault.Stop.TheVariants.{Failed, Memory}
+use Rattle.pv_class.specs.declared.signature.Signature.{Signature}
+use Rattle.pv_class.specs.Checks.{new}
+use Rattle.pv_class.specs.Deciding.{passes}
+use Rattle.pv_class.specs.declared.room.Room.{Room}
+use Rattle.pv_class.specs.declared.table.Entries.{Entries}
+use Rattle.pv_class.specs.declared.table.Entries.TheVariants.{Attributes, Handlers, Interfaces}
+use Rattle.pv_class.specs.Grammars.{Grammar, give, here, item, check, short}
+use Rattle.pv_class.specs.ClassGrammar.{skipped, handler, interface}
 
--- what read_class answers
-abbrev pub Reads : Result ClassFile ClassFault → List ℕ → Type 0
-Reads (Ok file) bytes = IsClass bytes file
-Reads (Err fault.NotBuilt) bytes = (file : ClassFile) → IsClass bytes file → ⊥
-Reads (Err fault.Memory) bytes = Unit {0}
+-- what is read, and the bytes behind it, or the failure
+unfoldable pub read : {A : Type 0} → Grammar A → List ℕ → Result (A × List ℕ) Failure
+read (give x) bytes = Ok (x, bytes)
+read (here f) bytes = read (f (length bytes)) bytes
+read (item room n f) bytes = if nat_lt (length bytes) (n + room.behind) then Err (short room (length bytes)) else read (f (take n bytes)) (drop n bytes)
+read (check c failure g) bytes = if passes c then read g bytes else Err failure
 
--- what a function returned, seen by view, is what reading gives, unless memory ran out
-abbrev pub Fails : {Y : Type 0} → ClassFault → Result Y ClassFault → Type 0
-Fails fault.Memory read = Unit {0}
-Fails fault.NotBuilt read = read ≡ Err fault.NotBuilt
+-- an entry of a table that is only tested
+abbrev pub entry_of : Entries → List Entry → Room → Grammar (Unit {0})
+entry_of Attributes pool room = skipped room pool
+entry_of Handlers pool room = handler room
+entry_of Interfaces pool room = interface room pool
 
-abbrev pub Gives : {X Y : Type 0} → (X → Y) → Result X ClassFault → Result Y ClassFault → Type 0
-Gives view (Ok x) read = read ≡ Ok (view x)
-Gives view (Err e) read = Fails e read
+-- reading stops so, unless memory ran out
+abbrev pub Fails : {A : Type 0} → Stop → Result A Failure → Type 0
+Fails (Failed e) result = result ≡ Err e
+Fails Memory result = Unit {0}
 
-abbrev pub too_short : ℕ → ClassFault
-too_short left = fault.NotBuilt
+-- what a function returned, seen by view, is what is read, unless memory ran out
+abbrev pub Gives : {X A : Type 0} → (X → A) → Result X Stop → Result A Failure → Type 0
+Gives view (Ok x) result = result ≡ Ok (view x)
+Gives view (Err s) result = Fails s result
 
-abbrev pub number_at : Width → List ℕ → Result (ℕ × List ℕ) ClassFault
-number_at w bytes = number_or too_short w bytes
-
-abbrev pub run_at : ℕ → List ℕ → Result (List ℕ × List ℕ) ClassFault
-run_at n bytes = run_or too_short n bytes
-
--- this number
-unfoldable pub exactly_at : Width → ℕ → List ℕ → Result (Unit {0} × List ℕ) ClassFault
-exactly_at w n bytes = do
-  x ← number_at w bytes
-  if x.0 == n then Ok (tt, x.1) else Err fault.NotBuilt
-
--- what is read, where nothing stands behind it
-unfoldable pub whole : {A : Type 0} → (List ℕ → Result (A × List ℕ) ClassFault) → List ℕ → Result A ClassFault
-whole read bytes = do
-  x ← read bytes
-  if length x.1 == 0 then Ok x.0 else Err fault.NotBuilt
-
--- a Code up to its attributes
-unfoldable pub code_at : List ℕ → Result (Code × List ℕ) ClassFault
-code_at bytes = do
-  max_stack ← number_at w16 bytes
-  max_locals ← number_at w16 max_stack.1
-  size ← number_at w32 max_locals.1
-  code ← run_at size.0 size.1
-  handlers ← number_at w16 code.1
-  table ← run_at (8 * handlers.0) handlers.1
-  Ok (record { max_stack = max_stack.0; max_locals = max_locals.0; bytes = code.0; handlers = handlers.0 }, table.1)
-
--- a Code without attributes
-unfoldable pub plain_code_at : List ℕ → Result (Code × List ℕ) ClassFault
-plain_code_at bytes = do
-  code ← code_at bytes
-  attributes ← exactly_at w16 0 code.1
-  Ok (code.0, attributes.1)
-
--- a method with one attribute, whose contents are such a Code
-unfoldable pub method_at : List ℕ → Result (MethodLayout × List ℕ) ClassFault
-method_at bytes = do
-  flags ← number_at w16 bytes
-  name ← number_at w16 flags.1
-  desc ← number_at w16 name.1
-  one ← exactly_at w16 1 desc.1
-  attribute ← number_at w16 one.1
-  size ← number_at w32 attribute.1
-  contents ← run_at size.0 size.1
-  code ← whole plain_code_at contents.0
-  Ok (record { flags = flags.0; name = name.0; desc = desc.0; attribute = attribute.0; code = code }, contents.1)
-
--- from the magic number to the pool: the major version
-unfoldable pub head_at : List ℕ → Result (ℕ × List ℕ) ClassFault
-head_at bytes = do
-  magic ← exactly_at w32 0xCAFEBABE bytes
-  minor ← number_at w16 magic.1
-  number_at w16 minor.1
-
--- from behind the pool to the one method: the indices of the class and of its superclass
-unfoldable pub middle_at : List ℕ → Result ((ℕ × ℕ) × List ℕ) ClassFault
-middle_at bytes = do
-  flags ← number_at w16 bytes
-  this ← number_at w16 flags.1
-  super ← number_at w16 this.1
-  interfaces ← exactly_at w16 0 super.1
-  fields ← exactly_at w16 0 interfaces.1
-  methods ← exactly_at w16 1 fields.1
-  Ok ((this.0, super.0), methods.1)
-
--- from behind the pool on
-unfoldable pub tail_at : List ℕ → Result (((ℕ × ℕ) × MethodLayout) × List ℕ) ClassFault
-tail_at bytes = do
-  middle ← middle_at bytes
-  method ← method_at middle.1
-  attributes ← exactly_at w16 0 method.1
-  Ok ((middle.0, method.0), attributes.1)
-
--- the items of all of the bytes
-pub record IsLayout (bytes : List ℕ) (l : Layout) : Type 0 where
-  pub rest : List ℕ
-  pub after : ℕ
-  pub head : head_at bytes ≡ Ok (l.major, rest)
-  pub pool : IsPoolAt bytes 8 l.pool after
-  pub tail : whole tail_at (drop after bytes) ≡ Ok ((l.this_class, l.super_class), l.method)
+-- a signature is put behind the others where it is new
+abbrev pub Puts : List Signature → List Signature → Signature → Bool → Type 0
+Puts old after s is_new = (is_new ≡ passes (new old s)) × (is_new ≡ true → after ≡ old ++ s ∷ [])

@@ -1,121 +1,109 @@
-//! Reading a class file of first form.
+//! Reading a class file.
 
-ghost use Rattle.std.specs.Prelude.{◌≡◌, ◌↔◌, Some, IsTrue};
-ghost use Rattle.std.specs.List.{AllByRecursion};
-ghost use Rattle.pv_pool.specs.Pools.{HasClass};
-ghost use Rattle.pv_pool.specs.Readers.{text_under};
-ghost use Rattle.pv_class.specs.ClassFiles.{code_word};
-ghost use Rattle.pv_class.specs.Layouts.{Finds, IsFirstSlot, IsMethodOf, IsSound, IsFileOf};
-ghost use Rattle.pv_class.specs.Reading.{Reads};
+ghost use Rattle.std.specs.Prelude.{◌≡◌, []};
+ghost use Rattle.pv_class.specs.Grammars.{table, bind};
+ghost use Rattle.pv_class.specs.ClassGrammar.{in_file, interface, field, all_methods, head, class_front, class_end, tail};
+ghost use Rattle.pv_class.specs.Reading.{Gives, read};
+ghost use Rattle.pv_class.specs.Answers.{Told, IsAnswer, IsOnly};
 
-use crate::fault::ClassFault;
-use crate::file::{ClassFile, Method, Methods};
-use crate::layout::{Layout, MethodLayout};
-use crate::method_type::is_method_type;
-use crate::reading::whole_layout;
-use pv_pool::{Entry, Pool};
-use pv_value::Name;
+use crate::fault::{Bad, ClassCause, ClassFault, Stop};
+use crate::file::{ClassFile, Methods};
+use crate::items::{class_index_at, super_index_at, u16_at, u32_at};
+use crate::reading::{fields_at, methods_at};
+use crate::room::{IN_FILE, failed};
+use crate::table::{Entries, table_at};
+use pv_pool::{Pool, PoolFault, read_pool};
 use std::alloc::Global;
 
 /// The bytes of the longest file that is read.
-const MAX_FILE: usize = 4194304;
+const LONGEST_FILE: usize = 4194304;
+
+/// The number that begins each class file.
+const MAGIC: u32 = 0xCAFE_BABE;
 
 /// The major versions that are read.
 const OLDEST: u16 = 45;
 
 const NEWEST: u16 = 69;
 
-/// The bytes of the longest code of a method (JVMS 4.7.3).
-const MAX_CODE: usize = 65535;
+/// Where the constant pool begins, behind the magic number and the version.
+const POOL: usize = 8;
 
-/// Whether each entry that stands under an index is a Utf8 or a Class.
-fn are_first(slots: &[Option<Entry>]) -> bool
-    ensures { IsTrue result ↔ AllByRecursion IsFirstSlot slots.now }
+/// What stands before the constant pool (JVMS 4.1).
+#[tactic(auto, unfolding(crate::specs::Reading::read, crate::specs::Grammars::bind, crate::specs::ClassGrammar::head))]
+fn head_at(bytes: &[u8]) -> Result<&[u8], Stop>
+    ensures { Gives (λ x. (tt, x.now)) result (read head bytes.now) }
 {
-    slots.iter().all(|slot| matches!(slot, None | Some(Entry::Utf8(_) | Entry::Class(_))))
-}
-
-/// Whether a Class is under an index.
-fn has_class(pool: &Pool, index: u16) -> bool
-    ensures { IsTrue result ↔ HasClass pool.now index }
-{
-    matches!(pool.entry(index), Some(Entry::Class(_)))
-}
-
-/// Whether the text under an index is `Code`.
-fn is_code(pool: &Pool, index: u16) -> bool
-    ensures { IsTrue result ↔ (text_under pool.now index ≡ Some code_word) }
-{
-    match pool.text(index) {
-        Some(name) => name.bytes() == b"Code".as_slice(),
-        None => false,
+    let (magic, rest) = u32_at(IN_FILE, bytes)?;
+    if magic != MAGIC {
+        return Err(failed(ClassCause::Magic, bytes.len()));
     }
-}
-
-/// Whether the version, the kinds of entries and the references to classes are as they must be.
-fn is_sound(layout: &Layout) -> bool
-    ensures { IsTrue result ↔ IsSound layout.now }
-{
-    let pool = &layout.pool;
-    OLDEST <= layout.major
-        && layout.major <= NEWEST
-        && are_first(pool.slots())
-        && has_class(pool, layout.this_class)
-        && (layout.super_class == 0 || has_class(pool, layout.super_class))
-}
-
-/// The method of these items.
-fn method_of(alloc: Global, pool: &Pool, layout: MethodLayout) -> Result<Method, ClassFault>
-    ensures { Finds (IsMethodOf pool.now layout) result }
-{
-    let name = pool.text(layout.name).ok_or(ClassFault::NotBuilt)?;
-    let desc = pool.text(layout.desc).ok_or(ClassFault::NotBuilt)?;
-    let size = layout.code.bytes.bytes().len();
-    if !is_code(pool, layout.attribute) || size == 0 || size > MAX_CODE {
-        return Err(ClassFault::NotBuilt);
+    let (_minor, behind) = u16_at(IN_FILE, rest)?;
+    let (major, behind) = u16_at(IN_FILE, behind)?;
+    if major < OLDEST || major > NEWEST {
+        return Err(failed(ClassCause::Version, rest.len()));
     }
-    if !is_method_type(alloc, desc.bytes())? {
-        return Err(ClassFault::NotBuilt);
-    }
-    Ok(Method {
-        flags: layout.flags,
-        name: Name::new(alloc, name.bytes())?,
-        desc: Name::new(alloc, desc.bytes())?,
-        code: Some(layout.code),
-    })
+    Ok(behind)
 }
 
-/// The class file of these items.
-fn file_of(alloc: Global, layout: Layout) -> Result<ClassFile, ClassFault>
-    ensures { Finds (IsFileOf layout) result }
+/// The flags, the class and its superclass.
+#[tactic(auto, unfolding(crate::specs::Reading::read, crate::specs::Grammars::bind, crate::specs::ClassGrammar::index, crate::specs::ClassGrammar::class_front))]
+fn class_front_at<'a>(pool: &Pool, bytes: &'a [u8]) -> Result<&'a [u8], Stop>
+    ensures { Gives (λ x. (tt, x.now)) result (read (class_front pool.now) bytes.now) }
 {
-    if !is_sound(&layout) {
-        return Err(ClassFault::NotBuilt);
-    }
-    let Layout { pool, method, .. } = layout;
-    let mut methods = Vec::new(alloc);
-    methods.push(method_of(alloc, &pool, method)?)?;
-    Ok(ClassFile {
-        pool,
-        methods: Methods::from(methods),
-    })
+    let (_flags, rest) = u16_at(IN_FILE, bytes)?;
+    let (_this, rest) = class_index_at(pool, IN_FILE, rest)?;
+    let (_super, rest) = super_index_at(pool, rest)?;
+    Ok(rest)
 }
 
-/// Reads a class file (JVMS 4.1 to 4.7.3) of at most 4194304 bytes.
-///
-/// The form that is read by now has version 45 to 69, Utf8 and Class entries in its constant pool,
-/// no interface, field or class attribute, and exactly one method, whose only attribute is a Code
-/// without attributes of its own. `NotBuilt` says that the bytes are no class file of this form;
-/// `Memory` says nothing of them.
-pub fn read_class(alloc: Global, bytes: &[u8]) -> Result<ClassFile, ClassFault>
-    ensures exact { Reads result bytes.now }
+/// The fields, with their number.
+fn all_fields_at<'a>(alloc: Global, pool: &Pool, bytes: &'a [u8]) -> Result<(u16, &'a [u8]), Stop>
+    ensures { Gives (λ x. (x.0, x.1.now)) result (read (table in_file (field pool.now)) bytes.now) }
 {
-    if bytes.len() > MAX_FILE {
-        return Err(ClassFault::NotBuilt);
-    }
-    let layout = whole_layout(alloc, bytes)?;
-    file_of(alloc, layout)
+    let (count, rest) = u16_at(IN_FILE, bytes)?;
+    let rest = fields_at(alloc, pool, count, rest)?;
+    Ok((count, rest))
 }
 
-#[cfg(test)]
-mod tests;
+/// The methods.
+fn all_methods_at<'a>(
+    alloc: Global,
+    pool: &Pool,
+    bytes: &'a [u8],
+) -> Result<(Methods, &'a [u8]), Stop>
+    ensures { Gives (λ x. (x.0, x.1.now)) result (read (all_methods pool.now) bytes.now) }
+{
+    let (count, rest) = u16_at(IN_FILE, bytes)?;
+    methods_at(alloc, pool, count, rest)
+}
+
+/// The methods and the attributes, behind which nothing stands.
+fn class_end_at<'a>(
+    alloc: Global,
+    pool: &Pool,
+    bytes: &'a [u8],
+) -> Result<(Methods, &'a [u8]), Stop>
+    ensures { Gives (λ x. (x.0, x.1.now)) result (read (class_end pool.now) bytes.now) }
+{
+    let (methods, rest) = all_methods_at(alloc, pool, bytes)?;
+    let (_attributes, rest) = table_at(Entries::Attributes, pool, IN_FILE, rest)?;
+    if !rest.is_empty() {
+        return Err(failed(ClassCause::Trailing, rest.len()));
+    }
+    Ok((methods, rest))
+}
+
+/// What stands behind the constant pool.
+fn tail_at<'a>(
+    alloc: Global,
+    pool: &Pool,
+    bytes: &'a [u8],
+) -> Result<(Methods, &'a [u8]), Stop>
+    ensures { Gives (λ x. (x.0, x.1.now)) result (read (tail pool.now) bytes.now) }
+{
+    let rest = class_front_at(pool, bytes)?;
+    let (_interfaces, rest) = table_at(Entries::Interfaces, pool, IN_FILE, rest)?;
+    let (_fields, rest) = all_fields_at(alloc, pool, rest)?;
+    class_end_at(alloc, pool, rest)
+}

@@ -11,17 +11,22 @@
 #![tactic(auto)]
 
 mod class;
+mod code;
 mod fault;
 mod file;
 mod frames;
 mod instruction;
-mod layout;
-mod method_type;
+mod items;
+mod member;
 mod reading;
+mod room;
+mod seen;
+mod signature;
+mod table;
 
-pub use class::read_class;
-pub use fault::ClassFault;
+pub use fault::{Bad, ClassCause, ClassFault};
 pub use file::{ClassFile, Code, Method, Methods};
 pub use frames::{Sort, has_frames};
 pub use instruction::{Action, Insn, Insns, instructions};
 pub use pv_pool::{Entry, Pool};
+pub use signature::Signature;

@@ -1,0 +1,226 @@
+-- The tests tell what passes.
+use Rattle.std.proofs.Common.{◌≡◌, ◌↔◌, ◌⊎◌, ℕ, zero, suc, ◌+◌, ◌<◌, ◌≤◌, Bool, true, false, not, ◌&&◌, ◌||◌, eqb, List, [], ◌∷◌, length, get_or, Option, Some, None, is_some, inl, inr, refl, sym, ap, subst, ◌∙◌, true≢false, arith}
+use Rattle.std.specs.Prelude.{MatchOption}
+use Rattle.std.specs.List.{Contains, list_any}
+use Rattle.std.specs.Str.{bytes_eq}
+use Rattle.std.proofs.lemmas.Bool.{cases_eq, eq-eqb, ne_eqb}
+use Rattle.std.proofs.lemmas.Slice.Eq.{bytes_eq-Decides}
+use Rattle.std.proofs.lemmas.List.Folds.{list_any_at}
+use Rattle.indexmap.proofs.CallerLemmas.{Contains-list_any}
+use Rattle.pv_value.specs.declared.descriptor.Descriptor.{Descriptor}
+use Rattle.pv_value.specs.declared.descriptor.JType.{JType}
+use Rattle.pv_value.specs.Descriptors.{IsFieldType, IsResult, IsMethodType}
+use Rattle.pv_value.specs.Reading.{field_at, ReadsParams}
+use Rattle.pv_value.specs.Once.{whole_again, no_bracket, method_again}
+use Rattle.pv_value.proofs.FieldTypes.{is_whole as whole_is, is_unread, is_longer}
+use Rattle.pv_value.proofs.MethodTypes.{method_takes, is_shorter}
+use Rattle.pv_pool.specs.declared.entry.Entry.{Entry}
+use Rattle.pv_pool.specs.declared.entry.Entry.TheVariants as entry
+use Rattle.pv_pool.specs.Pools.{entry_under, HasText, HasClass}
+use Rattle.pv_pool.specs.Readers.{◌>>=◌, text_under, text_of}
+use Rattle.pv_class.specs.declared.signature.Signature.{Signature}
+use Rattle.pv_class.specs.Checks.{Check, Passes, holds, utf8, class, class_or_none, field_type, method_type, new}
+use Rattle.pv_class.specs.Deciding.{is_class, is_whole, is_field_type, behind_first, behind_params, is_result, is_method_type, alike, passes}
+
+eqb_true : (x y : ℕ) → eqb x y ≡ true → x ≡ y
+eqb_true x y e =
+    elim (cases_eq x y) [
+      | inl is ↦ is
+      | inr ne ↦ absurd (true≢false (sym e ∙ ne_eqb x y ne))
+    ]
+
+-- ---- descriptors
+
+whole_field : (text : List ℕ) (found : Option (JType × List ℕ)) → field_at text ≡ found → (is_whole found ≡ true) ↔ ((t : JType) × IsFieldType text t)
+whole_field text None e = (λ ok. absurd (true≢false (sym ok)), λ h. absurd (is_unread text e h.0 h.1))
+whole_field text (Some (t, [])) e = (λ ok. (t, whole_is text [] t e refl), λ h. refl)
+whole_field text (Some (t, b ∷ rest)) e = (λ ok. absurd (true≢false (sym ok)), λ h. absurd (is_longer text (b ∷ rest) t e (λ nothing. absurd cc) h.0 h.1))
+
+pub field_decides : (text : List ℕ) → (is_field_type text ≡ true) ↔ ((t : JType) × IsFieldType text t)
+field_decides text = whole_field text (field_at text) refl
+
+-- parameters that are found stand there
+first_takes : (n : ℕ) (text rest : List ℕ) (found : Option (JType × List ℕ)) → ((behind : List ℕ) → behind_params n behind ≡ Some rest → (ts : List JType) × ReadsParams behind ts rest) → field_at text ≡ found → behind_first (behind_params n) found ≡ Some rest
+    → (ts : List JType) × ReadsParams text ts rest
+unfolding ReadsParams
+first_takes n text rest None others is h = absurd cc
+first_takes n text rest (Some (t, behind)) others is h = let o = others behind h in (t ∷ o.0, (behind, is, o.1))
+
+behind_takes : (n : ℕ) (text rest : List ℕ) → behind_params n text ≡ Some rest → (ts : List JType) × ReadsParams text ts rest
+unfolding behind_params ReadsParams
+behind_takes zero text rest e = absurd cc
+behind_takes (suc n) [] rest e = absurd cc
+behind_takes (suc n) (b ∷ text) rest e =
+    elim (cases_eq b 41) [
+      | inl is ↦ let found = rw (eq-eqb b 41 is) at e in ([], cc (is, found))
+      | inr ne ↦ first_takes n (b ∷ text) rest (field_at (b ∷ text)) (λ behind h. behind_takes n behind rest h) refl (rw (ne_eqb b 41 ne) at e)
+    ]
+
+-- and those that stand there are found
+close_again : (n : ℕ) (text rest : List ℕ) → length text ≤ n → text ≡ 41 ∷ rest → behind_params n text ≡ Some rest
+unfolding behind_params
+close_again n [] rest le e = absurd cc
+close_again zero (b ∷ text) rest le e = absurd (omega arith)
+close_again (suc n) (b ∷ text) rest le e =
+    let first : b ≡ 41 = cc e in
+    let others : text ≡ rest = cc e in
+    rw (eq-eqb b 41 first) (ap (λ (x : List ℕ). Some x) others)
+
+nothing_read : field_at [] ≡ None
+unfolding field_at
+nothing_read = refl
+
+first_again : (n : ℕ) (text rest behind : List ℕ) (t : JType) → length text ≤ n → field_at text ≡ Some (t, behind) → ((m : ℕ) → length behind ≤ m → behind_params m behind ≡ Some rest) → behind_params n text ≡ Some rest
+unfolding behind_params
+first_again n [] rest behind t le e others = absurd (let nothing = nothing_read in cc)
+first_again zero (b ∷ text) rest behind t le e others = absurd (omega arith)
+first_again (suc n) (b ∷ text) rest behind t le e others =
+    let shorter = is_shorter (b ∷ text) behind t (sym e) in
+    elim (cases_eq b 41) [
+      | inl is ↦ absurd (let nothing = no_bracket text in let both : field_at (41 ∷ text) ≡ Some (t, behind) = subst (λ (c : ℕ). field_at (c ∷ text) ≡ Some (t, behind)) is e in cc)
+      | inr ne ↦ rw (ne_eqb b 41 ne, e) (others n (omega arith))
+    ]
+
+behind_again : (n : ℕ) (text rest : List ℕ) (ts : List JType) → length text ≤ n → ReadsParams text ts rest → behind_params n text ≡ Some rest
+unfolding ReadsParams
+behind_again n text rest [] le h = close_again n text rest le h
+behind_again n text rest (t ∷ ts) le h = first_again n text rest h.0 t le h.1 (λ m le'. behind_again m h.0 rest ts le' h.2)
+
+-- a test of two
+or_true : (a b : Bool) → (a || b) ≡ true → (a ≡ true) ⊎ (b ≡ true)
+or_true true b e = inl refl
+or_true false b e = inr e
+
+or_left : (a b : Bool) → a ≡ true → (a || b) ≡ true
+or_left true b e = refl
+or_left false b e = absurd (true≢false (sym e))
+
+or_right : (a b : Bool) → b ≡ true → (a || b) ≡ true
+or_right true b e = refl
+or_right false b e = e
+
+and_true : (a b : Bool) → (a && b) ≡ true → (a ≡ true) × (b ≡ true)
+and_true true b e = (refl, e)
+and_true false b e = absurd (true≢false (sym e))
+
+both_true : (a b : Bool) → a ≡ true → b ≡ true → (a && b) ≡ true
+both_true true b e f = f
+both_true false b e f = absurd (true≢false (sym e))
+
+result_decides : (text : List ℕ) → (is_result (Some text) ≡ true) ↔ ((r : Option JType) × IsResult text r)
+result_decides text =
+    let void = bytes_eq-Decides text (86 ∷ []) in
+    let field = field_decides text in
+    (
+      λ ok. elim (or_true (bytes_eq text (86 ∷ [])) (is_field_type text) ok) [
+          | inl e ↦ (None, void.0 e)
+          | inr e ↦ let t = field.0 e in (Some t.0, t.1)
+      ],
+      λ h. of_result h.0 h.1,
+    )
+  where
+    of_result : (r : Option JType) → IsResult text r → is_result (Some text) ≡ true
+    of_result None is = or_left (bytes_eq text (86 ∷ [])) (is_field_type text) ((bytes_eq-Decides text (86 ∷ [])).1 is)
+    of_result (Some t) is = or_right (bytes_eq text (86 ∷ [])) (is_field_type text) ((field_decides text).1 (t, is))
+
+method_reads : (body : List ℕ) (found : Option (List ℕ)) → behind_params (length body) body ≡ found → is_result found ≡ true → (d : Descriptor) × IsMethodType (40 ∷ body) d
+method_reads body None e ok = absurd cc
+method_reads body (Some last) e ok =
+    let ts = behind_takes (length body) body last e in
+    let r = (result_decides last).0 ok in
+    let d : Descriptor = record { params = ts.0; result = r.0 } in
+    (d, method_takes (40 ∷ body) d (record { body = body; last = last; opened = refl; params = ts.1; result = r.1 }))
+
+pub method_decides : (text : List ℕ) → (is_method_type text ≡ true) ↔ ((d : Descriptor) × IsMethodType text d)
+method_decides [] = (λ ok. absurd (true≢false (sym ok)), λ h. absurd (let m = method_again [] h.0 h.1 in let e = m.opened in cc))
+method_decides (b ∷ body) = (
+  λ ok.
+      let both = and_true (eqb b 40) (is_result (behind_params (length body) body)) ok in
+      let d = method_reads body (behind_params (length body) body) refl both.1 in
+      (d.0, subst (λ (c : ℕ). IsMethodType (c ∷ body) d.0) (sym (eqb_true b 40 both.0)) d.1),
+  λ h.
+      let m = method_again (b ∷ body) h.0 h.1 in
+      let first : b ≡ 40 = cc (m.opened) in
+      let same : m.body ≡ body = cc (m.opened) in
+      let params = subst (λ (x : List ℕ). ReadsParams x h.0.params m.last) same m.params in
+      let found = behind_again (length body) body m.last h.0.params (omega arith) params in
+      both_true (eqb b 40) (is_result (behind_params (length body) body)) (eq-eqb b 40 first) (ap is_result found ∙ (result_decides m.last).1 (h.0.result, m.result)),
+)
+-- ---- indices and signatures
+
+text_found : (o : Option Entry) → is_some (o >>= text_of) ≡ true → (text : List ℕ) × (o ≡ Some (entry.Utf8 text))
+text_found (Some (entry.Utf8 text)) ok = (text, refl)
+text_found (Some e) ok = absurd cc
+text_found None ok = absurd cc
+
+text_decides : (pool : List Entry) (i : ℕ) → (is_some (text_under pool i) ≡ true) ↔ HasText pool i
+text_decides pool i = (text_found (entry_under pool i), λ h. ap (λ (o : Option Entry). is_some (o >>= text_of)) h.1)
+
+class_found : (o : Option Entry) → is_class o ≡ true → (name : ℕ) × (o ≡ Some (entry.Class name))
+class_found (Some (entry.Class name)) ok = (name, refl)
+class_found (Some e) ok = absurd cc
+class_found None ok = absurd cc
+
+class_decides : (pool : List Entry) (i : ℕ) → (is_class (entry_under pool i) ≡ true) ↔ HasClass pool i
+class_decides pool i = (class_found (entry_under pool i), λ h. ap is_class h.1)
+
+none_decides : (pool : List Entry) (i : ℕ) → ((eqb i 0 || is_class (entry_under pool i)) ≡ true) ↔ ((i ≡ 0) ⊎ HasClass pool i)
+none_decides pool i = (
+  λ ok. elim (or_true (eqb i 0) (is_class (entry_under pool i)) ok) [
+      | inl e ↦ inl (eqb_true i 0 e)
+      | inr e ↦ inr ((class_decides pool i).0 e)
+  ],
+  λ h. elim h [
+      | inl e ↦ or_left (eqb i 0) (is_class (entry_under pool i)) (eq-eqb i 0 e)
+      | inr c ↦ or_right (eqb i 0) (is_class (entry_under pool i)) ((class_decides pool i).1 c)
+  ],
+)
+
+same_signature : (s t : Signature) → s.name ≡ t.name → s.desc ≡ t.desc → s ≡ t
+same_signature s t p q = ap (λ (n : List ℕ). record { name = n; desc = s.desc }) p ∙ ap (λ (d : List ℕ). record { name = t.name; desc = d }) q
+
+alike_same : (s t : Signature) → alike s t ≡ true → s ≡ t
+alike_same s t ok =
+    let both = and_true (bytes_eq s.name t.name) (bytes_eq s.desc t.desc) ok in
+    same_signature s t ((bytes_eq-Decides s.name t.name).0 both.0) ((bytes_eq-Decides s.desc t.desc).0 both.1)
+
+same_alike : (s t : Signature) → s ≡ t → alike s t ≡ true
+same_alike s t e = both_true (bytes_eq s.name t.name) (bytes_eq s.desc t.desc) ((bytes_eq-Decides s.name t.name).1 (ap (λ (x : Signature). x.name) e)) ((bytes_eq-Decides s.desc t.desc).1 (ap (λ (x : Signature). x.desc) e))
+
+new_decides : (seen : List Signature) (s : Signature) → (not (list_any (alike s) seen) ≡ true) ↔ (Contains seen s → ⊥)
+new_decides seen s = (
+  λ ok there. true≢false (sym (found there) ∙ by_not (list_any (alike s) seen) ok),
+  λ none. not_found (list_any (alike s) seen) refl none,
+)
+  where
+    by_not : (b : Bool) → not b ≡ true → b ≡ false
+    by_not true e = absurd (true≢false (sym e))
+    by_not false e = refl
+    found : Contains seen s → list_any (alike s) seen ≡ true
+    found there = list_any_at (alike s) seen there.0 s there.1 (same_alike s (get_or seen there.0 s) (sym there.2))
+    not_found : (b : Bool) → list_any (alike s) seen ≡ b → (Contains seen s → ⊥) → not b ≡ true
+    not_found true e none = absurd (none (Contains-list_any alike alike_same seen s e))
+    not_found false e none = refl
+
+pub passes_law : (c : Check) → (passes c ≡ true) ↔ Passes c
+passes_law (holds b) = (λ e. e, λ e. e)
+passes_law (utf8 pool i) = text_decides pool i
+passes_law (class pool i) = class_decides pool i
+passes_law (class_or_none pool i) = none_decides pool i
+passes_law (field_type desc) = field_decides desc
+passes_law (method_type desc) = method_decides desc
+passes_law (new seen s) = new_decides seen s
+
+-- ---- what a reader of descriptors tells
+
+true_or_false : (b : Bool) → (b ≡ true → ⊥) → false ≡ b
+true_or_false true never = absurd (never refl)
+true_or_false false never = refl
+
+pub told_field : (text : List ℕ) (found : Option JType) → MatchOption found ((t : JType) → IsFieldType text t → ⊥) (λ t. IsFieldType text t) → is_some found ≡ is_field_type text
+told_field text (Some t) h = sym ((field_decides text).1 (t, h))
+told_field text None h = true_or_false (is_field_type text) (λ e. let t = (field_decides text).0 e in h t.0 t.1)
+
+pub told_method : (text : List ℕ) (found : Option Descriptor) → MatchOption found ((d : Descriptor) → IsMethodType text d → ⊥) (λ d. IsMethodType text d) → is_some found ≡ is_method_type text
+told_method text (Some d) h = sym ((method_decides text).1 (d, h))
+told_method text None h = true_or_false (is_method_type text) (λ e. let d = (method_decides text).0 e in h d.0 d.1)

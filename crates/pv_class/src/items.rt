@@ -1,0 +1,111 @@
+//! Reading single items of a class file.
+//!
+//! Each function reads what stands at the front of the bytes, which run to the end of the file, and
+//! gives the bytes behind it too.
+
+ghost use Rattle.pv_class.specs.Checks.{utf8, class, class_or_none};
+ghost use Rattle.pv_class.specs.Grammars.{u2, u4, run};
+ghost use Rattle.pv_class.specs.ClassGrammar.{index, contents, in_file};
+ghost use Rattle.pv_class.specs.Deciding.{is_class};
+ghost use Rattle.pv_class.specs.Reading.{Gives, read};
+ghost use Rattle.std.specs.Prelude.{◌≡◌};
+ghost use Rattle.pv_pool.specs.Pools.{entry_under};
+
+use crate::fault::{ClassCause, Stop};
+use crate::room::{IN_FILE, Room, failed};
+use byteorder::{BigEndian, ByteOrder};
+use pv_pool::{Entry, Pool};
+
+/// A number of two bytes, the high one first.
+#[tactic(auto, unfolding(crate::specs::Reading::read))]
+pub(crate) fn u16_at(room: Room, bytes: &[u8]) -> Result<(u16, &[u8]), Stop>
+    ensures { Gives (λ x. (x.0, x.1.now)) result (read (u2 room) bytes.now) }
+{
+    if !room.holds(2, bytes) {
+        return Err(room.short(bytes.len()));
+    }
+    Ok((BigEndian::read_u16(bytes), &bytes[2..]))
+}
+
+/// A number of four bytes, the highest first.
+#[tactic(auto, unfolding(crate::specs::Reading::read))]
+pub(crate) fn u32_at(room: Room, bytes: &[u8]) -> Result<(u32, &[u8]), Stop>
+    ensures { Gives (λ x. (x.0, x.1.now)) result (read (u4 room) bytes.now) }
+{
+    if !room.holds(4, bytes) {
+        return Err(room.short(bytes.len()));
+    }
+    Ok((BigEndian::read_u32(bytes), &bytes[4..]))
+}
+
+/// So many bytes.
+#[tactic(auto, unfolding(crate::specs::Reading::read))]
+pub(crate) fn run_at(room: Room, size: usize, bytes: &[u8]) -> Result<(&[u8], &[u8]), Stop>
+    ensures { Gives (λ x. (x.0.now, x.1.now)) result (read (run room size) bytes.now) }
+{
+    if !room.holds(size, bytes) {
+        return Err(room.short(bytes.len()));
+    }
+    Ok(bytes.split_at(size))
+}
+
+/// Whether a Class stands under an index.
+fn has_class(pool: &Pool, i: u16) -> bool
+    ensures { result ≡ is_class (entry_under pool.now i) }
+{
+    matches!(pool.entry(i), Some(Entry::Class(_)))
+}
+
+/// The index of a Utf8.
+#[tactic(auto, unfolding(crate::specs::Reading::read, crate::specs::Grammars::bind, crate::specs::ClassGrammar::index))]
+pub(crate) fn text_index_at<'a>(
+    pool: &Pool,
+    room: Room,
+    bytes: &'a [u8],
+) -> Result<(u16, &'a [u8]), Stop>
+    ensures { Gives (λ x. (x.0, x.1.now)) result (read (index room (utf8 pool.now)) bytes.now) }
+{
+    let (i, rest) = u16_at(room, bytes)?;
+    if pool.text(i).is_none() {
+        return Err(failed(ClassCause::PoolReference, bytes.len()));
+    }
+    Ok((i, rest))
+}
+
+/// The index of a Class.
+#[tactic(auto, unfolding(crate::specs::Reading::read, crate::specs::Grammars::bind, crate::specs::ClassGrammar::index))]
+pub(crate) fn class_index_at<'a>(
+    pool: &Pool,
+    room: Room,
+    bytes: &'a [u8],
+) -> Result<(u16, &'a [u8]), Stop>
+    ensures { Gives (λ x. (x.0, x.1.now)) result (read (index room (class pool.now)) bytes.now) }
+{
+    let (i, rest) = u16_at(room, bytes)?;
+    if !has_class(pool, i) {
+        return Err(failed(ClassCause::PoolReference, bytes.len()));
+    }
+    Ok((i, rest))
+}
+
+/// The index of a Class, or 0.
+#[tactic(auto, unfolding(crate::specs::Reading::read, crate::specs::Grammars::bind, crate::specs::ClassGrammar::index))]
+pub(crate) fn super_index_at<'a>(pool: &Pool, bytes: &'a [u8]) -> Result<(u16, &'a [u8]), Stop>
+    ensures { Gives (λ x. (x.0, x.1.now)) result (read (index in_file (class_or_none pool.now)) bytes.now) }
+{
+    let (i, rest) = u16_at(IN_FILE, bytes)?;
+    if i != 0 && !has_class(pool, i) {
+        return Err(failed(ClassCause::PoolReference, bytes.len()));
+    }
+    Ok((i, rest))
+}
+
+/// The contents of an attribute that is skipped, behind its name (JVMS 4.7).
+#[tactic(auto, unfolding(crate::specs::Reading::read, crate::specs::Grammars::bind, crate::specs::ClassGrammar::contents))]
+pub(crate) fn contents_at(room: Room, bytes: &[u8]) -> Result<&[u8], Stop>
+    ensures { Gives (λ x. (tt, x.now)) result (read (contents room) bytes.now) }
+{
+    let (size, rest) = u32_at(room, bytes)?;
+    let (_contents, rest) = run_at(room, size as usize, rest)?;
+    Ok(rest)
+}

@@ -1,0 +1,81 @@
+//! What fields and methods begin with.
+
+ghost use Rattle.std.specs.Prelude.{◌≡◌, IfOk};
+ghost use Rattle.pv_class.specs.Deciding.{is_field_type, is_method_type, passes};
+ghost use Rattle.pv_class.specs.ClassGrammar.{text_at, typed, member};
+ghost use Rattle.pv_class.specs.Reading.{Gives, read};
+
+use crate::fault::{ClassCause, Stop};
+use crate::items::{text_index_at, u16_at};
+use crate::room::{IN_FILE, failed};
+use pv_pool::Pool;
+use pv_value::{Memory, read_descriptor, read_field_type};
+use std::alloc::Global;
+
+/// What begins so.
+#[derive(Clone, Copy)]
+pub(crate) enum Kind {
+    Field,
+    Method,
+}
+
+/// The flags of a field or a method, and the indices of its name and its descriptor.
+#[derive(Clone, Copy)]
+pub(crate) struct Member {
+    pub flags: u16,
+    pub name: u16,
+    pub desc: u16,
+}
+
+/// The text under an index, nothing where no Utf8 is.
+pub(crate) fn text_at(pool: &Pool, i: u16) -> &[u8]
+    ensures { result.now ≡ text_at pool.now i }
+{
+    match pool.text(i) {
+        Some(text) => text.bytes(),
+        None => &[],
+    }
+}
+
+/// Whether a text is a field descriptor (JVMS 4.3.2).
+fn is_field_type(text: &[u8]) -> bool
+    ensures { result ≡ is_field_type text.now }
+{
+    read_field_type(text).is_some()
+}
+
+/// Whether a text is a method descriptor (JVMS 4.3.3).
+fn is_method_type(alloc: Global, text: &[u8]) -> Result<bool, Memory>
+    ensures { IfOk result (λ is. is ≡ is_method_type text.now) }
+{
+    Ok(read_descriptor(alloc, text)?.is_some())
+}
+
+/// Whether a text is the descriptor of such a member.
+fn is_typed(alloc: Global, kind: Kind, text: &[u8]) -> Result<bool, Memory>
+    ensures { IfOk result (λ is. is ≡ passes (typed kind text.now)) }
+{
+    match kind {
+        Kind::Field => Ok(is_field_type(text)),
+        Kind::Method => is_method_type(alloc, text),
+    }
+}
+
+/// What a field or a method begins with (JVMS 4.5, 4.6).
+#[tactic(auto, unfolding(crate::specs::Reading::read, crate::specs::Grammars::bind, crate::specs::ClassGrammar::index, crate::specs::ClassGrammar::member))]
+pub(crate) fn member_at<'a>(
+    alloc: Global,
+    kind: Kind,
+    pool: &Pool,
+    bytes: &'a [u8],
+) -> Result<(Member, &'a [u8]), Stop>
+    ensures { Gives (λ x. (x.0, x.1.now)) result (read (member kind pool.now) bytes.now) }
+{
+    let (flags, rest) = u16_at(IN_FILE, bytes)?;
+    let (name, rest) = text_index_at(pool, IN_FILE, rest)?;
+    let (desc, rest) = text_index_at(pool, IN_FILE, rest)?;
+    if !is_typed(alloc, kind, text_at(pool, desc))? {
+        return Err(failed(ClassCause::Descriptor, bytes.len()));
+    }
+    Ok((Member { flags, name, desc }, rest))
+}

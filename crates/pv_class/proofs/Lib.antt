@@ -1,3 +1,7 @@
+pub mod ClassAgrees
+pub mod Outcomes
+pub mod Readings
+pub mod ClassParts
 pub mod MethodReads
 pub mod MethodAttributes
 pub mod Codes

@@ -1,6 +1,11 @@
 -- Reading by a grammar, from left to right, and what the readers of a class file answer.
-use Rattle.std.specs.Prelude.{◌≡◌, ℕ, ◌+◌, Bool, true, List, [], ◌∷◌, ◌++◌, length, take, drop, Result, Ok, Err, nat_lt, if◌then◌else◌}
+use Rattle.std.specs.Prelude.{◌≡◌, ℕ, ◌+◌, ◌-◌, Bool, true, List, [], ◌∷◌, ◌++◌, length, take, drop, Result, Ok, Err, nat_lt, if◌then◌else◌}
 use Rattle.pv_pool.specs.declared.entry.Entry.{Entry}
+use Rattle.pv_pool.specs.declared.fault.PoolFault.{PoolFault}
+use Rattle.pv_pool.specs.declared.fault.PoolFault.TheVariants as pool
+use Rattle.pv_class.specs.declared.fault.ClassCause.TheVariants as cause
+use Rattle.pv_class.specs.declared.fault.ClassFault.{ClassFault}
+use Rattle.pv_class.specs.declared.fault.ClassFault.TheVariants as fault
 use Rattle.pv_class.specs.declared.fault.Failure.{Failure}
 use Rattle.pv_class.specs.declared.fault.Stop.{Stop}
 use Rattle.pv_class.specs.declared.fault.Stop.TheVariants.{Failed, Memory}
@@ -39,3 +44,15 @@ Gives view (Err s) result = Fails s result
 -- a signature is put behind the others where it is new
 abbrev pub Puts : List Signature → List Signature → Signature → Bool → Type 0
 Puts old after s is_new = (is_new ≡ passes (new old s)) × (is_new ≡ true → after ≡ old ++ s ∷ [])
+
+-- as faults of a file of so many bytes
+abbrev pub fault_of : ℕ → Stop → ClassFault
+fault_of len (Failed e) = fault.Bad (record { cause = e.cause; at = len - e.left })
+fault_of len Memory = fault.Memory
+
+abbrev pub of_pool : PoolFault → ClassFault
+of_pool (pool.Truncated at) = fault.Bad (record { cause = cause.Truncated; at = at })
+of_pool (pool.Tag at) = fault.Bad (record { cause = cause.PoolTag; at = at })
+of_pool (pool.Utf8 at) = fault.Bad (record { cause = cause.PoolUtf8; at = at })
+of_pool (pool.Reference at) = fault.Bad (record { cause = cause.PoolReference; at = at })
+of_pool pool.Memory = fault.Memory

@@ -1,9 +1,9 @@
 //! Reading a class file.
 
-ghost use Rattle.std.specs.Prelude.{◌≡◌, []};
+ghost use Rattle.std.specs.Prelude.{◌≡◌, [], IfOk};
 ghost use Rattle.pv_class.specs.Grammars.{table, bind};
 ghost use Rattle.pv_class.specs.ClassGrammar.{in_file, interface, field, all_methods, head, class_front, class_end, tail};
-ghost use Rattle.pv_class.specs.Reading.{Gives, read};
+ghost use Rattle.pv_class.specs.Reading.{Gives, read, fault_of, of_pool};
 ghost use Rattle.pv_class.specs.Answers.{Told, IsAnswer, IsOnly};
 
 use crate::fault::{Bad, ClassCause, ClassFault, Stop};
@@ -28,6 +28,35 @@ const NEWEST: u16 = 69;
 
 /// Where the constant pool begins, behind the magic number and the version.
 const POOL: usize = 8;
+
+impl Stop {
+    /// The fault of a file of so many bytes.
+    fn in_file(self, len: usize) -> ClassFault
+        ensures { result ≡ fault_of len self }
+    {
+        match self {
+            Stop::Failed(failure) => ClassFault::Bad(Bad {
+                cause: failure.cause,
+                at: len.saturating_sub(failure.left),
+            }),
+            Stop::Memory => ClassFault::Memory,
+        }
+    }
+}
+
+/// A fault of the constant pool as one of the file.
+fn of_pool(fault: PoolFault) -> ClassFault
+    ensures { result ≡ of_pool fault }
+{
+    let (cause, at) = match fault {
+        PoolFault::Truncated(at) => (ClassCause::Truncated, at),
+        PoolFault::Tag(at) => (ClassCause::PoolTag, at),
+        PoolFault::Utf8(at) => (ClassCause::PoolUtf8, at),
+        PoolFault::Reference(at) => (ClassCause::PoolReference, at),
+        PoolFault::Memory => return ClassFault::Memory,
+    };
+    ClassFault::Bad(Bad { cause, at })
+}
 
 /// What stands before the constant pool (JVMS 4.1).
 #[tactic(auto, unfolding(crate::specs::Reading::read, crate::specs::Grammars::bind, crate::specs::ClassGrammar::head))]
@@ -84,7 +113,8 @@ fn class_end_at<'a>(
     pool: &Pool,
     bytes: &'a [u8],
 ) -> Result<(Methods, &'a [u8]), Stop>
-    ensures { Gives (λ x. (x.0, x.1.now)) result (read (class_end pool.now) bytes.now) }
+    ensures read { Gives (λ x. (x.0, x.1.now)) result (read (class_end pool.now) bytes.now) }
+    ensures end { IfOk result (λ x. x.1.now ≡ []) }
 {
     let (methods, rest) = all_methods_at(alloc, pool, bytes)?;
     let (_attributes, rest) = table_at(Entries::Attributes, pool, IN_FILE, rest)?;
@@ -100,10 +130,39 @@ fn tail_at<'a>(
     pool: &Pool,
     bytes: &'a [u8],
 ) -> Result<(Methods, &'a [u8]), Stop>
-    ensures { Gives (λ x. (x.0, x.1.now)) result (read (tail pool.now) bytes.now) }
+    ensures read { Gives (λ x. (x.0, x.1.now)) result (read (tail pool.now) bytes.now) }
+    ensures end { IfOk result (λ x. x.1.now ≡ []) }
 {
     let rest = class_front_at(pool, bytes)?;
     let (_interfaces, rest) = table_at(Entries::Interfaces, pool, IN_FILE, rest)?;
     let (_fields, rest) = all_fields_at(alloc, pool, rest)?;
     class_end_at(alloc, pool, rest)
+}
+
+/// Reads a class file (JVMS 4.1, 4.5 to 4.7.3) of major version 45 to 69 and at most 4194304 bytes,
+/// front to back. Any minor version is accepted, attributes other than a method's Code are skipped.
+///
+/// `Bad` is the fault of the first item that fails, with its place; references within the constant
+/// pool are tested once the whole pool is read. `Memory` says nothing of the bytes.
+pub fn read_class(alloc: Global, bytes: &[u8]) -> Result<ClassFile, ClassFault>
+    ensures exact { Told result (λ told. IsAnswer bytes.now told) }
+    ensures only { Told result (λ told. IsOnly bytes.now told) }
+{
+    if bytes.len() > LONGEST_FILE {
+        return Err(ClassFault::Bad(Bad {
+            cause: ClassCause::TooLong,
+            at: LONGEST_FILE,
+        }));
+    }
+    if let Err(stop) = head_at(bytes) {
+        return Err(stop.in_file(bytes.len()));
+    }
+    let (pool, after) = match read_pool(alloc, bytes, POOL) {
+        Ok(read) => read,
+        Err(fault) => return Err(of_pool(fault)),
+    };
+    match tail_at(alloc, &pool, &bytes[after..]) {
+        Ok((methods, _)) => Ok(ClassFile { pool, methods }),
+        Err(stop) => Err(stop.in_file(bytes.len())),
+    }
 }

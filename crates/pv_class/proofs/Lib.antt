@@ -7,3 +7,5 @@ pub mod Running
 pub mod Decoding
 pub mod Programs
 pub mod Walks
+pub mod Takings
+pub mod ItemTexts

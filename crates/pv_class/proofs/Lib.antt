@@ -9,3 +9,4 @@ pub mod Programs
 pub mod Walks
 pub mod Takings
 pub mod ItemTexts
+pub mod CodeTexts

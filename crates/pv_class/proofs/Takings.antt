@@ -82,7 +82,7 @@ give_texts y = record {
   again = λ t x rest s le. (s.1, sym (ap (λ (u : List ℕ). u ++ rest) s.0));
 }
 
-number_texts : (room : Room) (w : Width) → IsWide w → IsTexts (number room w) room (Number w)
+pub number_texts : (room : Room) (w : Width) → IsWide w → IsTexts (number room w) room (Number w)
 unfolding Takes
 number_texts room w wide = record {
   takes = λ bytes x rest fits h.

@@ -10,3 +10,5 @@ pub mod Walks
 pub mod Takings
 pub mod ItemTexts
 pub mod CodeTexts
+pub mod MethodTexts
+pub mod Distinct

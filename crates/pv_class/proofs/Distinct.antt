@@ -40,7 +40,7 @@ at_within (z ∷ xs) (suc i) x e = let h = at_within xs i x e in omega arith
 
 -- ---- signatures in a list
 
-same_signature : (s t : Signature) → s.name ≡ t.name → s.desc ≡ t.desc → s ≡ t
+pub same_signature : (s t : Signature) → s.name ≡ t.name → s.desc ≡ t.desc → s ≡ t
 same_signature s t p q = ap (λ (n : List ℕ). record { name = n; desc = s.desc }) p ∙ ap (λ (d : List ℕ). record { name = t.name; desc = d }) q
 
 has_signature : (xs : List Method) (i : ℕ) (x : Method) (s : Signature) → slice_get xs i ≡ Some x → signature x ≡ s → Contains (signatures xs) s

@@ -12,3 +12,4 @@ pub mod ItemTexts
 pub mod CodeTexts
 pub mod MethodTexts
 pub mod Distinct
+pub mod MethodLists

@@ -34,11 +34,11 @@ record IsCodeFront (t : List ℕ) (x : Front) : Type 0 where
   some : 0 < length x.2
   few : length x.2 < 65536
 
-and_said : (a b : Bool) → (a && b) ≡ true → (a ≡ true) × (b ≡ true)
+pub and_said : (a b : Bool) → (a && b) ≡ true → (a ≡ true) × (b ≡ true)
 and_said true b e = (refl, e)
 and_said false b e = absurd (true≢false (sym e))
 
-and_says : (a b : Bool) → a ≡ true → b ≡ true → (a && b) ≡ true
+pub and_says : (a b : Bool) → a ≡ true → b ≡ true → (a && b) ≡ true
 and_says true b e f = f
 and_says false b e f = absurd (true≢false (sym e))
 

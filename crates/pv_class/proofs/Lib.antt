@@ -13,3 +13,5 @@ pub mod CodeTexts
 pub mod MethodTexts
 pub mod Distinct
 pub mod MethodLists
+pub mod ClassTexts
+pub mod ClassAgrees

@@ -1,14 +1,13 @@
 -- A class file by the spelling of its items, and what the grammar takes, are the same.
-use Rattle.std.proofs.Common.{◌≡◌, ℕ, ◌+◌, ◌≤◌, List, [], ◌∷◌, ◌++◌, length, drop, refl, sym, ap, subst, ◌∙◌, append_assoc, arith}
+use Rattle.std.proofs.Common.{◌≡◌, ℕ, ◌+◌, ◌≤◌, List, [], ◌++◌, length, drop, refl, sym, ap, subst, ◌∙◌, append_assoc, arith}
 use Rattle.std.proofs.lemmas.List.{length-append, append-nil, drop_at}
 use Rattle.pv_pool.specs.declared.entry.Entry.{Entry}
 use Rattle.pv_pool.specs.Pools.{IsPoolText, IsPoolAt}
 use Rattle.pv_pool.proofs.Formats.{IsBytes, bytes_behind}
-use Rattle.pv_class.specs.declared.file.Method.{Method}
 use Rattle.pv_class.specs.declared.file.ClassFile.{ClassFile}
 use Rattle.pv_class.specs.Grammars.{Takes}
 use Rattle.pv_class.specs.ClassGrammar.{head, tail}
-use Rattle.pv_class.specs.Items.{u2, u4, IsU2, Items, file_text, FitsItems}
+use Rattle.pv_class.specs.Items.{u2, u4, Items, file_text}
 use Rattle.pv_class.specs.ClassFiles.{Describes, IsClass}
 use Rattle.pv_class.proofs.ClassTexts.{IsHead, head_texts, TailItems, tail_text, IsTail, untested, untested_texts, tail_untested, tail_tested}
 
@@ -134,5 +133,5 @@ class_taken bytes file fits small t =
     let q = (untested_texts file.pool).takes pool.rest file.methods [] fits_last (tail_untested file.pool pool.rest file.methods [] (subst P last t.tail_is)) in
     let behind : pool.rest ≡ tail_text q.2.items = q.1 ∙ append-nil q.0 ∙ q.2.text in
     let spelled : bytes ≡ file_text (all_items h.minor h.major pool.text file.pool q.2.items) =
-        parts ∙ ap (λ (u : List ℕ). front ++ (pool.text ++ u)) behind ∙ ap (λ (u : List ℕ). u ++ (pool.text ++ tail_text q.2.items)) h.text ∙ sym (file_parts (u4 0xCAFEBABE) (u2 h.minor) (u2 h.major) (pool.text ++ tail_text q.2.items)) in
+    parts ∙ ap (λ (u : List ℕ). front ++ (pool.text ++ u)) behind ∙ ap (λ (u : List ℕ). u ++ (pool.text ++ tail_text q.2.items)) h.text ∙ sym (file_parts (u4 0xCAFEBABE) (u2 h.minor) (u2 h.major) (pool.text ++ tail_text q.2.items)) in
     record { items = all_items h.minor h.major pool.text file.pool q.2.items; spelled = spelled; small = small; describes = describes file front pool.text q.0 h pool.is q.2 }

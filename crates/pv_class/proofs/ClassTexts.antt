@@ -1,7 +1,7 @@
 -- The texts of what stands before the constant pool of a class file, and behind it.
-use Rattle.std.proofs.Common.{◌≡◌, ◌⊎◌, ℕ, ◌<◌, ◌≤◌, Bool, true, false, ◌&&◌, eqb, leb, List, [], ◌∷◌, ◌++◌, length, refl, sym, ap, subst, ◌∙◌, append_assoc, true≢false, arith}
+use Rattle.std.proofs.Common.{◌≡◌, ℕ, ◌≤◌, Bool, true, ◌&&◌, eqb, leb, List, [], ◌++◌, length, refl, sym, ap, subst, ◌∙◌, append_assoc, arith}
 use Rattle.std.specs.List.{AllByRecursion, AllZip}
-use Rattle.std.proofs.lemmas.Bool.{eq-eqb, eqb-true, leb-true, le-leb}
+use Rattle.std.proofs.lemmas.Bool.{and_parts, and_from, eq-eqb, eqb-true, leb-true, le-leb}
 use Rattle.std.proofs.lemmas.List.{append-nil}
 use Rattle.pv_pool.specs.declared.entry.Entry.{Entry}
 use Rattle.pv_pool.specs.Pools.{HasText, HasClass}
@@ -14,9 +14,8 @@ use Rattle.pv_class.specs.Grammars as grammar
 use Rattle.pv_class.specs.ClassGrammar.{in_file, skipped, interface, field, all_methods, head, class_front, class_end, tail}
 use Rattle.pv_class.specs.Items.{u2, u4, IsU2, table, IsTable, Attribute, attribute_text, FitsAttribute, Member, member_text, FitsMember}
 use Rattle.pv_class.specs.ClassFiles.{IsField, IsMethod, AreDistinct}
-use Rattle.pv_class.proofs.Takings.{IsTexts, same_texts, then_texts, check_texts, here_texts, give_texts, then_takes, takes_then, Follow, with_u2, with_u4, IsU4, joined, ended, Table, table_texts}
+use Rattle.pv_class.proofs.Takings.{IsTexts, same_texts, then_texts, check_texts, here_texts, give_texts, then_takes, takes_then, Follow, with_u2, with_u4, joined, ended, Table, table_texts}
 use Rattle.pv_class.proofs.ItemTexts.{both_of, of_both, IsIndex, with_index, IsAttribute, attributes_texts, IsInterface, interface_texts, IsPlainField, field_texts}
-use Rattle.pv_class.proofs.CodeTexts.{and_said, and_says}
 use Rattle.pv_class.proofs.MethodLists.{AreMethods, all_methods_texts}
 
 -- ---- before the pool
@@ -41,24 +40,36 @@ head_texts =
     let T1 : ℕ → List ℕ → Unit {0} → Type 0 = λ magic t x. (eqb magic 0xCAFEBABE ≡ true) × Follow u2 IsU2 (λ _. T2) t x in
     same_texts (here_texts (λ start. with_u4 in_file T1 (λ magic. check_texts (holds (eqb magic 0xCAFEBABE)) (failure cause.Magic start) (here_texts (λ start. with_u2 in_file (λ _. T2) (λ minor. with_u2 in_file T3 (λ major. check_texts (holds (is_version major)) (failure cause.Version start) (give_texts tt))))))))
     (λ t x a.
-        let b = a.4.1 in
-        let c = b.4 in
-        let magic = eqb-true a.0 0xCAFEBABE a.4.0 in
-        let version = and_said (leb 45 c.0) (leb c.0 69) c.4.0 in
-        record {
-          minor = b.0;
-          major = c.0;
-          text = joined (u4 a.0) a.2 (joined (u2 b.0) b.2 (ended (u2 c.0) c.2 c.4.1.0)) ∙ ap (λ (n : ℕ). u4 n ++ (u2 b.0 ++ u2 c.0)) magic;
-          minor_fits = b.3;
-          major_fits = c.3;
-          old = leb-true 45 c.0 version.0;
-          young = leb-true c.0 69 version.1;
-        })
+    let b = a.4.1 in
+    let c = b.4 in
+    let magic = eqb-true a.0 0xCAFEBABE a.4.0 in
+    let version = and_parts (leb 45 c.0) (leb c.0 69) c.4.0 in
+    record {
+      minor = b.0;
+      major = c.0;
+      text = joined (u4 a.0) a.2 (joined (u2 b.0) b.2 (ended (u2 c.0) c.2 c.4.1.0)) ∙ ap (λ (n : ℕ). u4 n ++ (u2 b.0 ++ u2 c.0)) magic;
+      minor_fits = b.3;
+      major_fits = c.3;
+      old = leb-true 45 c.0 version.0;
+      young = leb-true c.0 69 version.1;
+    })
     (λ t x s.
-        let version = and_says (leb 45 s.major) (leb s.major 69) (le-leb 45 s.major s.old) (le-leb s.major 69 s.young) in
-        (0xCAFEBABE, u2 s.minor ++ u2 s.major, s.text, omega arith, (refl,
-          (s.minor, u2 s.major, refl, s.minor_fits,
-            (s.major, [], sym (append-nil (u2 s.major)), s.major_fits, (version, (refl, refl)))))))
+    let version = and_from (leb 45 s.major) (leb s.major 69) (le-leb 45 s.major s.old) (le-leb s.major 69 s.young) in (
+      0xCAFEBABE,
+      u2 s.minor ++ u2 s.major,
+      s.text,
+      omega arith,
+      (
+        refl,
+        (
+          s.minor,
+          u2 s.major,
+          refl,
+          s.minor_fits,
+          (s.major, [], sym (append-nil (u2 s.major)), s.major_fits, (version, (refl, refl))),
+        ),
+      ),
+    ))
 
 -- ---- the class and its superclass
 
@@ -78,13 +89,22 @@ front_texts pool =
     let T1 : List ℕ → Unit {0} → Type 0 = Follow u2 (IsIndex (class pool)) (λ _. T2) in
     same_texts (with_u2 in_file (λ _. T1) (λ flags. with_index in_file (class pool) (λ _. T2) (λ this. with_index in_file (class_or_none pool) (λ _. Done tt) (λ super. give_texts tt))))
     (λ t x a.
-        let b = a.4 in
-        let c = b.4 in
-        record { flags = a.0; this = b.0; super = c.0; text = joined (u2 a.0) a.2 (joined (u2 b.0) b.2 (ended (u2 c.0) c.2 c.4.0)); flags_fit = a.3; this_is = b.3; super_is = c.3 })
-    (λ t x s.
-        (s.flags, u2 s.this ++ u2 s.super, s.text, s.flags_fit,
-          (s.this, u2 s.super, refl, s.this_is,
-            (s.super, [], sym (append-nil (u2 s.super)), s.super_is, (refl, refl)))))
+    let b = a.4 in
+    let c = b.4 in
+    record { flags = a.0; this = b.0; super = c.0; text = joined (u2 a.0) a.2 (joined (u2 b.0) b.2 (ended (u2 c.0) c.2 c.4.0)); flags_fit = a.3; this_is = b.3; super_is = c.3 })
+    (λ t x s. (
+      s.flags,
+      u2 s.this ++ u2 s.super,
+      s.text,
+      s.flags_fit,
+      (
+        s.this,
+        u2 s.super,
+        refl,
+        s.this_is,
+        (s.super, [], sym (append-nil (u2 s.super)), s.super_is, (refl, refl)),
+      ),
+    ))
 
 -- ---- behind the pool
 
@@ -244,9 +264,9 @@ behind_front pool end = bind (grammar.table in_file (interface in_file pool)) (�
 end_as : (pool : List Entry) (e f : Grammar (List Method)) (all : List Method) (rest : List ℕ) → ((mid : List ℕ) → Takes e mid all rest → Takes f mid all rest) → (bytes : List ℕ) → Takes (bind (class_front pool) (λ _. behind_front pool e)) bytes all rest → Takes (bind (class_front pool) (λ _. behind_front pool f)) bytes all rest
 end_as pool e f all rest change bytes h =
     then_as (class_front pool) (λ _. behind_front pool e) (λ _. behind_front pool f) bytes all rest
-      (λ _ mid. then_as (grammar.table in_file (interface in_file pool)) (λ _. behind_fields pool e) (λ _. behind_fields pool f) mid all rest
-        (λ _ more. then_as (grammar.table in_file (field pool)) (λ _. e) (λ _. f) more all rest (λ _ last. change last)))
-      h
+    (λ _ mid. then_as (grammar.table in_file (interface in_file pool)) (λ _. behind_fields pool e) (λ _. behind_fields pool f) mid all rest
+    (λ _ more. then_as (grammar.table in_file (field pool)) (λ _. e) (λ _. f) more all rest (λ _ last. change last)))
+    h
 
 pub tail_untested : (pool : List Entry) (bytes : List ℕ) (all : List Method) (rest : List ℕ) → Takes (tail pool) bytes all rest → Takes (untested pool) bytes all rest
 unfolding tail

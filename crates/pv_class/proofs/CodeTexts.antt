@@ -1,7 +1,6 @@
 -- The texts of Code attributes behind their names.
-use Rattle.std.proofs.Common.{◌≡◌, ℕ, ◌+◌, ◌-◌, ◌<◌, ◌≤◌, Bool, true, false, ◌&&◌, eqb, leb, cond, List, [], ◌∷◌, ◌++◌, length, Some, refl, sym, ap, subst, ◌∙◌, append_assoc, true≢false, arith}
-use Rattle.std.specs.List.{AllByRecursion}
-use Rattle.std.proofs.lemmas.Bool.{eq-eqb, eqb-true, leb-true, le-leb}
+use Rattle.std.proofs.Common.{◌≡◌, ℕ, ◌+◌, ◌-◌, ◌<◌, ◌≤◌, Bool, true, ◌&&◌, eqb, leb, cond, List, [], ◌++◌, length, Some, refl, sym, ap, subst, ◌∙◌, append_assoc, arith}
+use Rattle.std.proofs.lemmas.Bool.{and_parts, and_from, eq-eqb, eqb-true, leb-true, le-leb}
 use Rattle.std.proofs.lemmas.List.{length-append, append-nil}
 use Rattle.pv_pool.specs.declared.entry.Entry.{Entry}
 use Rattle.pv_pool.specs.Pools.{HasText}
@@ -14,7 +13,7 @@ use Rattle.pv_class.specs.Checks.{holds}
 use Rattle.pv_class.specs.Grammars.{Grammar, give, here, check, bind, Takes, failure}
 use Rattle.pv_class.specs.Grammars as grammar
 use Rattle.pv_class.specs.ClassGrammar.{in_file, in_code, skipped, handler, code_front, code_contents, code}
-use Rattle.pv_class.specs.Items.{u2, u4, IsU2, table, Attribute, attribute_text, FitsAttribute, Handler, handler_text, FitsHandler, CodeItems, code_text, FitsCode}
+use Rattle.pv_class.specs.Items.{u2, u4, IsU2, table, attribute_text, FitsAttribute, handler_text, FitsHandler, CodeItems, code_text}
 use Rattle.pv_class.specs.ClassFiles.{HoldsCode}
 use Rattle.pv_class.proofs.Takings.{IsTexts, same_texts, then_texts, check_texts, give_texts, then_takes, takes_then, number_texts, Follow, with_u2, with_u4, with_run, IsU4, itself, HasLength, joined, ended, Table, table_texts}
 use Rattle.pv_class.proofs.ItemTexts.{both_of, of_both, contents_text, Short, IsAttribute, handler_texts, attributes_texts}
@@ -34,26 +33,18 @@ record IsCodeFront (t : List ℕ) (x : Front) : Type 0 where
   some : 0 < length x.2
   few : length x.2 < 65536
 
-pub and_said : (a b : Bool) → (a && b) ≡ true → (a ≡ true) × (b ≡ true)
-and_said true b e = (refl, e)
-and_said false b e = absurd (true≢false (sym e))
-
-pub and_says : (a b : Bool) → a ≡ true → b ≡ true → (a && b) ≡ true
-and_says true b e f = f
-and_says false b e f = absurd (true≢false (sym e))
-
 abbrev is_size : ℕ → Bool
 is_size n = leb 1 n && leb n 65535
 
 size_said : (n : ℕ) → is_size n ≡ true → (0 < n) × (n < 65536)
 size_said n e =
-    let both = and_said (leb 1 n) (leb n 65535) e in
+    let both = and_parts (leb 1 n) (leb n 65535) e in
     let low = leb-true 1 n both.0 in
     let high = leb-true n 65535 both.1 in
     (omega arith, omega arith)
 
 size_says : (n : ℕ) → 0 < n → n < 65536 → is_size n ≡ true
-size_says n low high = and_says (leb 1 n) (leb n 65535) (le-leb 1 n (omega arith)) (le-leb n 65535 (omega arith))
+size_says n low high = and_from (leb 1 n) (leb n 65535) (le-leb 1 n (omega arith)) (le-leb n 65535 (omega arith))
 
 front_texts : (room : Room) (start : ℕ) → IsTexts (code_front room start) room IsCodeFront
 unfolding code_front
@@ -64,18 +55,27 @@ front_texts room start =
     let T1 : ℕ → List ℕ → Front → Type 0 = λ stack. Follow u2 IsU2 (T2 stack) in
     same_texts (with_u2 room T1 (λ stack. with_u2 room (T2 stack) (λ locals. with_u4 room (T3 stack locals) (λ n. check_texts (holds (is_size n)) (failure cause.Code start) (with_run room n (T4 stack locals) (λ bytes. give_texts (stack, locals, bytes)))))))
     (λ t x a.
-        let b = a.4 in
-        let c = b.4 in
-        let d = c.4.1 in
-        let len = d.3 in
-        let size = size_said c.0 c.4.0 in
-        let text = joined (u2 a.0) a.2 (joined (u2 b.0) b.2 (joined (u4 c.0) c.2 (ended d.0 d.2 d.4.0))) ∙ ap (λ (n : ℕ). u2 a.0 ++ (u2 b.0 ++ (u4 n ++ d.0))) (sym len) in
-        let all : IsCodeFront t (a.0, b.0, d.0) = record { text = text; max_stack = a.3; max_locals = b.3; some = omega arith; few = omega arith } in
-        subst (λ (y : Front). IsCodeFront t y) (sym d.4.1) all)
-    (λ t x s.
-        (x.0, u2 x.1 ++ (u4 (length x.2) ++ x.2), s.text, s.max_stack,
-          (x.1, u4 (length x.2) ++ x.2, refl, s.max_locals,
-            (length x.2, x.2, refl, omega (arith, s.few), (size_says (length x.2) s.some s.few, (x.2, [], sym (append-nil x.2), refl, (refl, refl)))))))
+    let b = a.4 in
+    let c = b.4 in
+    let d = c.4.1 in
+    let len = d.3 in
+    let size = size_said c.0 c.4.0 in
+    let text = joined (u2 a.0) a.2 (joined (u2 b.0) b.2 (joined (u4 c.0) c.2 (ended d.0 d.2 d.4.0))) ∙ ap (λ (n : ℕ). u2 a.0 ++ (u2 b.0 ++ (u4 n ++ d.0))) (sym len) in
+    let all : IsCodeFront t (a.0, b.0, d.0) = record { text = text; max_stack = a.3; max_locals = b.3; some = omega arith; few = omega arith } in
+    subst (λ (y : Front). IsCodeFront t y) (sym d.4.1) all)
+    (λ t x s. (
+      x.0,
+      u2 x.1 ++ (u4 (length x.2) ++ x.2),
+      s.text,
+      s.max_stack,
+      (
+        x.1,
+        u4 (length x.2) ++ x.2,
+        refl,
+        s.max_locals,
+        (length x.2, x.2, refl, omega (arith, s.few), (size_says (length x.2) s.some s.few, (x.2, [], sym (append-nil x.2), refl, (refl, refl)))),
+      ),
+    ))
 
 -- ---- the contents
 
@@ -116,18 +116,20 @@ to_holds pool t c s =
     let both = both_of FitsAttribute (λ a. HasText pool a.name) attrs.0 attrs.4 in
     let items : CodeItems = record { max_stack = x.0; max_locals = x.1; code = x.2; handlers = hs.0; attributes = attrs.0 } in
     let behind : s.back ≡ table handler_text hs.0 ++ table attribute_text attrs.0 =
-        s.others.parts ∙ ap (λ (u : List ℕ). u ++ s.others.back) hs.2 ∙ ap (λ (u : List ℕ). table handler_text hs.0 ++ u) (ended s.others.others.front s.others.others.parts last.0 ∙ attrs.2) in
+    s.others.parts ∙ ap (λ (u : List ℕ). u ++ s.others.back) hs.2 ∙ ap (λ (u : List ℕ). table handler_text hs.0 ++ u) (ended s.others.others.front s.others.others.parts last.0 ∙ attrs.2) in
     let spelled : t ≡ code_text items =
-        s.parts ∙ ap (λ (u : List ℕ). u ++ s.back) s.fits.text ∙ ap (λ (u : List ℕ). front_text x ++ u) behind ∙ contents_parts (u2 x.0) (u2 x.1) (u4 (length x.2)) x.2 (table handler_text hs.0) (table attribute_text attrs.0) in
-    (items, record {
-      spelled = spelled;
-      fits = record { max_stack = s.fits.max_stack; max_locals = s.fits.max_locals; some = s.fits.some; few = s.fits.few; handlers = (hs.3, hs.4); attributes = (attrs.3, both.0) };
-      names = both.1;
-      max_stack = ap (λ (d : Code). d.max_stack) last.1;
-      max_locals = ap (λ (d : Code). d.max_locals) last.1;
-      bytes = ap (λ (d : Code). d.bytes) last.1;
-      handlers = ap (λ (d : Code). d.handlers) last.1 ∙ hs.1;
-    })
+    s.parts ∙ ap (λ (u : List ℕ). u ++ s.back) s.fits.text ∙ ap (λ (u : List ℕ). front_text x ++ u) behind ∙ contents_parts (u2 x.0) (u2 x.1) (u4 (length x.2)) x.2 (table handler_text hs.0) (table attribute_text attrs.0) in (
+      items,
+      record {
+        spelled = spelled;
+        fits = record { max_stack = s.fits.max_stack; max_locals = s.fits.max_locals; some = s.fits.some; few = s.fits.few; handlers = (hs.3, hs.4); attributes = (attrs.3, both.0) };
+        names = both.1;
+        max_stack = ap (λ (d : Code). d.max_stack) last.1;
+        max_locals = ap (λ (d : Code). d.max_locals) last.1;
+        bytes = ap (λ (d : Code). d.bytes) last.1;
+        handlers = ap (λ (d : Code). d.handlers) last.1 ∙ hs.1;
+      },
+    )
 
 code_is : (c : Code) (s l : ℕ) (b : List ℕ) (h : ℕ) → c.max_stack ≡ s → c.max_locals ≡ l → c.bytes ≡ b → c.handlers ≡ h → c ≡ record { max_stack = s; max_locals = l; bytes = b; handlers = h }
 code_is c s l b h e1 e2 e3 e4 = rw (← e1, ← e2, ← e3, ← e4) refl
@@ -187,8 +189,7 @@ body_taken pool room start size left bytes c rest h =
     let d = then_takes (grammar.table room (skipped room pool)) (tested start size left a.0 b.0) b.1 c rest b.3 in
     let end = d.3 in
     let last : Takes (given a.0 b.0 d.0) d.1 c rest = end.1 in
-    let behind = takes_then (grammar.table room (skipped room pool)) (given a.0 b.0) b.1 d.0 d.1 c rest d.2 last in
-    (
+    let behind = takes_then (grammar.table room (skipped room pool)) (given a.0 b.0) b.1 d.0 d.1 c rest d.2 last in (
       takes_then (code_front room start) (behind_front pool room) bytes a.0 a.1 c rest a.2 (takes_then (grammar.table room (handler room)) (behind_handlers pool room a.0) a.1 b.0 b.1 c rest b.2 behind),
       ap (λ (u : List ℕ). length u + size) end.1.1 ∙ eqb-true (length d.1 + size) left end.0,
     )

@@ -1,7 +1,8 @@
 -- Each method is new behind those before it where no two are the same.
-use Rattle.std.proofs.Common.{◌≡◌, ◌⊎◌, inl, inr, ℕ, zero, suc, ◌+◌, ◌<◌, ◌≤◌, List, [], ◌∷◌, ◌++◌, length, get_or, Option, Some, None, refl, sym, ap, subst, ◌∙◌, append_assoc, arith, slice_get}
+use Rattle.std.proofs.Common.{◌≡◌, ◌⊎◌, inl, inr, ℕ, zero, suc, ◌<◌, List, [], ◌∷◌, ◌++◌, length, get_or, Some, refl, sym, ap, subst, ◌∙◌, append_assoc, arith, slice_get}
 use Rattle.std.specs.List.{Contains}
-use Rattle.std.proofs.lemmas.List.{length-append, append-nil}
+use Rattle.std.proofs.lemmas.List.{append-nil}
+use Rattle.std.proofs.lemmas.Option.{slice_get_within}
 use Rattle.pv_class.specs.declared.file.Method.{Method}
 use Rattle.pv_class.specs.declared.signature.Signature.{Signature}
 use Rattle.pv_class.specs.ClassGrammar.{signature, signatures}
@@ -33,11 +34,6 @@ at_length : {A : Type 0} (xs : List A) (y : A) (ys : List A) → slice_get (xs +
 at_length [] y ys = refl
 at_length (x ∷ xs) y ys = at_length xs y ys
 
-at_within : {A : Type 0} (xs : List A) (i : ℕ) (x : A) → slice_get xs i ≡ Some x → i < length xs
-at_within [] i x e = absurd cc
-at_within (z ∷ xs) zero x e = omega arith
-at_within (z ∷ xs) (suc i) x e = let h = at_within xs i x e in omega arith
-
 -- ---- signatures in a list
 
 pub same_signature : (s t : Signature) → s.name ≡ t.name → s.desc ≡ t.desc → s ≡ t
@@ -63,6 +59,7 @@ one_more xs y distinct new i j m n ei ej names descs = by_places (at_or_last xs 
   where
     same : signature m ≡ signature n
     same = same_signature (signature m) (signature n) names descs
+
     by_places : (slice_get xs i ≡ Some m) ⊎ ((i ≡ length xs) × (m ≡ y)) → (slice_get xs j ≡ Some n) ⊎ ((j ≡ length xs) × (n ≡ y)) → i ≡ j
     by_places (inl a) (inl b) = distinct i j m n a b names descs
     by_places (inl a) (inr b) = absurd (new (has_signature xs i m (signature y) a (same ∙ ap signature b.1)))
@@ -81,7 +78,7 @@ distinct_behind so_far (m ∷ ms) distinct = (
       let name = ap (λ (s : Signature). s.name) h.3 in
       let desc = ap (λ (s : Signature). s.desc) h.3 in
       let same = distinct h.0 (length so_far) h.1 m (at_left so_far (m ∷ ms) h.0 h.1 h.2) (at_length so_far m ms) name desc in
-      let within = at_within so_far h.0 h.1 h.2 in
+      let within = slice_get_within so_far h.0 h.1 h.2 in
       absurd (omega arith),
   distinct_behind (so_far ++ m ∷ []) ms (subst AreDistinct (sym (append_assoc so_far (m ∷ []) ms)) distinct),
 )

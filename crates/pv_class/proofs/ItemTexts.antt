@@ -1,5 +1,5 @@
 -- The texts of single items: indices, attributes, interfaces, exception handlers and fields.
-use Rattle.std.proofs.Common.{◌≡◌, ℕ, ◌^◌, ◌<◌, List, [], ◌∷◌, ◌++◌, length, Option, Some, None, refl, sym, ap, subst, ◌∙◌, append_assoc, arith}
+use Rattle.std.proofs.Common.{◌≡◌, ℕ, ◌^◌, ◌<◌, List, [], ◌∷◌, ◌++◌, length, Option, Some, None, refl, sym, ap, subst, ◌∙◌, append_assoc}
 use Rattle.std.specs.List.{AllByRecursion}
 use Rattle.std.proofs.lemmas.List.{append-nil}
 use Rattle.pv_value.specs.declared.descriptor.JType.{JType}
@@ -18,7 +18,7 @@ use Rattle.pv_class.specs.Checks.{Check, Passes, utf8, class}
 use Rattle.pv_class.specs.Grammars.{Grammar, bind, failure}
 use Rattle.pv_class.specs.Grammars as grammar
 use Rattle.pv_class.specs.ClassGrammar.{in_file, index, contents, skipped, interface, handler, member, field, typed, text_at, or_nothing}
-use Rattle.pv_class.specs.Items.{u2, u4, IsU2, table, IsTable, Attribute, attribute_text, FitsAttribute, Member, member_text, FitsMember, Handler, handler_text, FitsHandler}
+use Rattle.pv_class.specs.Items.{u2, u4, IsU2, table, Attribute, attribute_text, FitsAttribute, Member, member_text, FitsMember, Handler, handler_text, FitsHandler}
 use Rattle.pv_class.specs.ClassFiles.{IsField}
 use Rattle.pv_class.proofs.Takings.{IsTexts, same_texts, then_texts, check_texts, here_texts, give_texts, Follow, follow_texts, with_u2, with_u4, with_run, IsU4, itself, HasLength, joined, ended, One, Table, table_texts}
 
@@ -62,8 +62,8 @@ index_texts room kind =
     let T : ℕ → List ℕ → ℕ → Type 0 = λ i t x. Passes (kind i) × Done i t x in
     same_texts (here_texts (λ left. with_u2 room T (λ i. check_texts (kind i) (failure cause.PoolReference left) (give_texts i))))
     (λ t x s.
-        let P : ℕ → Type 0 = λ i. (t ≡ u2 i) × IsIndex kind i in
-        subst P (sym s.4.1.1) (ended (u2 s.0) s.2 s.4.1.0, (s.3, s.4.0)))
+    let P : ℕ → Type 0 = λ i. (t ≡ u2 i) × IsIndex kind i in
+    subst P (sym s.4.1.1) (ended (u2 s.0) s.2 s.4.1.0, (s.3, s.4.0)))
     (λ t x s. (x, [], s.0 ∙ sym (append-nil (u2 x)), s.1.0, (s.1.1, (refl, refl))))
 
 pub with_index : {B : Type 0} {k : ℕ → Grammar B} (room : Room) (kind : ℕ → Check) (T : ℕ → List ℕ → B → Type 0) → ((n : ℕ) → IsTexts (k n) room (T n)) → IsTexts (bind (index room kind) k) room (Follow u2 (IsIndex kind) T)
@@ -83,8 +83,8 @@ contents_texts room =
     let T : ℕ → List ℕ → Unit {0} → Type 0 = λ size. Follow itself (HasLength size) (λ _. Done tt) in
     same_texts (with_u4 room T (λ size. with_run room size (λ _. Done tt) (λ _. give_texts tt)))
     (λ t x s.
-        let c = s.4.0 in
-        (c, joined (u4 s.0) s.2 (ended c s.4.2 s.4.4.0) ∙ ap (λ (n : ℕ). u4 n ++ c) (sym s.4.3), subst IsU4 (sym s.4.3) s.3))
+    let c = s.4.0 in
+    (c, joined (u4 s.0) s.2 (ended c s.4.2 s.4.4.0) ∙ ap (λ (n : ℕ). u4 n ++ c) (sym s.4.3), subst IsU4 (sym s.4.3) s.3))
     (λ t x s. (length s.0, s.0, s.1, s.2, (s.0, [], sym (append-nil s.0), refl, (refl, refl))))
 
 -- an attribute whose name is the index of a Utf8
@@ -96,8 +96,8 @@ unfolding skipped
 skipped_texts room pool =
     same_texts (with_index room (utf8 pool) (λ _. One contents_text Short) (λ _. contents_texts room))
     (λ t x s.
-        let a : Attribute = record { name = s.0; contents = s.4.0 } in
-        (a, joined (u2 s.0) s.2 s.4.1, (record { name = s.3.0; contents = s.4.2 }, s.3.1)))
+    let a : Attribute = record { name = s.0; contents = s.4.0 } in
+    (a, joined (u2 s.0) s.2 s.4.1, (record { name = s.3.0; contents = s.4.2 }, s.3.1)))
     (λ t x s. (s.0.name, contents_text s.0.contents, s.1, (s.2.0.name, s.2.1), (s.0.contents, refl, s.2.0.contents)))
 
 pub attributes_texts : (room : Room) (pool : List Entry) → IsTexts (grammar.table room (skipped room pool)) room (Table attribute_text (IsAttribute pool))
@@ -123,17 +123,31 @@ handler_texts room =
     let T2 : List ℕ → Unit {0} → Type 0 = Follow u2 IsU2 (λ _. T3) in
     same_texts (with_u2 room (λ _. T2) (λ _. with_u2 room (λ _. T3) (λ _. with_u2 room (λ _. T4) (λ _. with_u2 room (λ _. Done tt) (λ _. give_texts tt)))))
     (λ t x a.
-        let b = a.4 in
-        let c = b.4 in
-        let d = c.4 in
-        let h : Handler = record { start = a.0; end = b.0; target = c.0; catch = d.0 } in
-        (h, joined (u2 a.0) a.2 (joined (u2 b.0) b.2 (joined (u2 c.0) c.2 (ended (u2 d.0) d.2 d.4.0))), record { start = a.3; end = b.3; target = c.3; catch = d.3 }))
+    let b = a.4 in
+    let c = b.4 in
+    let d = c.4 in
+    let h : Handler = record { start = a.0; end = b.0; target = c.0; catch = d.0 } in
+    (h, joined (u2 a.0) a.2 (joined (u2 b.0) b.2 (joined (u2 c.0) c.2 (ended (u2 d.0) d.2 d.4.0))), record { start = a.3; end = b.3; target = c.3; catch = d.3 }))
     (λ t x s.
-        let h = s.0 in
-        (h.start, u2 h.end ++ (u2 h.target ++ u2 h.catch), s.1, s.2.start,
-          (h.end, u2 h.target ++ u2 h.catch, refl, s.2.end,
-            (h.target, u2 h.catch, refl, s.2.target,
-              (h.catch, [], sym (append-nil (u2 h.catch)), s.2.catch, (refl, refl))))))
+    let h = s.0 in (
+      h.start,
+      u2 h.end ++ (u2 h.target ++ u2 h.catch),
+      s.1,
+      s.2.start,
+      (
+        h.end,
+        u2 h.target ++ u2 h.catch,
+        refl,
+        s.2.end,
+        (
+          h.target,
+          u2 h.catch,
+          refl,
+          s.2.target,
+          (h.catch, [], sym (append-nil (u2 h.catch)), s.2.catch, (refl, refl)),
+        ),
+      ),
+    ))
 
 -- ---- fields
 
@@ -154,14 +168,23 @@ member_texts k pool =
     let T1 : ℕ → List ℕ → front.Member → Type 0 = λ flags. Follow u2 (IsIndex (utf8 pool)) (T2 flags) in
     same_texts (here_texts (λ left. with_u2 in_file T1 (λ flags. with_index in_file (utf8 pool) (T2 flags) (λ name. with_index in_file (utf8 pool) (T3 flags name) (λ desc. check_texts (typed k (text_at pool desc)) (failure cause.Descriptor left) (give_texts (made flags name desc)))))))
     (λ t m a.
-        let b = a.4 in
-        let c = b.4 in
-        let all : IsFront k pool t (made a.0 b.0 c.0) = record { text = joined (u2 a.0) a.2 (joined (u2 b.0) b.2 (ended (u2 c.0) c.2 c.4.1.0)); flags = a.3; name = b.3; desc = c.3; typed = c.4.0 } in
-        subst (λ (n : front.Member). IsFront k pool t n) (sym c.4.1.1) all)
-    (λ t m s.
-        (m.flags, u2 m.name ++ u2 m.desc, s.text, s.flags,
-          (m.name, u2 m.desc, refl, s.name,
-            (m.desc, [], sym (append-nil (u2 m.desc)), s.desc, (s.typed, (refl, refl))))))
+    let b = a.4 in
+    let c = b.4 in
+    let all : IsFront k pool t (made a.0 b.0 c.0) = record { text = joined (u2 a.0) a.2 (joined (u2 b.0) b.2 (ended (u2 c.0) c.2 c.4.1.0)); flags = a.3; name = b.3; desc = c.3; typed = c.4.0 } in
+    subst (λ (n : front.Member). IsFront k pool t n) (sym c.4.1.1) all)
+    (λ t m s. (
+      m.flags,
+      u2 m.name ++ u2 m.desc,
+      s.text,
+      s.flags,
+      (
+        m.name,
+        u2 m.desc,
+        refl,
+        s.name,
+        (m.desc, [], sym (append-nil (u2 m.desc)), s.desc, (s.typed, (refl, refl))),
+      ),
+    ))
 
 -- the attributes behind the front of a member
 abbrev pub with_attributes : front.Member → List Attribute → Member
@@ -188,27 +211,31 @@ field_texts pool =
     let T : List ℕ → Unit {0} → Type 0 = Then ℕ (Unit {0}) (Table attribute_text (IsAttribute pool)) (λ _. Done tt) in
     same_texts (then_texts (member_texts kind.Field pool) (λ _. then_texts (attributes_texts in_file pool) (λ _. give_texts tt)))
     (λ t x s.
-        let m = s.first in
-        let f = s.fits in
-        let a = s.others.fits in
-        let all = both_of FitsAttribute (λ b. HasText pool b.name) a.0 a.4 in
-        let text : t ≡ member_text (with_attributes m a.0) =
-            s.parts ∙ ap (λ (u : List ℕ). u ++ s.back) f.text ∙ ap (λ (u : List ℕ). front_text m ++ u) (ended s.others.front s.others.parts s.others.others.0 ∙ a.2) ∙ member_parts (u2 m.flags) (u2 m.name) (u2 m.desc) (table attribute_text a.0) in
-        (with_attributes m a.0, text, (
-            record { flags = f.flags; name = f.name.0; desc = f.desc.0; attributes = (a.3, all.0) },
-            record { name = f.name.1; desc = text_at pool m.desc; desc_is = text_found pool m.desc f.desc.1; typed = f.typed; attributes = all.1 })))
+    let m = s.first in
+    let f = s.fits in
+    let a = s.others.fits in
+    let all = both_of FitsAttribute (λ b. HasText pool b.name) a.0 a.4 in
+    let text : t ≡ member_text (with_attributes m a.0) =
+    s.parts ∙ ap (λ (u : List ℕ). u ++ s.back) f.text ∙ ap (λ (u : List ℕ). front_text m ++ u) (ended s.others.front s.others.parts s.others.others.0 ∙ a.2) ∙ member_parts (u2 m.flags) (u2 m.name) (u2 m.desc) (table attribute_text a.0) in (
+      with_attributes m a.0,
+      text,
+      (
+        record { flags = f.flags; name = f.name.0; desc = f.desc.0; attributes = (a.3, all.0) },
+        record { name = f.name.1; desc = text_at pool m.desc; desc_is = text_found pool m.desc f.desc.1; typed = f.typed; attributes = all.1 },
+      ),
+    ))
     (λ t x s.
-        let m = s.0 in
-        let f = s.2.0 in
-        let is = s.2.1 in
-        let has : HasText pool m.desc = text_is pool m.desc is.desc is.desc_is in
-        let front : IsFront kind.Field pool (front_text (front_of m)) (front_of m) = record { text = refl; flags = f.flags; name = (f.name, is.name); desc = (f.desc, has); typed = field_told pool m is } in
-        let text = s.1 ∙ sym (member_parts (u2 m.flags) (u2 m.name) (u2 m.desc) (table attribute_text m.attributes)) in
-        record {
-          first = front_of m;
-          front = front_text (front_of m);
-          back = table attribute_text m.attributes;
-          parts = text;
-          fits = front;
-          others = record { first = length m.attributes; front = table attribute_text m.attributes; back = []; parts = sym (append-nil (table attribute_text m.attributes)); fits = (m.attributes, refl, refl, f.attributes.0, of_both FitsAttribute (λ b. HasText pool b.name) m.attributes f.attributes.1 is.attributes); others = (refl, refl) };
-        })
+    let m = s.0 in
+    let f = s.2.0 in
+    let is = s.2.1 in
+    let has : HasText pool m.desc = text_is pool m.desc is.desc is.desc_is in
+    let front : IsFront kind.Field pool (front_text (front_of m)) (front_of m) = record { text = refl; flags = f.flags; name = (f.name, is.name); desc = (f.desc, has); typed = field_told pool m is } in
+    let text = s.1 ∙ sym (member_parts (u2 m.flags) (u2 m.name) (u2 m.desc) (table attribute_text m.attributes)) in
+    record {
+      first = front_of m;
+      front = front_text (front_of m);
+      back = table attribute_text m.attributes;
+      parts = text;
+      fits = front;
+      others = record { first = length m.attributes; front = table attribute_text m.attributes; back = []; parts = sym (append-nil (table attribute_text m.attributes)); fits = (m.attributes, refl, refl, f.attributes.0, of_both FitsAttribute (λ b. HasText pool b.name) m.attributes f.attributes.1 is.attributes); others = (refl, refl) };
+    })

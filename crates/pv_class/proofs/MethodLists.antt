@@ -1,12 +1,11 @@
 -- The texts of methods, and of all methods of a class.
-use Rattle.std.proofs.Common.{◌≡◌, ℕ, zero, suc, ◌<◌, List, [], ◌∷◌, ◌++◌, length, Option, None, refl, sym, ap, subst, ◌∙◌, append_assoc, arith}
+use Rattle.std.proofs.Common.{◌≡◌, ℕ, zero, suc, List, [], ◌∷◌, ◌++◌, length, Option, None, refl, sym, ap, subst, ◌∙◌, append_assoc, arith}
 use Rattle.std.specs.List.{flat_map, AllByRecursion, AllZip, Contains}
 use Rattle.std.proofs.lemmas.List.{append-nil}
 use Rattle.pv_value.specs.declared.descriptor.Descriptor.{Descriptor}
 use Rattle.pv_value.specs.Descriptors.{IsMethodType}
 use Rattle.pv_pool.specs.declared.entry.Entry.{Entry}
 use Rattle.pv_pool.specs.Pools.{HasText}
-use Rattle.pv_pool.specs.Readers.{text_under}
 use Rattle.pv_pool.proofs.Formats.{Then, Done}
 use Rattle.pv_class.specs.declared.member.Member as front
 use Rattle.pv_class.specs.declared.member.Kind.TheVariants as kind
@@ -17,10 +16,10 @@ use Rattle.pv_class.specs.declared.fault.ClassCause.TheVariants as cause
 use Rattle.pv_class.specs.Checks.{Passes, new}
 use Rattle.pv_class.specs.Grammars.{failure}
 use Rattle.pv_class.specs.ClassGrammar.{in_file, text_at, signature_of, method_of, signature, signatures, method, methods, all_methods}
-use Rattle.pv_class.specs.Items.{u2, IsU2, table, IsTable, Attribute, attribute_text, FitsAttribute, Member, member_text, FitsMember}
+use Rattle.pv_class.specs.Items.{u2, IsU2, table, IsTable, attribute_text, FitsAttribute, Member, member_text, FitsMember}
 use Rattle.pv_class.specs.ClassFiles.{IsMethod, AreDistinct}
 use Rattle.pv_class.proofs.Takings.{IsTexts, same_texts, then_texts, check_texts, here_texts, give_texts, Follow, with_u2, joined, ended}
-use Rattle.pv_class.proofs.ItemTexts.{both_of, of_both, text_found, text_told, text_is, IsAttribute, IsFront, member_texts, with_attributes, front_of, front_text, member_parts}
+use Rattle.pv_class.proofs.ItemTexts.{both_of, of_both, text_found, text_told, text_is, IsFront, member_texts, with_attributes, front_of, front_text, member_parts}
 use Rattle.pv_class.proofs.MethodTexts.{KeepAll, kept_texts, code_among, among_threads}
 use Rattle.pv_class.proofs.Distinct.{Fresh, fresh_distinct, distinct_fresh, same_signature}
 
@@ -142,14 +141,14 @@ all_methods_texts pool =
     let T : ℕ → List ℕ → List Method → Type 0 = λ n. AreNew pool n [] in
     same_texts (with_u2 in_file T (λ n. methods_texts pool n []))
     (λ t all s.
-        let o = s.4 in
-        let len = o.2 in
-        let told : AreMethods pool t o.1 = record {
-          members = o.0;
-          text = joined (u2 s.0) s.2 o.3 ∙ ap (λ (n : ℕ). u2 n ++ flat_map member_text o.0) (sym len);
-          fits = (subst IsU2 (sym len) s.3, o.4);
-          are = o.5;
-          distinct = fresh_distinct o.1 o.6;
-        } in
-        subst (λ (ms : List Method). AreMethods pool t ms) (sym o.7) told)
+    let o = s.4 in
+    let len = o.2 in
+    let told : AreMethods pool t o.1 = record {
+      members = o.0;
+      text = joined (u2 s.0) s.2 o.3 ∙ ap (λ (n : ℕ). u2 n ++ flat_map member_text o.0) (sym len);
+      fits = (subst IsU2 (sym len) s.3, o.4);
+      are = o.5;
+      distinct = fresh_distinct o.1 o.6;
+    } in
+    subst (λ (ms : List Method). AreMethods pool t ms) (sym o.7) told)
     (λ t all s. (length s.members, flat_map member_text s.members, s.text, s.fits.0, (s.members, all, refl, refl, s.fits.1, s.are, distinct_fresh all s.distinct, refl)))

@@ -1,7 +1,7 @@
 -- The texts of the attributes of a method, of which at most one is the Code.
-use Rattle.std.proofs.Common.{◌≡◌, ℕ, zero, suc, ◌<◌, ◌≤◌, Bool, true, false, is_none, List, [], ◌∷◌, ◌++◌, length, Option, Some, None, refl, sym, ap, subst, ◌∙◌, true≢false, arith}
+use Rattle.std.proofs.Common.{◌≡◌, ℕ, zero, suc, Bool, true, false, is_none, List, [], ◌∷◌, ◌++◌, length, Option, Some, None, refl, sym, ap, subst, ◌∙◌, true≢false, arith}
 use Rattle.std.specs.List.{flat_map, AllByRecursion}
-use Rattle.std.specs.Str.{bytes_eq}
+use Rattle.std.proofs.lemmas.Bool.{false_from_ne_true}
 use Rattle.std.proofs.lemmas.List.{append-nil}
 use Rattle.std.proofs.lemmas.Slice.Eq.{bytes_eq-Decides}
 use Rattle.pv_pool.specs.declared.entry.Entry.{Entry}
@@ -14,9 +14,9 @@ use Rattle.pv_class.specs.Grammars.{failure}
 use Rattle.pv_class.specs.ClassGrammar.{in_file, or_nothing, text_at, is_code, attribute_behind, attribute, attributes}
 use Rattle.pv_class.specs.Items.{u2, Attribute, attribute_text, CodeItems}
 use Rattle.pv_class.specs.ClassFiles.{code_word, IsCodeAttribute, HoldsCode, OneCode, CodeAmong}
-use Rattle.pv_class.proofs.Takings.{IsTexts, same_texts, then_texts, check_texts, here_texts, give_texts, One, joined, ended}
-use Rattle.pv_class.proofs.ItemTexts.{contents_text, Short, contents_texts, IsIndex, with_index, IsAttribute, text_told}
-use Rattle.pv_class.proofs.CodeTexts.{IsCodeText, code_texts}
+use Rattle.pv_class.proofs.Takings.{IsTexts, same_texts, then_texts, check_texts, here_texts, give_texts, joined, ended}
+use Rattle.pv_class.proofs.ItemTexts.{contents_text, Short, contents_texts, with_index, IsAttribute, text_told}
+use Rattle.pv_class.proofs.CodeTexts.{code_texts}
 
 -- ---- an attribute
 
@@ -36,12 +36,12 @@ behind_texts : (pool : List Entry) (so_far : Option Code) (start : ℕ) (b : Boo
 behind_texts pool so_far start true =
     same_texts (check_texts (holds (is_none so_far)) (failure cause.Code start) (then_texts (code_texts pool start) (λ c. give_texts (Some c))))
     (λ t now s.
-        let f = s.1.fits in
-        let text = ended s.1.front s.1.parts s.1.others.0 ∙ f.1 in
-        (f.0, text, f.2, (none_said so_far s.0, s.1.first, s.1.others.1, f.3, f.4)))
+    let f = s.1.fits in
+    let text = ended s.1.front s.1.parts s.1.others.0 ∙ f.1 in
+    (f.0, text, f.2, (none_said so_far s.0, s.1.first, s.1.others.1, f.3, f.4)))
     (λ t now s.
-        let k = s.3 in
-        (ap is_none k.0, record { first = k.1; front = t; back = []; parts = sym (append-nil t); fits = (s.0, s.1, s.2, k.3, k.4); others = (refl, k.2) }))
+    let k = s.3 in
+    (ap is_none k.0, record { first = k.1; front = t; back = []; parts = sym (append-nil t); fits = (s.0, s.1, s.2, k.3, k.4); others = (refl, k.2) }))
 behind_texts pool so_far start false =
     same_texts (then_texts (contents_texts in_file) (λ _. give_texts so_far))
     (λ t now s. (s.fits.0, ended s.front s.parts s.others.0 ∙ s.fits.1, s.fits.2, s.others.1))
@@ -56,12 +56,12 @@ attribute_texts pool so_far =
     let T : ℕ → List ℕ → Option Code → Type 0 = λ name. Behind pool so_far (is_code pool name) in
     same_texts (here_texts (λ start. with_index in_file (utf8 pool) T (λ name. behind_texts pool so_far start (is_code pool name))))
     (λ t now s.
-        let b = s.4 in
-        let a : Attribute = record { name = s.0; contents = b.0 } in
-        (a, joined (u2 s.0) s.2 b.1, (record { name = s.3.0; contents = b.2 }, s.3.1), b.3))
+    let b = s.4 in
+    let a : Attribute = record { name = s.0; contents = b.0 } in
+    (a, joined (u2 s.0) s.2 b.1, (record { name = s.3.0; contents = b.2 }, s.3.1), b.3))
     (λ t now s.
-        let a = s.0 in
-        (a.name, contents_text a.contents, s.1, (s.2.0.name, s.2.1), (a.contents, refl, s.2.0.contents, s.3)))
+    let a = s.0 in
+    (a.name, contents_text a.contents, s.1, (s.2.0.name, s.2.1), (a.contents, refl, s.2.0.contents, s.3)))
 
 -- ---- attributes
 
@@ -87,10 +87,10 @@ unfolding attributes
 kept_texts pool zero so_far = same_texts (give_texts so_far) (λ t last s. ([], refl, s.0, tt, s.1)) (none_left pool so_far)
 kept_texts pool (suc n) so_far = same_texts (then_texts (attribute_texts pool so_far) (λ now. kept_texts pool n now))
     (λ t last s.
-        let a = s.fits in
-        let o = s.others in
-        let text = s.parts ∙ ap (λ (u : List ℕ). u ++ s.back) a.1 ∙ ap (λ (u : List ℕ). attribute_text a.0 ++ u) o.2 in
-        (a.0 ∷ o.0, omega (arith, o.1), text, (a.2, o.3), (s.first, a.3, o.4)))
+    let a = s.fits in
+    let o = s.others in
+    let text = s.parts ∙ ap (λ (u : List ℕ). u ++ s.back) a.1 ∙ ap (λ (u : List ℕ). attribute_text a.0 ++ u) o.2 in
+    (a.0 ∷ o.0, omega (arith, o.1), text, (a.2, o.3), (s.first, a.3, o.4)))
     (one_more pool so_far n)
 
 -- ---- at most one of them is the Code
@@ -108,12 +108,8 @@ named_is_code pool a named = (bytes_eq-Decides (text_at pool a.name) code_word).
 no_code : (pool : List Entry) (a : Attribute) → is_code pool a.name ≡ false → ¬ IsCodeAttribute pool a
 no_code pool a e named = true≢false (sym (named_is_code pool a named) ∙ e)
 
-false_otherwise : (b : Bool) → (b ≡ true → ⊥) → b ≡ false
-false_otherwise true never = absurd (never refl)
-false_otherwise false never = refl
-
 other_is_false : (pool : List Entry) (a : Attribute) → ¬ IsCodeAttribute pool a → is_code pool a.name ≡ false
-other_is_false pool a other = false_otherwise (is_code pool a.name) (λ e. other (code_is_named pool a e))
+other_is_false pool a other = false_from_ne_true (is_code pool a.name) (λ e. other (code_is_named pool a e))
 
 -- attributes that are no Code change nothing
 others_keep : (pool : List Entry) (so_far : Option Code) (attrs : List Attribute) → AllByRecursion (λ a. ¬ IsCodeAttribute pool a) attrs → Threads pool so_far attrs so_far

@@ -1,7 +1,7 @@
 -- The texts that a grammar takes.
-use Rattle.std.proofs.Common.{◌≡◌, ℕ, zero, suc, ◌+◌, ◌<◌, ◌≤◌, List, [], ◌∷◌, ◌++◌, length, refl, sym, ap, subst, ◌∙◌, append_assoc, arith}
+use Rattle.std.proofs.Common.{◌≡◌, ℕ, zero, suc, ◌≤◌, List, [], ◌∷◌, ◌++◌, length, refl, sym, ap, subst, ◌∙◌, append_assoc, arith}
 use Rattle.std.specs.List.{flat_map, AllByRecursion}
-use Rattle.std.specs.Int.{Width, w16, w32, byte_len, from_be_bytes, to_be_bytes}
+use Rattle.std.specs.Int.{Width, w16, w32, from_be_bytes, to_be_bytes}
 use Rattle.std.proofs.lemmas.List.{length-append, append-nil}
 use Rattle.pv_pool.specs.Entries.{FitsNumber}
 use Rattle.pv_pool.proofs.Formats.{IsBytes, IsBytes-left, bytes_behind, Then, Done, Run, Number, IsWide, wide16, wide32}
@@ -167,7 +167,7 @@ table_texts {I = I} room text P f =
     let behind : (n : ℕ) → List ℕ → ℕ → Type 0 = λ n. Then (Unit {0}) ℕ (Many text P n) (λ _. Done n) in
     same_texts (with_u2 room behind (λ n. then_texts (times_texts room text P f n) (λ _. give_texts n)))
     (λ t n s.
-        let b = s.4 in
-        let count = b.fits.1 in
-        (b.fits.0, b.others.1 ∙ sym count, joined (items.u2 s.0) s.2 (ended b.front b.parts b.others.0 ∙ b.fits.2) ∙ ap (λ (m : ℕ). items.u2 m ++ flat_map text b.fits.0) (sym count), subst items.IsU2 (sym count) s.3, b.fits.3))
+    let b = s.4 in
+    let count = b.fits.1 in
+    (b.fits.0, b.others.1 ∙ sym count, joined (items.u2 s.0) s.2 (ended b.front b.parts b.others.0 ∙ b.fits.2) ∙ ap (λ (m : ℕ). items.u2 m ++ flat_map text b.fits.0) (sym count), subst items.IsU2 (sym count) s.3, b.fits.3))
     (λ t n s. (length s.0, flat_map text s.0, s.2, s.3, record { first = tt; front = flat_map text s.0; back = []; parts = sym (append-nil (flat_map text s.0)); fits = (s.0, refl, refl, s.4); others = (refl, s.1) }))

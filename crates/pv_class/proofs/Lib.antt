@@ -1,4 +1,3 @@
-pub mod ClassAgrees
 pub mod Outcomes
 pub mod Readings
 pub mod ClassParts
@@ -11,3 +10,11 @@ pub mod Running
 pub mod Decoding
 pub mod Programs
 pub mod Walks
+pub mod Takings
+pub mod ItemTexts
+pub mod CodeTexts
+pub mod MethodTexts
+pub mod Distinct
+pub mod MethodLists
+pub mod ClassTexts
+pub mod ClassAgrees

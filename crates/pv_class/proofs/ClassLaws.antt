@@ -1,26 +1,29 @@
 -- What is read is the class file of the bytes, and no other is.
-use Rattle.std.proofs.Common.{◌≡◌, ℕ, zero, suc, ◌+◌, ◌<◌, ◌≤◌, List, [], ◌∷◌, ◌++◌, length, Option, Some, None, Result, Ok, Err, refl, sym, ap, subst, ◌∙◌, append_assoc, arith, slice_get}
-use Rattle.std.specs.List.{flat_map, AllByRecursion, AllZip}
+use Rattle.std.proofs.Common.{◌≡◌, ℕ, zero, suc, ◌<◌, ◌≤◌, List, [], ◌∷◌, ◌++◌, length, Option, Some, None, Result, Ok, Err, refl, sym, ap, subst, ◌∙◌, append_assoc, arith, slice_get}
+use Rattle.std.specs.List.{AllByRecursion, AllZip}
 use Rattle.std.proofs.lemmas.List.{length-append, append-nil}
+use Rattle.pv_pool.specs.declared.entry.Entry.{Entry}
+use Rattle.pv_pool.specs.declared.entry.Entry.TheVariants.{Utf8}
+use Rattle.pv_pool.specs.Pools.{entry_under, IsPoolText}
+use Rattle.pv_pool.specs.Readers.{◌>>=◌, text_of}
+use Rattle.pv_pool.proofs.Formats.{IsBytes}
 use Rattle.pv_class.specs.declared.fault.ClassFault.{ClassFault}
 use Rattle.pv_class.specs.declared.fault.ClassFault.TheVariants as fault
-use Rattle.pv_class.specs.declared.file.Entry.{Entry}
-use Rattle.pv_class.specs.declared.file.Entry.TheVariants.{Utf8, Class}
 use Rattle.pv_class.specs.declared.file.Code.{Code}
 use Rattle.pv_class.specs.declared.file.Method.{Method}
 use Rattle.pv_class.specs.declared.file.ClassFile.{ClassFile}
 use Rattle.pv_class.specs.declared.layout.MethodLayout.{MethodLayout}
 use Rattle.pv_class.specs.declared.layout.Layout.{Layout}
-use Rattle.pv_class.specs.Items.{u2, u4, table, entry_text, Handler, handler_text, Attribute, attribute_text, FitsAttribute, Member, member_text, FitsMember, CodeItems, code_text, FitsCode, Items, file_text, FitsItems}
-use Rattle.pv_class.specs.ClassFiles.{entry_under, code_word, IsCodeAttribute, OneCode, CodeAmong, IsMethod, AreDistinct, Describes, IsClass}
-use Rattle.pv_class.specs.Layouts.{Finds, text_of, IsMethodOf, IsFileOf}
-use Rattle.pv_class.specs.Reading.{Reads, Fails, whole, code_at, layout_at}
-use Rattle.pv_class.proofs.Formats.{IsBytes, whole_takes, whole_again}
-use Rattle.pv_class.proofs.Spelled.{IsCodeText, code_format, IsPlainCode, IsMethodText, IsLayout, layout_format}
+use Rattle.pv_class.specs.Items.{u2, u4, table, Handler, handler_text, Attribute, attribute_text, FitsAttribute, Member, member_text, FitsMember, CodeItems, code_text, FitsCode, Items, file_text, FitsItems}
+use Rattle.pv_class.specs.ClassFiles.{code_word, IsCodeAttribute, OneCode, CodeAmong, IsMethod, AreDistinct, Describes, IsClass}
+use Rattle.pv_class.specs.Layouts.{Finds, IsMethodOf, IsFileOf}
+use Rattle.pv_class.specs.Reading.{Reads, code_at, IsLayout}
+use Rattle.pv_class.proofs.Parts.{IsLayoutText, text_of_layout, layout_of_text, layout_once, first_pool}
+use Rattle.pv_class.proofs.Spelled.{IsCodeText, code_format, IsPlainCode, IsMethodText}
 
-text_is : (o : Option Entry) (text : List ℕ) → text_of o ≡ Some text → o ≡ Some (Utf8 text)
+text_is : (o : Option Entry) (text : List ℕ) → (o >>= text_of) ≡ Some text → o ≡ Some (Utf8 text)
 text_is (Some (Utf8 t)) text e = cc
-text_is (Some (Class n)) text e = absurd cc
+text_is (Some entry) text e = absurd cc
 text_is None text e = absurd cc
 
 -- ---- parts of a file, whatever stands in them
@@ -29,10 +32,10 @@ same_parts : (front pool middle method last front' middle' method' : List ℕ) �
     → front ++ (pool ++ (middle ++ (method ++ last))) ≡ front' ++ (pool ++ (middle' ++ (method' ++ last)))
 same_parts front pool middle method last front' middle' method' e1 e2 e3 = cc
 
-file_parts : (magic minor major count pool flags this super interfaces fields methods method last : List ℕ)
-    → (magic ++ (minor ++ (major ++ count))) ++ (pool ++ ((flags ++ (this ++ (super ++ (interfaces ++ (fields ++ methods))))) ++ (method ++ last)))
-    ≡ magic ++ (minor ++ (major ++ (count ++ (pool ++ (flags ++ (this ++ (super ++ (interfaces ++ (fields ++ ((methods ++ (method ++ [])) ++ last))))))))))
-file_parts magic minor major count pool flags this super interfaces fields methods method last = simp (append_assoc, append-nil)
+file_parts : (magic minor major pool flags this super interfaces fields methods method last : List ℕ)
+    → (magic ++ (minor ++ major)) ++ (pool ++ ((flags ++ (this ++ (super ++ (interfaces ++ (fields ++ methods))))) ++ (method ++ last)))
+    ≡ magic ++ (minor ++ (major ++ (pool ++ (flags ++ (this ++ (super ++ (interfaces ++ (fields ++ ((methods ++ (method ++ [])) ++ last)))))))))
+file_parts magic minor major pool flags this super interfaces fields methods method last = simp (append_assoc, append-nil)
 
 method_parts : (flags name desc one attribute size contents : List ℕ)
     → flags ++ (name ++ (desc ++ (one ++ (attribute ++ (size ++ contents))))) ≡ flags ++ (name ++ (desc ++ (one ++ ((attribute ++ (size ++ contents)) ++ []))))
@@ -68,50 +71,49 @@ member_spelled t m s = s.text ∙ method_parts (u2 m.flags) (u2 m.name) (u2 m.de
 member_fits : (t : List ℕ) (m : MethodLayout) (s : IsMethodText t m) → FitsMember (member_of m s.contents)
 member_fits t m s = record { flags = s.flags; name = s.name; desc = s.desc; attributes = (omega arith, (record { name = s.attribute; contents = s.size }, tt)) }
 
-abbrev items_of : (t : List ℕ) (l : Layout) → IsLayout t l → Items
+abbrev items_of : (t : List ℕ) (l : Layout) → IsLayoutText t l → Items
 items_of t l s = record {
   minor = s.head.minor;
   major = l.major;
+  pool_text = s.pool;
   pool = l.pool;
-  flags = s.classes.flags;
+  flags = s.tail.classes.flags;
   this = l.this_class;
   super = l.super_class;
   interfaces = [];
   fields = [];
-  methods = member_of l.method s.one.contents ∷ [];
+  methods = member_of l.method s.tail.one.contents ∷ [];
   attributes = [];
 }
 
-items_spelled : (t : List ℕ) (l : Layout) (s : IsLayout t l) → t ≡ file_text (items_of t l s)
+items_spelled : (t : List ℕ) (l : Layout) (s : IsLayoutText t l) → t ≡ file_text (items_of t l s)
 items_spelled t l s =
-    s.text ∙ same_parts s.front (flat_map entry_text l.pool) s.middle s.method (u2 0) _ _ _ s.head.text s.classes.text (member_spelled s.method l.method s.one)
-    ∙ file_parts (u4 0xCAFEBABE) (u2 s.head.minor) (u2 l.major) (u2 (length l.pool + 1)) (flat_map entry_text l.pool) (u2 s.classes.flags) (u2 l.this_class) (u2 l.super_class) (u2 0) (u2 0) (u2 1) (member_text (member_of l.method s.one.contents)) (u2 0)
+    let b = s.tail in
+    s.text ∙ ap (λ (u : List ℕ). s.front ++ (s.pool ++ u)) b.text ∙ same_parts s.front s.pool b.middle b.method (u2 0) _ _ _ s.head.text b.classes.text (member_spelled b.method l.method b.one)
+    ∙ file_parts (u4 0xCAFEBABE) (u2 s.head.minor) (u2 l.major) s.pool (u2 b.classes.flags) (u2 l.this_class) (u2 l.super_class) (u2 0) (u2 0) (u2 1) (member_text (member_of l.method b.one.contents)) (u2 0)
 
-items_fit : (t : List ℕ) (l : Layout) (s : IsLayout t l) → FitsItems (items_of t l s)
+items_fit : (t : List ℕ) (l : Layout) (s : IsLayoutText t l) → FitsItems (items_of t l s)
 items_fit t l s = record {
   minor = s.head.minor_fits;
-  major = s.head.major;
-  count = s.head.count;
-  pool = s.pool;
-  flags = s.classes.flags_fit;
-  this = s.classes.this;
-  super = s.classes.super;
+  major = s.head.major_fits;
+  flags = s.tail.classes.flags_fit;
+  this = s.tail.classes.this;
+  super = s.tail.classes.super;
   interfaces = (omega arith, tt);
   fields = (omega arith, tt);
-  methods = (omega arith, (member_fits s.method l.method s.one, tt));
+  methods = (omega arith, (member_fits s.tail.method l.method s.tail.one, tt));
   attributes = (omega arith, tt);
 }
 
 method_is : (pool : List Entry) (t : List ℕ) (l : MethodLayout) (s : IsMethodText t l) (m : Method) → IsMethodOf pool l m → IsMethod pool (member_of l s.contents) m
 method_is pool t l s m is =
-    let named = text_is (entry_under pool l.attribute) code_word is.attribute in
     let code : OneCode pool (attribute_of l s.contents ∷ []) l.code = record {
       before = [];
       attribute = attribute_of l s.contents;
       after = [];
       items = plain_items l.code s.code.code.handlers;
       among = refl;
-      named = named;
+      named = is.attribute;
       others = tt;
       holds = record {
         spelled = plain_spelled s.contents l.code s.code;
@@ -126,10 +128,10 @@ method_is pool t l s m is =
     let P : Option Code → Type 0 = CodeAmong pool (attribute_of l s.contents ∷ []) in
     record {
       flags = is.flags;
-      name = text_is (entry_under pool l.name) m.name is.name;
-      desc = text_is (entry_under pool l.desc) m.desc is.desc;
+      name = is.name;
+      desc = is.desc;
       typed = is.typed;
-      attributes = ((code_word, named), tt);
+      attributes = ((code_word, text_is (entry_under pool l.attribute) code_word is.attribute), tt);
       code = subst P (sym is.code) code;
     }
 
@@ -140,44 +142,47 @@ only_first x (suc i) y e = absurd cc
 one_distinct : (m : Method) → AreDistinct (m ∷ [])
 one_distinct m i j x y ei ej names descs = only_first m i x ei ∙ sym (only_first m j y ej)
 
-describes : (t : List ℕ) (l : Layout) (s : IsLayout t l) (f : ClassFile) → IsFileOf l f → Describes (items_of t l s) f
+describes : (t : List ℕ) (l : Layout) (s : IsLayoutText t l) (f : ClassFile) → IsFileOf l f → Describes (items_of t l s) f
 describes t l s f is =
-    let P : List Method → Type 0 = λ ms. AllZip (IsMethod l.pool) (member_of l.method s.one.contents ∷ []) ms in
+    let P : List Method → Type 0 = λ ms. AllZip (IsMethod l.pool) (member_of l.method s.tail.one.contents ∷ []) ms in
     record {
       fits = items_fit t l s;
       old = is.sound.old;
       young = is.sound.young;
-      pool = is.sound.pool;
+      pool = s.entries;
       this = is.sound.this;
       super = is.sound.super;
       interfaces = tt;
       fields = tt;
-      methods = subst P (sym is.one) (method_is l.pool s.method l.method s.one is.method is.is, tt);
+      methods = subst P (sym is.one) (method_is l.pool s.tail.method l.method s.tail.one is.method is.is, tt);
       distinct = subst AreDistinct (sym is.one) (one_distinct is.method);
       attributes = tt;
       pool_is = is.pool;
     }
 
-layout_is_class : (t : List ℕ) (l : Layout) (f : ClassFile) → length t ≤ 4194304 → IsLayout t l → IsFileOf l f → IsClass t f
-layout_is_class t l f small s is = record {
-  items = items_of t l s;
-  spelled = items_spelled t l s;
-  small = small;
-  describes = describes t l s f is;
-  first = record {
-    interfaces = refl;
-    fields = refl;
-    attributes = refl;
-    method = member_of l.method s.one.contents;
-    one = refl;
-    first = (
-      attribute_of l.method s.one.contents,
-      refl,
-      text_is (entry_under l.pool l.method.attribute) code_word is.is.attribute,
-      (plain_items l.method.code s.one.code.code.handlers, plain_spelled s.one.contents l.method.code s.one.code, plain_fits s.one.contents l.method.code s.one.code is.is.some is.is.few, refl),
-    );
-  };
-}
+layout_is_class : (t : List ℕ) (l : Layout) (f : ClassFile) → length t ≤ 4194304 → IsLayoutText t l → IsFileOf l f → IsClass t f
+layout_is_class t l f small s is =
+    let one = s.tail.one in
+    record {
+      items = items_of t l s;
+      spelled = items_spelled t l s;
+      small = small;
+      describes = describes t l s f is;
+      first = record {
+        pool = (first_pool l.pool).0 is.sound.pool;
+        interfaces = refl;
+        fields = refl;
+        attributes = refl;
+        method = member_of l.method one.contents;
+        one = refl;
+        first = (
+          attribute_of l.method one.contents,
+          refl,
+          is.is.attribute,
+          (plain_items l.method.code one.code.code.handlers, plain_spelled one.contents l.method.code one.code, plain_fits one.contents l.method.code one.code is.is.some is.is.few, refl),
+        );
+      };
+    }
 
 -- ---- what describes the file is read
 
@@ -201,10 +206,10 @@ front_fits i fits = record {
 code_split : (i : CodeItems) → code_text i ≡ code_front i ++ table attribute_text i.attributes
 code_split i = sym (simp append_assoc)
 
-code_reads : (i : CodeItems) → FitsCode i → code_at (code_text i) ≡ Some (code_of i, table attribute_text i.attributes)
+code_reads : (i : CodeItems) → FitsCode i → code_at (code_text i) ≡ Ok (code_of i, table attribute_text i.attributes)
 code_reads i fits = ap code_at (code_split i) ∙ code_format.again (code_front i) (code_of i) (table attribute_text i.attributes) (front_fits i fits)
 
-first_of : {A B : Type 0} (x y : A × B) → ◌≡◌ {A = Option (A × B)} (Some x) (Some y) → x.0 ≡ y.0
+first_of : {A B : Type 0} (x y : A × B) → ◌≡◌ {A = Result (A × B) ClassFault} (Ok x) (Ok y) → x.0 ≡ y.0
 first_of {A} {B} x y e = let p : x ≡ y = cc in ap (λ (q : A × B). q.0) p
 
 same_code : (i j : CodeItems) → FitsCode i → FitsCode j → code_text i ≡ code_text j → code_of i ≡ code_of j
@@ -255,15 +260,15 @@ abbrev method_text : Member → Attribute → List ℕ
 method_text m a = u2 m.flags ++ (u2 m.name ++ (u2 m.desc ++ table attribute_text (a ∷ [])))
 
 abbrev head_text : Items → List ℕ
-head_text i = u4 0xCAFEBABE ++ (u2 i.minor ++ (u2 i.major ++ u2 (length i.pool + 1)))
+head_text i = u4 0xCAFEBABE ++ (u2 i.minor ++ u2 i.major)
 
 abbrev middle_text : Items → List ℕ
 middle_text i = u2 i.flags ++ (u2 i.this ++ (u2 i.super ++ (u2 0 ++ (u2 0 ++ u2 1))))
 
 parts_spelled : (bytes : List ℕ) (i : Items) (m : Member) (a : Attribute) (c : CodeItems) → Parts bytes i m a c
-    → bytes ≡ head_text i ++ (flat_map entry_text i.pool ++ (middle_text i ++ (method_text m a ++ u2 0)))
+    → bytes ≡ head_text i ++ (i.pool_text ++ (middle_text i ++ (method_text m a ++ u2 0)))
 parts_spelled bytes i m a c p = p.spelled ∙ rw (p.interfaces, p.fields, p.attributes, p.one, p.only)
-    (sym (file_parts (u4 0xCAFEBABE) (u2 i.minor) (u2 i.major) (u2 (length i.pool + 1)) (flat_map entry_text i.pool) (u2 i.flags) (u2 i.this) (u2 i.super) (u2 0) (u2 0) (u2 1) (method_text m a) (u2 0)))
+    (sym (file_parts (u4 0xCAFEBABE) (u2 i.minor) (u2 i.major) i.pool_text (u2 i.flags) (u2 i.this) (u2 i.super) (u2 0) (u2 0) (u2 1) (method_text m a) (u2 0)))
 
 parts_code : (bytes : List ℕ) (i : Items) (m : Member) (a : Attribute) (c : CodeItems) → Parts bytes i m a c → IsPlainCode a.contents (code_of c)
 parts_code bytes i m a c p = record { front = code_front c; text = p.contents ∙ code_split c ∙ ap (λ (xs : List Attribute). code_front c ++ table attribute_text xs) p.plain; code = front_fits c p.fits }
@@ -274,18 +279,23 @@ parts_method bytes i m a c p fits =
     let fine = (subst P p.only fits.attributes.1).0 in
     record { contents = a.contents; text = sym (method_parts (u2 m.flags) (u2 m.name) (u2 m.desc) (u2 1) (u2 a.name) (u4 (length a.contents)) a.contents); flags = fits.flags; name = fits.name; desc = fits.desc; attribute = fine.name; size = fine.contents; code = parts_code bytes i m a c p }
 
-parts_layout : (bytes : List ℕ) (i : Items) (m : Member) (a : Attribute) (c : CodeItems) → Parts bytes i m a c → FitsItems i → IsLayout bytes (layout_items i m a c)
-parts_layout bytes i m a c p fits =
+parts_layout : (bytes : List ℕ) (i : Items) (m : Member) (a : Attribute) (c : CodeItems) → Parts bytes i m a c → FitsItems i → IsPoolText i.pool_text i.pool → IsLayoutText bytes (layout_items i m a c)
+parts_layout bytes i m a c p fits pool =
     let P : List Member → Type 0 = AllByRecursion FitsMember in
     record {
       front = head_text i;
-      middle = middle_text i;
-      method = method_text m a;
+      pool = i.pool_text;
+      back = middle_text i ++ (method_text m a ++ u2 0);
       text = parts_spelled bytes i m a c p;
-      head = record { minor = i.minor; text = refl; minor_fits = fits.minor; major = fits.major; count = fits.count };
-      pool = fits.pool;
-      classes = record { flags = i.flags; text = refl; flags_fit = fits.flags; this = fits.this; super = fits.super };
-      one = parts_method bytes i m a c p (subst P p.one fits.methods.1).0;
+      head = record { minor = i.minor; text = refl; minor_fits = fits.minor; major_fits = fits.major };
+      entries = pool;
+      tail = record {
+        middle = middle_text i;
+        method = method_text m a;
+        text = refl;
+        classes = record { flags = i.flags; text = refl; flags_fit = fits.flags; this = fits.this; super = fits.super };
+        one = parts_method bytes i m a c p (subst P p.one fits.methods.1).0;
+      };
     }
 
 method_of : (pool : List Entry) (m : Member) (a : Attribute) (c : CodeItems) (method : Method) → m.attributes ≡ a ∷ [] → a.contents ≡ code_text c → FitsCode c → IsCodeAttribute pool a → IsMethod pool m method
@@ -294,10 +304,10 @@ method_of pool m a c method only contents fits named is =
     let P : List Attribute → Type 0 = λ xs. CodeAmong pool xs method.code in
     record {
       flags = is.flags;
-      name = ap text_of is.name;
-      desc = ap text_of is.desc;
+      name = is.name;
+      desc = is.desc;
       typed = is.typed;
-      attribute = ap text_of named;
+      attribute = named;
       some = fits.some;
       few = fits.few;
       code = code_among pool a method.code c named contents fits (subst P only is.code);
@@ -305,7 +315,7 @@ method_of pool m a c method only contents fits named is =
 
 record IsRead (bytes : List ℕ) (f : ClassFile) : Type 0 where
   layout : Layout
-  spelled : IsLayout bytes layout
+  spelled : IsLayoutText bytes layout
   describes : IsFileOf layout f
 
 class_is_read : (bytes : List ℕ) (f : ClassFile) → IsClass bytes f → IsRead bytes f
@@ -333,18 +343,15 @@ class_is_read bytes f k =
     } in
     record {
       layout = layout_items i m a c;
-      spelled = parts_layout bytes i m a c p d.fits;
+      spelled = parts_layout bytes i m a c p d.fits d.pool;
       describes = record {
-        sound = record { old = d.old; young = d.young; pool = d.pool; this = d.this; super = d.super };
+        sound = record { old = d.old; young = d.young; pool = (first_pool i.pool).1 k.first.pool; this = d.this; super = d.super };
         method = z.0;
         one = z.1;
         is = method_of i.pool m a c z.0 only plain.1 plain.2 named z.2;
         pool = d.pool_is;
       };
     }
-
-reads_layout : (bytes : List ℕ) (f : ClassFile) (r : IsRead bytes f) → whole layout_at bytes ≡ Some r.layout
-reads_layout bytes f r = whole_again layout_format bytes r.layout r.spelled
 
 -- ---- the file is determined
 
@@ -369,7 +376,7 @@ pub class_once : (bytes : List ℕ) (f g : ClassFile) → IsClass bytes f → Is
 class_once bytes f g p q =
     let a = class_is_read bytes f p in
     let b = class_is_read bytes g q in
-    let same : b.layout ≡ a.layout = some_is b.layout a.layout (whole layout_at bytes) (reads_layout bytes g b) (reads_layout bytes f a) in
+    let same : b.layout ≡ a.layout = layout_once bytes b.layout a.layout b.spelled (layout_of_text bytes a.layout a.spelled) in
     let P : Layout → Type 0 = λ l. IsFileOf l g in
     file_once a.layout f g a.describes (subst P same b.describes)
 
@@ -381,16 +388,16 @@ class_one_method bytes f p =
 
 -- ---- what read_class answers
 
-pub refuses : (e : ClassFault) (bytes : List ℕ) → Fails e (whole layout_at bytes) → Reads (Err e) bytes
-refuses fault.Memory bytes fails = tt
-refuses fault.NotBuilt bytes fails = λ f p. let e = reads_layout bytes f (class_is_read bytes f p) in absurd cc
+pub refuses : (e : ClassFault) (bytes : List ℕ) → Finds (IsLayout bytes) (Err e) → Reads (Err e) bytes
+refuses fault.Memory bytes none = tt
+refuses fault.NotBuilt bytes none = λ f p. let a = class_is_read bytes f p in absurd (none a.layout (layout_of_text bytes a.layout a.spelled))
 
-pub answers : (r : Result ClassFile ClassFault) (bytes : List ℕ) (l : Layout) → IsBytes bytes → length bytes ≤ 4194304 → whole layout_at bytes ≡ Some l → Finds (IsFileOf l) r → Reads r bytes
-answers (Ok f) bytes l fits small e is = layout_is_class bytes l f small (whole_takes layout_format bytes l fits e) is
-answers (Err fault.Memory) bytes l fits small e is = tt
-answers (Err fault.NotBuilt) bytes l fits small e is =
+pub answers : (r : Result ClassFile ClassFault) (bytes : List ℕ) (l : Layout) → IsBytes bytes → length bytes ≤ 4194304 → IsLayout bytes l → Finds (IsFileOf l) r → Reads r bytes
+answers (Ok f) bytes l fits small k is = layout_is_class bytes l f small (text_of_layout bytes l fits k) is
+answers (Err fault.Memory) bytes l fits small k is = tt
+answers (Err fault.NotBuilt) bytes l fits small k is =
     λ f p.
     let a = class_is_read bytes f p in
-    let same : a.layout ≡ l = some_is a.layout l (whole layout_at bytes) (reads_layout bytes f a) e in
-    let P : Layout → Type 0 = λ k. IsFileOf k f in
+    let same : a.layout ≡ l = layout_once bytes a.layout l a.spelled k in
+    let P : Layout → Type 0 = λ j. IsFileOf j f in
     absurd (is f (subst P same a.describes))

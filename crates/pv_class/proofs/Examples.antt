@@ -11,8 +11,9 @@ use Rattle.pv_value.specs.declared.operation.ScalarOp.TheVariants.{Iadd, Isub}
 use Rattle.pv_value.specs.ScalarLaws.{scalar_exact}
 use Rattle.pv_value.specs.Descriptors.{IsMethodType}
 use Rattle.pv_value.specs.Worlds.{empty_world}
-use Rattle.pv_class.specs.declared.file.Entry.{Entry}
-use Rattle.pv_class.specs.declared.file.Entry.TheVariants.{Utf8, Class}
+use Rattle.pv_pool.specs.declared.entry.Entry.{Entry}
+use Rattle.pv_pool.specs.declared.entry.Entry.TheVariants.{Utf8, Class}
+use Rattle.pv_pool.specs.Pools.{spelling}
 use Rattle.pv_class.specs.declared.instruction.Insn.{Insn}
 use Rattle.pv_class.specs.declared.instruction.Insn.TheVariants.{Plain}
 use Rattle.pv_class.specs.Items.{Items, CodeItems, code_text, file_text}
@@ -36,6 +37,7 @@ abbrev items : Items
 items = record {
   minor = 0;
   major = 52;
+  pool_text = spelling 8 pool;
   pool = pool;
   flags = 0x21;
   this = 2;

@@ -4,7 +4,6 @@ pub mod Running
 pub mod Walks
 pub mod Programs
 pub mod Formats
-pub mod Loop
-pub mod Groups
 pub mod Spelled
+pub mod Parts
 pub mod ClassLaws

@@ -1,18 +1,16 @@
--- The formats of the items of a class file of first form.
-use Rattle.std.proofs.Common.{◌≡◌, ℕ, zero, suc, ◌+◌, ◌*◌, ◌^◌, ◌<◌, ◌≤◌, Bool, true, false, ltb, eqb, cond, List, [], ◌∷◌, ◌++◌, length, take, drop, Some, None, refl, sym, ap, subst, ◌∙◌, append_assoc, arith}
+-- The formats of the items of a class file of first form, those of its pool left out.
+use Rattle.std.proofs.Common.{◌≡◌, ℕ, zero, suc, ◌+◌, ◌*◌, ◌^◌, ◌<◌, ◌≤◌, false, ltb, List, [], ◌∷◌, ◌++◌, length, take, drop, Ok, refl, sym, ap, subst, ◌∙◌, append_assoc, arith}
 use Rattle.std.specs.List.{flat_map, AllByRecursion}
 use Rattle.std.specs.Int.{w16, from_be_bytes}
-use Rattle.std.proofs.lemmas.Bool.{le-ltb, eqb-true}
+use Rattle.std.proofs.lemmas.Bool.{le-ltb}
 use Rattle.std.proofs.lemmas.List.{length-append, length-drop, append-nil, nil_from_length}
 use Rattle.std.proofs.lemmas.List.Concat.{flat_map-cons}
-use Rattle.pv_class.specs.declared.file.Entry.{Entry}
-use Rattle.pv_class.specs.declared.file.Entry.TheVariants.{Utf8, Class}
+use Rattle.pv_pool.proofs.Formats.{IsBytes, bytes_behind, Then, then_format, done_format}
 use Rattle.pv_class.specs.declared.file.Code.{Code}
 use Rattle.pv_class.specs.declared.layout.MethodLayout.{MethodLayout}
-use Rattle.pv_class.specs.declared.layout.Layout.{Layout}
-use Rattle.pv_class.specs.Items.{u2, u4, IsU2, table, IsTable, entry_text, FitsEntry, Handler, handler_text, FitsHandler}
-use Rattle.pv_class.specs.Reading.{number_at, run_at, whole, text_at, class_at, entry_at, pool_at, code_at, plain_code_at, method_at, head_at, middle_at, layout_at}
-use Rattle.pv_class.proofs.Formats.{IsBytes, IsBytes-right, bytes_behind, IsFormat, same_format, Then, then_format, done_format, with_format, run_format, format16, format32, exact16, exact32, Spelled, Many, many_format, many_spelled, spelled_many, whole_takes, whole_again}
+use Rattle.pv_class.specs.Items.{u2, u4, IsU2, table, IsTable, Handler, handler_text, FitsHandler}
+use Rattle.pv_class.specs.Reading.{number_at, run_at, whole, code_at, plain_code_at, method_at, head_at, middle_at, tail_at}
+use Rattle.pv_class.proofs.Formats.{IsSpelled, spelled_as, with_format, format16, format32, bytes_format, exact16, exact32, whole_takes, whole_again}
 
 -- an item and what stands behind it
 joined : {A B : Type 0} {S : List ℕ → A → Type 0} {T : A → List ℕ → B → Type 0} {w : List ℕ} {y : B} (x : A) (t u : List ℕ) → w ≡ t ++ u → S t x → T x u y → Then A B S T w y
@@ -22,70 +20,6 @@ joined x t u parts s others = record { first = x; front = t; back = u; parts = p
 last : {A B : Type 0} {S : List ℕ → A → Type 0} {T : A → List ℕ → B → Type 0} {w : List ℕ} {y : B} (x : A) → S w x → T x [] y → Then A B S T w y
 last {w = w} x s others = record { first = x; front = w; back = []; parts = sym (append-nil w); fits = s; others = others }
 
--- ---- the constant pool
-
-abbrev IsUtf8 : List ℕ → Entry → Type 0
-IsUtf8 t e = (text : List ℕ) × (e ≡ Utf8 text) × (t ≡ u2 (length text) ++ text) × IsU2 (length text)
-
-text_format : IsFormat Entry IsUtf8 text_at
-unfolding text_at
-text_format = same_format (then_format format16 (λ size. then_format (run_format size) (λ text. done_format (Utf8 text))))
-    (λ t e _ s.
-    let o = s.others in
-    (o.first, o.others.1, cc (append-nil o.first), omega (arith, s.fits.1, o.fits.1)))
-    (λ t e s. joined (length s.0) (u2 (length s.0)) s.0 s.2 (refl, s.3) (last s.0 (refl, refl) (refl, s.1)))
-
-abbrev IsClassEntry : List ℕ → Entry → Type 0
-IsClassEntry t e = (name : ℕ) × (e ≡ Class name) × (t ≡ u2 name) × IsU2 name
-
-class_format : IsFormat Entry IsClassEntry class_at
-unfolding class_at
-class_format = same_format (then_format format16 (λ name. done_format (Class name)))
-    (λ t e _ s. (s.first, s.others.1, cc (append-nil s.front), s.fits.1))
-    (λ t e s. last s.0 (s.2, s.3) (refl, s.1))
-
-abbrev IsEntryText : List ℕ → Entry → Type 0
-IsEntryText = Spelled entry_text FitsEntry
-
-entry_test : (one seven : Bool) (tag : ℕ) (rest : List ℕ) (x : Entry × List ℕ) → IsBytes rest → (one ≡ true → tag ≡ 1) → (seven ≡ true → tag ≡ 7)
-    → cond one (text_at rest) (cond seven (class_at rest) None) ≡ Some x → (t : List ℕ) × (tag ∷ rest ≡ t ++ x.1) × IsEntryText t x.0
-entry_test true seven tag rest x fits is1 is7 e =
-    let p = text_format.takes rest x fits e in
-    let P : Entry → Type 0 = IsEntryText (1 ∷ p.0) in
-    (1 ∷ p.0, cc (is1 refl), subst P (sym p.2.1) (ap (λ (u : List ℕ). 1 ∷ u) p.2.2, p.2.3))
-entry_test false true tag rest x fits is1 is7 e =
-    let p = class_format.takes rest x fits e in
-    let P : Entry → Type 0 = IsEntryText (7 ∷ p.0) in
-    (7 ∷ p.0, cc (is7 refl), subst P (sym p.2.1) (ap (λ (u : List ℕ). 7 ∷ u) p.2.2, p.2.3))
-entry_test false false tag rest x fits is1 is7 e = absurd cc
-
-entry_takes : (bytes : List ℕ) (x : Entry × List ℕ) → IsBytes bytes → entry_at bytes ≡ Some x → (t : List ℕ) × (bytes ≡ t ++ x.1) × IsEntryText t x.0
-unfolding entry_at
-entry_takes [] x fits e = absurd cc
-entry_takes (tag ∷ rest) x fits e = entry_test (eqb tag 1) (eqb tag 7) tag rest x (IsBytes-right (tag ∷ []) rest fits) (eqb-true tag 1) (eqb-true tag 7) e
-
-entry_again : (t : List ℕ) (e : Entry) (rest : List ℕ) → IsEntryText t e → entry_at (t ++ rest) ≡ Some (e, rest)
-unfolding entry_at
-entry_again t (Utf8 text) rest s = ap (λ (u : List ℕ). entry_at (u ++ rest)) s.0 ∙ text_format.again (u2 (length text) ++ text) (Utf8 text) rest (text, refl, refl, s.1)
-entry_again t (Class name) rest s = ap (λ (u : List ℕ). entry_at (u ++ rest)) s.0 ∙ class_format.again (u2 name) (Class name) rest (name, refl, refl, s.1)
-
-entry_format : IsFormat Entry IsEntryText entry_at
-entry_format = record { takes = entry_takes; again = entry_again }
-
-abbrev IsPool : ℕ → List ℕ → List Entry → Type 0
-IsPool count t pool = (t ≡ flat_map entry_text pool) × (length pool + 1 ≡ count) × AllByRecursion FitsEntry pool
-
-pool_format : (count : ℕ) → IsFormat (List Entry) (IsPool count) (pool_at count)
-unfolding pool_at
-pool_format zero = record { takes = λ bytes x fits e. absurd cc; again = λ t pool rest s. absurd (omega arith) }
-pool_format (suc n) = same_format (many_format entry_format n)
-    (λ t pool _ m. let s = many_spelled entry_text FitsEntry n t pool m in (s.0, omega (arith, s.1), s.2))
-    (λ t pool s.
-    let n-is : length pool ≡ n = omega (arith, s.1) in
-    let P : ℕ → Type 0 = λ k. Many IsEntryText k t pool in
-    let Q : List ℕ → Type 0 = λ u. Many IsEntryText (length pool) u pool in
-    subst P n-is (subst Q (sym s.0) (spelled_many entry_text FitsEntry pool s.2)))
-
 -- ---- the Code
 
 number_front : (bytes : List ℕ) → IsBytes bytes → 2 ≤ length bytes → (n : ℕ) × (rest : List ℕ) × IsU2 n × (bytes ≡ u2 n ++ rest) × (2 + length rest ≡ length bytes)
@@ -93,7 +27,7 @@ number_front bytes fits long =
     let n = from_be_bytes w16 (take 2 bytes) in
     let rest = drop 2 bytes in
     let enough : ltb (length bytes) 2 ≡ false = le-ltb _ _ long in
-    let e : number_at w16 bytes ≡ Some (n, rest) = rw enough refl in
+    let e : number_at w16 bytes ≡ Ok (n, rest) = rw enough refl in
     let p = format16.takes bytes (n, rest) fits e in
     (n, rest, p.2.1, p.1 ∙ ap (λ (u : List ℕ). u ++ rest) p.2.0, omega (arith, length-drop 2 bytes))
 
@@ -130,8 +64,8 @@ handlers_long (h ∷ hs) = ap length (flat_map-cons handler_text h hs) ∙ omega
 abbrev AreHandlers : ℕ → List ℕ → List ℕ → Type 0
 AreHandlers n t x = (hs : List Handler) × (length hs ≡ n) × AllByRecursion FitsHandler hs × (t ≡ flat_map handler_text hs) × (x ≡ t)
 
-handlers_format : (n : ℕ) → IsFormat (List ℕ) (AreHandlers n) (run_at (8 * n))
-handlers_format n = same_format (run_format (8 * n))
+handlers_format : (n : ℕ) → IsSpelled (List ℕ) (AreHandlers n) (run_at (8 * n))
+handlers_format n = spelled_as (bytes_format (8 * n))
     (λ t x fits s. let p = handlers_of n t fits (ap length s.0 ∙ s.1) in (p.0, p.1, p.2, p.3, sym s.0))
     (λ t x s. (sym s.4, ap length (s.4 ∙ s.3) ∙ handlers_long s.0 ∙ ap (λ (k : ℕ). 8 * k) s.1))
 
@@ -145,10 +79,10 @@ pub record IsCodeText (t : List ℕ) (c : Code) : Type 0 where
   pub size : length c.bytes < 2 ^ 32
   pub fits : IsTable FitsHandler handlers
 
-pub code_format : IsFormat Code IsCodeText code_at
+pub code_format : IsSpelled Code IsCodeText code_at
 unfolding code_at
-code_format = same_format
-    (then_format format16 (λ stack. then_format format16 (λ locals. then_format format32 (λ size. then_format (run_format size) (λ bytes. then_format format16 (λ n. then_format (handlers_format n)
+code_format = spelled_as
+    (then_format format16 (λ stack. then_format format16 (λ locals. then_format format32 (λ size. then_format (bytes_format size) (λ bytes. then_format format16 (λ n. then_format (handlers_format n)
     (λ _. done_format (record { max_stack = stack; max_locals = locals; bytes = bytes; handlers = n }))))))))
     (λ t c _ s1.
     let s2 = s1.others in let s3 = s2.others in let s4 = s3.others in let s5 = s4.others in let s6 = s5.others in
@@ -184,9 +118,9 @@ pub record IsPlainCode (t : List ℕ) (c : Code) : Type 0 where
   pub text : t ≡ front ++ u2 0
   pub code : IsCodeText front c
 
-pub plain_format : IsFormat Code IsPlainCode plain_code_at
+pub plain_format : IsSpelled Code IsPlainCode plain_code_at
 unfolding plain_code_at
-plain_format = same_format (then_format code_format (λ code. then_format (exact16 0 (omega arith)) (λ _. done_format code)))
+plain_format = spelled_as (then_format code_format (λ code. then_format (exact16 0 (omega arith)) (λ _. done_format code)))
     (λ t c _ s.
     let o = s.others in
     let text : t ≡ s.front ++ u2 0 = cc (append-nil o.front) in
@@ -206,11 +140,11 @@ pub record IsMethodText (t : List ℕ) (m : MethodLayout) : Type 0 where
   pub size : length contents < 2 ^ 32
   pub code : IsPlainCode contents m.code
 
-pub method_format : IsFormat MethodLayout IsMethodText method_at
+pub method_format : IsSpelled MethodLayout IsMethodText method_at
 unfolding method_at
-method_format = same_format
+method_format = spelled_as
     (then_format format16 (λ flags. then_format format16 (λ name. then_format format16 (λ desc. then_format (exact16 1 (omega arith)) (λ _. then_format format16 (λ attribute. then_format format32 (λ size.
-    then_format (run_format size) (λ contents. with_format (whole plain_code_at contents) (λ code.
+    then_format (bytes_format size) (λ contents. with_format (whole plain_code_at contents) (λ code.
     done_format (record { flags = flags; name = name; desc = desc; attribute = attribute; code = code }))))))))))
     (λ t m fits s1.
     let s2 = s1.others in let s3 = s2.others in let s4 = s3.others in let s5 = s4.others in let s6 = s5.others in let s7 = s6.others in let s8 = s7.others in
@@ -247,28 +181,22 @@ method_format = same_format
 
 -- ---- the file
 
-pub record IsHead (t : List ℕ) (p : ℕ × ℕ) : Type 0 where
+pub record IsHead (t : List ℕ) (major : ℕ) : Type 0 where
   pub minor : ℕ
-  pub text : t ≡ u4 0xCAFEBABE ++ (u2 minor ++ (u2 p.0 ++ u2 p.1))
+  pub text : t ≡ u4 0xCAFEBABE ++ (u2 minor ++ u2 major)
   pub minor_fits : IsU2 minor
-  pub major : IsU2 p.0
-  pub count : IsU2 p.1
+  pub major_fits : IsU2 major
 
-head_format : IsFormat (ℕ × ℕ) IsHead head_at
+pub head_format : IsSpelled ℕ IsHead head_at
 unfolding head_at
-head_format = same_format
-    (then_format (exact32 0xCAFEBABE (omega arith)) (λ _. then_format format16 (λ minor. then_format format16 (λ major. then_format format16 (λ count. done_format (major, count))))))
-    (λ t p _ s1.
-    let s2 = s1.others in let s3 = s2.others in let s4 = s3.others in
-    let made : IsHead t (s3.first, s4.first) = record { minor = s2.first; text = cc (append-nil s4.front); minor_fits = s2.fits.1; major = s3.fits.1; count = s4.fits.1 } in
-    subst (IsHead t) (sym s4.others.1) made)
-    (λ t p s.
-    let t3 = u2 p.0 ++ u2 p.1 in
-    let t2 = u2 s.minor ++ t3 in
-    joined tt (u4 0xCAFEBABE) t2 s.text refl
-    (joined s.minor (u2 s.minor) t3 refl (refl, s.minor_fits)
-    (joined p.0 (u2 p.0) (u2 p.1) refl (refl, s.major)
-    (last p.1 (refl, s.count) (refl, refl)))))
+head_format = spelled_as
+    (then_format (exact32 0xCAFEBABE (omega arith)) (λ _. then_format format16 (λ minor. format16)))
+    (λ t major _ s1.
+    let s2 = s1.others in
+    record { minor = s2.first; text = cc; minor_fits = s2.fits.1; major_fits = s2.others.1 })
+    (λ t major s.
+    joined tt (u4 0xCAFEBABE) (u2 s.minor ++ u2 major) s.text refl
+    (joined s.minor (u2 s.minor) (u2 major) refl (refl, s.minor_fits) (refl, s.major_fits)))
 
 pub record IsMiddle (t : List ℕ) (p : ℕ × ℕ) : Type 0 where
   pub flags : ℕ
@@ -277,9 +205,9 @@ pub record IsMiddle (t : List ℕ) (p : ℕ × ℕ) : Type 0 where
   pub this : IsU2 p.0
   pub super : IsU2 p.1
 
-middle_format : IsFormat (ℕ × ℕ) IsMiddle middle_at
+middle_format : IsSpelled (ℕ × ℕ) IsMiddle middle_at
 unfolding middle_at
-middle_format = same_format
+middle_format = spelled_as
     (then_format format16 (λ flags. then_format format16 (λ this. then_format format16 (λ super.
     then_format (exact16 0 (omega arith)) (λ _. then_format (exact16 0 (omega arith)) (λ _. then_format (exact16 1 (omega arith)) (λ _. done_format (this, super))))))))
     (λ t p _ s1.
@@ -298,43 +226,20 @@ middle_format = same_format
     (joined tt (u2 0) (u2 1) refl refl
     (last tt refl (refl, refl)))))))
 
--- the items in order
-pub record IsLayout (t : List ℕ) (l : Layout) : Type 0 where
-  pub front : List ℕ
+-- the items behind the pool in order
+pub record IsTail (t : List ℕ) (p : (ℕ × ℕ) × MethodLayout) : Type 0 where
   pub middle : List ℕ
   pub method : List ℕ
-  pub text : t ≡ front ++ (flat_map entry_text l.pool ++ (middle ++ (method ++ u2 0)))
-  pub head : IsHead front (l.major, length l.pool + 1)
-  pub pool : AllByRecursion FitsEntry l.pool
-  pub classes : IsMiddle middle (l.this_class, l.super_class)
-  pub one : IsMethodText method l.method
+  pub text : t ≡ middle ++ (method ++ u2 0)
+  pub classes : IsMiddle middle p.0
+  pub one : IsMethodText method p.1
 
-pub layout_format : IsFormat Layout IsLayout layout_at
-unfolding layout_at
-layout_format = same_format
-    (then_format head_format (λ head. then_format (pool_format head.1) (λ pool. then_format middle_format (λ middle. then_format method_format (λ method. then_format (exact16 0 (omega arith)) (λ _.
-    done_format (record { major = head.0; pool = pool; this_class = middle.0; super_class = middle.1; method = method })))))))
-    (λ t l _ s1.
-    let s2 = s1.others in let s3 = s2.others in let s4 = s3.others in let s5 = s4.others in
-    let k : Layout = record { major = s1.first.0; pool = s2.first; this_class = s3.first.0; super_class = s3.first.1; method = s4.first } in
-    let P : ℕ → Type 0 = λ n. IsHead s1.front (s1.first.0, n) in
-    let made : IsLayout t k = record {
-      front = s1.front;
-      middle = s3.front;
-      method = s4.front;
-      text = cc (append-nil s5.front);
-      head = subst P (sym s2.fits.1) s1.fits;
-      pool = s2.fits.2;
-      classes = s3.fits;
-      one = s4.fits;
-    } in
-    subst (IsLayout t) (sym s5.others.1) made)
-    (λ t l s.
-    let t4 = s.method ++ u2 0 in
-    let t3 = s.middle ++ t4 in
-    let t2 = flat_map entry_text l.pool ++ t3 in
-    joined (l.major, length l.pool + 1) s.front t2 s.text s.head
-    (joined l.pool (flat_map entry_text l.pool) t3 refl (refl, refl, s.pool)
-    (joined (l.this_class, l.super_class) s.middle t4 refl s.classes
-    (joined l.method s.method (u2 0) refl s.one
-    (last tt refl (refl, refl))))))
+pub tail_format : IsSpelled ((ℕ × ℕ) × MethodLayout) IsTail tail_at
+unfolding tail_at
+tail_format = spelled_as
+    (then_format middle_format (λ middle. then_format method_format (λ method. then_format (exact16 0 (omega arith)) (λ _. done_format (middle, method)))))
+    (λ t p _ s1.
+    let s2 = s1.others in let s3 = s2.others in
+    let made : IsTail t (s1.first, s2.first) = record { middle = s1.front; method = s2.front; text = cc (append-nil s3.front); classes = s1.fits; one = s2.fits } in
+    subst (IsTail t) (sym s3.others.1) made)
+    (λ t p s. joined p.0 s.middle (s.method ++ u2 0) s.text s.classes (joined p.1 s.method (u2 0) refl s.one (last tt refl (refl, refl))))

@@ -1,47 +1,29 @@
 -- Class files: bytes that spell items which meet the conditions of the format (JVMS 4.1 to 4.7.3), and what they hold.
-use Rattle.std.specs.Prelude.{◌≡◌, ◌⊎◌, ℕ, zero, suc, ◌≤◌, List, [], ◌∷◌, ◌++◌, length, Option, Some, None, slice_get, codes}
+use Rattle.std.specs.Prelude.{◌≡◌, ◌⊎◌, ℕ, ◌≤◌, List, [], ◌∷◌, ◌++◌, length, Option, Some, None, slice_get, codes}
 use Rattle.std.specs.List.{AllByRecursion, AllZip}
 use Rattle.pv_value.specs.declared.descriptor.Descriptor.{Descriptor}
 use Rattle.pv_value.specs.declared.descriptor.JType.{JType}
 use Rattle.pv_value.specs.Descriptors.{IsFieldType, IsMethodType}
-use Rattle.pv_class.specs.declared.file.Entry.{Entry}
-use Rattle.pv_class.specs.declared.file.Entry.TheVariants.{Utf8, Class}
+use Rattle.pv_pool.specs.declared.entry.Entry.{Entry}
+use Rattle.pv_pool.specs.declared.entry.Entry.TheVariants.{Utf8, Class}
+use Rattle.pv_pool.specs.Pools.{HasText, HasClass, IsPoolText}
+use Rattle.pv_pool.specs.Readers.{text_under}
 use Rattle.pv_class.specs.declared.file.Code.{Code}
 use Rattle.pv_class.specs.declared.file.Method.{Method}
 use Rattle.pv_class.specs.declared.file.ClassFile.{ClassFile}
-use Rattle.pv_class.specs.Texts.{IsText}
 use Rattle.pv_class.specs.Items.{Attribute, Member, CodeItems, Items, code_text, file_text, FitsCode, FitsItems}
-
--- the entry under an index; index 0 is unused
-abbrev pub entry_under : List Entry → ℕ → Option Entry
-entry_under pool zero = None
-entry_under pool (suc i) = slice_get pool i
-
-abbrev pub IsTextUnder : List Entry → ℕ → List ℕ → Type 0
-IsTextUnder pool i text = entry_under pool i ≡ Some (Utf8 text)
-
-abbrev pub HasTextUnder : List Entry → ℕ → Type 0
-HasTextUnder pool i = (text : List ℕ) × IsTextUnder pool i text
-
-abbrev pub HasClassUnder : List Entry → ℕ → Type 0
-HasClassUnder pool i = (name : ℕ) × (entry_under pool i ≡ Some (Class name))
-
--- an entry is well formed, and what it refers to is of the right kind
-abbrev pub IsEntry : List Entry → Entry → Type 0
-IsEntry pool (Utf8 text) = IsText text
-IsEntry pool (Class name) = HasTextUnder pool name
 
 abbrev pub code_word : List ℕ
 code_word = codes "Code"
 
 abbrev pub IsCodeAttribute : List Entry → Attribute → Type 0
-IsCodeAttribute pool a = IsTextUnder pool a.name code_word
+IsCodeAttribute pool a = text_under pool a.name ≡ Some code_word
 
 -- what a Code attribute holds
 pub record HoldsCode (pool : List Entry) (contents : List ℕ) (items : CodeItems) (code : Code) : Type 0 where
   pub spelled : contents ≡ code_text items
   pub fits : FitsCode items
-  pub names : AllByRecursion (λ a. HasTextUnder pool a.name) items.attributes
+  pub names : AllByRecursion (λ a. HasText pool a.name) items.attributes
   pub max_stack : code.max_stack ≡ items.max_stack
   pub max_locals : code.max_locals ≡ items.max_locals
   pub bytes : code.bytes ≡ items.code
@@ -65,19 +47,19 @@ CodeAmong pool attributes (Some code) = OneCode pool attributes code
 
 -- a field of a class file (JVMS 4.5)
 pub record IsField (pool : List Entry) (m : Member) : Type 0 where
-  pub name : HasTextUnder pool m.name
+  pub name : HasText pool m.name
   pub desc : List ℕ
-  pub desc_is : IsTextUnder pool m.desc desc
+  pub desc_is : text_under pool m.desc ≡ Some desc
   pub typed : (t : JType) × IsFieldType desc t
-  pub attributes : AllByRecursion (λ a. HasTextUnder pool a.name) m.attributes
+  pub attributes : AllByRecursion (λ a. HasText pool a.name) m.attributes
 
 -- a method of a class file, and what is kept of it (JVMS 4.6)
 pub record IsMethod (pool : List Entry) (m : Member) (method : Method) : Type 0 where
   pub flags : method.flags ≡ m.flags
-  pub name : IsTextUnder pool m.name method.name
-  pub desc : IsTextUnder pool m.desc method.desc
+  pub name : text_under pool m.name ≡ Some method.name
+  pub desc : text_under pool m.desc ≡ Some method.desc
   pub typed : (d : Descriptor) × IsMethodType method.desc d
-  pub attributes : AllByRecursion (λ a. HasTextUnder pool a.name) m.attributes
+  pub attributes : AllByRecursion (λ a. HasText pool a.name) m.attributes
   pub code : CodeAmong pool m.attributes method.code
 
 -- no two methods have the same name and descriptor
@@ -89,15 +71,21 @@ pub record Describes (i : Items) (file : ClassFile) : Type 0 where
   pub fits : FitsItems i
   pub old : 45 ≤ i.major
   pub young : i.major ≤ 69
-  pub pool : AllByRecursion (IsEntry i.pool) i.pool
-  pub this : HasClassUnder i.pool i.this
-  pub super : (i.super ≡ 0) ⊎ HasClassUnder i.pool i.super
-  pub interfaces : AllByRecursion (HasClassUnder i.pool) i.interfaces
+  pub pool : IsPoolText i.pool_text i.pool
+  pub this : HasClass i.pool i.this
+  pub super : (i.super ≡ 0) ⊎ HasClass i.pool i.super
+  pub interfaces : AllByRecursion (HasClass i.pool) i.interfaces
   pub fields : AllByRecursion (IsField i.pool) i.fields
   pub methods : AllZip (IsMethod i.pool) i.methods file.methods
   pub distinct : AreDistinct file.methods
-  pub attributes : AllByRecursion (λ a. HasTextUnder i.pool a.name) i.attributes
+  pub attributes : AllByRecursion (λ a. HasText i.pool a.name) i.attributes
   pub pool_is : file.pool ≡ i.pool
+
+-- a Utf8 or a Class
+abbrev pub IsFirstEntry : Entry → Type 0
+IsFirstEntry (Utf8 text) = Unit {0}
+IsFirstEntry (Class name) = Unit {0}
+IsFirstEntry _ = ⊥
 
 -- a Code without attributes of its own
 abbrev pub IsFirstCode : Attribute → Type 0
@@ -107,8 +95,9 @@ IsFirstCode a = (items : CodeItems) × (a.contents ≡ code_text items) × FitsC
 abbrev pub IsFirstMethod : List Entry → Member → Type 0
 IsFirstMethod pool m = (a : Attribute) × (m.attributes ≡ a ∷ []) × IsCodeAttribute pool a × IsFirstCode a
 
--- the form of files that is read by now: no interface, field or class attribute, and exactly one method
+-- the form of files that is read by now: a pool of texts and classes, no interface, field or class attribute, and exactly one method
 pub record IsFirstForm (i : Items) : Type 0 where
+  pub pool : AllByRecursion IsFirstEntry i.pool
   pub interfaces : i.interfaces ≡ []
   pub fields : i.fields ≡ []
   pub attributes : i.attributes ≡ []

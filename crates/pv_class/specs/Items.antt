@@ -1,9 +1,8 @@
 -- The items of a class file as they stand in it, and their spelling (JVMS 4.1 to 4.7.3).
-use Rattle.std.specs.Prelude.{ℕ, ◌+◌, ◌<◌, ◌^◌, List, ◌∷◌, ◌++◌, length}
+use Rattle.std.specs.Prelude.{ℕ, ◌<◌, ◌^◌, List, ◌++◌, length}
 use Rattle.std.specs.List.{flat_map, AllByRecursion}
 use Rattle.std.specs.Int.{w16, w32, to_be_bytes}
-use Rattle.pv_class.specs.declared.file.Entry.{Entry}
-use Rattle.pv_class.specs.declared.file.Entry.TheVariants.{Utf8, Class}
+use Rattle.pv_pool.specs.declared.entry.Entry.{Entry}
 
 abbrev pub u2 : ℕ → List ℕ
 u2 n = to_be_bytes w16 n
@@ -20,15 +19,6 @@ table text xs = u2 (length xs) ++ flat_map text xs
 
 abbrev pub IsTable : {A : Type 0} → (A → Type 0) → List A → Type 0
 IsTable P xs = IsU2 (length xs) × AllByRecursion P xs
-
--- an entry of the constant pool (JVMS 4.4): its tag and its contents
-abbrev pub entry_text : Entry → List ℕ
-entry_text (Utf8 text) = 1 ∷ u2 (length text) ++ text
-entry_text (Class name) = 7 ∷ u2 name
-
-abbrev pub FitsEntry : Entry → Type 0
-FitsEntry (Utf8 text) = IsU2 (length text)
-FitsEntry (Class name) = IsU2 name
 
 -- an attribute (JVMS 4.7): the index of its name, and its contents
 pub record Attribute : Type 0 where
@@ -94,10 +84,11 @@ pub record FitsCode (c : CodeItems) : Type 0 where
   pub handlers : IsTable FitsHandler c.handlers
   pub attributes : IsTable FitsAttribute c.attributes
 
--- a class file (JVMS 4.1)
+-- a class file (JVMS 4.1); its constant pool has this text and these entries
 pub record Items : Type 0 where
   pub minor : ℕ
   pub major : ℕ
+  pub pool_text : List ℕ
   pub pool : List Entry
   pub flags : ℕ
   pub this : ℕ
@@ -107,17 +98,14 @@ pub record Items : Type 0 where
   pub methods : List Member
   pub attributes : List Attribute
 
--- the count of the pool is one more than its entries
 abbrev pub file_text : Items → List ℕ
 file_text i =
-    u4 0xCAFEBABE ++ (u2 i.minor ++ (u2 i.major ++ (u2 (length i.pool + 1) ++ (flat_map entry_text i.pool ++ (u2 i.flags ++ (u2 i.this ++ (u2 i.super
-    ++ (table u2 i.interfaces ++ (table member_text i.fields ++ (table member_text i.methods ++ table attribute_text i.attributes))))))))))
+    u4 0xCAFEBABE ++ (u2 i.minor ++ (u2 i.major ++ (i.pool_text ++ (u2 i.flags ++ (u2 i.this ++ (u2 i.super
+    ++ (table u2 i.interfaces ++ (table member_text i.fields ++ (table member_text i.methods ++ table attribute_text i.attributes)))))))))
 
 pub record FitsItems (i : Items) : Type 0 where
   pub minor : IsU2 i.minor
   pub major : IsU2 i.major
-  pub count : IsU2 (length i.pool + 1)
-  pub pool : AllByRecursion FitsEntry i.pool
   pub flags : IsU2 i.flags
   pub this : IsU2 i.this
   pub super : IsU2 i.super

@@ -1,4 +1,4 @@
-pub mod Texts
+pub mod Faults
 pub mod Items
 pub mod ClassFiles
 pub mod Instructions

@@ -2,16 +2,18 @@
 
 ghost use Rattle.std.specs.Prelude.{◌≡◌, ◌↔◌, Some, IsTrue};
 ghost use Rattle.std.specs.List.{AllByRecursion};
-ghost use Rattle.pv_class.specs.ClassFiles.{IsEntry, code_word};
-ghost use Rattle.pv_class.specs.Layouts.{Finds, text_in, IsMethodOf, IsSound, IsFileOf};
+ghost use Rattle.pv_pool.specs.Pools.{HasClass};
+ghost use Rattle.pv_pool.specs.Readers.{text_under};
+ghost use Rattle.pv_class.specs.ClassFiles.{code_word};
+ghost use Rattle.pv_class.specs.Layouts.{Finds, IsFirstSlot, IsMethodOf, IsSound, IsFileOf};
 ghost use Rattle.pv_class.specs.Reading.{Reads};
 
 use crate::fault::ClassFault;
-use crate::file::{ClassFile, Entry, Method, Methods, Pool};
+use crate::file::{ClassFile, Method, Methods};
 use crate::layout::{Layout, MethodLayout};
 use crate::method_type::is_method_type;
 use crate::reading::whole_layout;
-use crate::text::is_text;
+use pv_pool::{Entry, Pool};
 use pv_value::Name;
 use std::alloc::Global;
 
@@ -26,26 +28,23 @@ const NEWEST: u16 = 69;
 /// The bytes of the longest code of a method (JVMS 4.7.3).
 const MAX_CODE: usize = 65535;
 
-/// Whether an entry is well formed, and what it refers to is of the right kind.
-fn is_entry(pool: &Pool, entry: &Entry) -> bool
-    ensures { IsTrue result ↔ IsEntry pool.now entry.now }
+/// Whether each entry that stands under an index is a Utf8 or a Class.
+fn are_first(slots: &[Option<Entry>]) -> bool
+    ensures { IsTrue result ↔ AllByRecursion IsFirstSlot slots.now }
 {
-    match entry {
-        Entry::Utf8(text) => is_text(text.bytes()),
-        Entry::Class(name) => pool.text(*name).is_some(),
-    }
+    slots.iter().all(|slot| matches!(slot, None | Some(Entry::Utf8(_) | Entry::Class(_))))
 }
 
-/// Whether each entry of a pool is so.
-fn is_pool(pool: &Pool) -> bool
-    ensures { IsTrue result ↔ AllByRecursion (IsEntry pool.now) pool.now }
+/// Whether a Class is under an index.
+fn has_class(pool: &Pool, index: u16) -> bool
+    ensures { IsTrue result ↔ HasClass pool.now index }
 {
-    pool.as_slice().iter().all(|entry| is_entry(pool, entry))
+    matches!(pool.entry(index), Some(Entry::Class(_)))
 }
 
 /// Whether the text under an index is `Code`.
 fn is_code(pool: &Pool, index: u16) -> bool
-    ensures { IsTrue result ↔ (text_in pool.now index ≡ Some code_word) }
+    ensures { IsTrue result ↔ (text_under pool.now index ≡ Some code_word) }
 {
     match pool.text(index) {
         Some(name) => name.bytes() == b"Code".as_slice(),
@@ -53,16 +52,16 @@ fn is_code(pool: &Pool, index: u16) -> bool
     }
 }
 
-/// Whether the version, the pool and the references to classes are as they must be.
+/// Whether the version, the kinds of entries and the references to classes are as they must be.
 fn is_sound(layout: &Layout) -> bool
     ensures { IsTrue result ↔ IsSound layout.now }
 {
     let pool = &layout.pool;
     OLDEST <= layout.major
         && layout.major <= NEWEST
-        && is_pool(pool)
-        && pool.has_class(layout.this_class)
-        && (layout.super_class == 0 || pool.has_class(layout.super_class))
+        && are_first(pool.slots())
+        && has_class(pool, layout.this_class)
+        && (layout.super_class == 0 || has_class(pool, layout.super_class))
 }
 
 /// The method of these items.

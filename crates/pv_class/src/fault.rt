@@ -1,5 +1,6 @@
 //! Why a class file was not read.
 
+use pv_pool::PoolFault;
 use pv_value::Memory;
 use std::alloc::{AllocError, AllocFailed};
 use thiserror::Error;
@@ -45,5 +46,19 @@ impl From<Memory> for ClassFault {
 
     fn from(_e: Memory) -> ClassFault {
         ClassFault::Memory
+    }
+}
+
+impl From<PoolFault> for ClassFault {
+    ghost use Rattle.std.specs.Prelude.{◌≡◌};
+    ghost use Rattle.pv_class.specs.Faults.{of_pool};
+
+    ghost from_gives = { λ e f. f ≡ of_pool e };
+
+    fn from(e: PoolFault) -> ClassFault {
+        match e {
+            PoolFault::Memory => ClassFault::Memory,
+            _ => ClassFault::NotBuilt,
+        }
     }
 }

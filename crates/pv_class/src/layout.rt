@@ -1,6 +1,7 @@
 //! The items of a class file of first form as they stand in it.
 
-use crate::file::{Code, Pool};
+use crate::file::Code;
+use pv_pool::Pool;
 
 /// A method (JVMS 4.6) with one attribute (JVMS 4.7): its flags and indices, the index of the
 /// attribute's name, and the Code that its contents spell.

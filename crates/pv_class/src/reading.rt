@@ -5,16 +5,22 @@
 
 ghost use Rattle.std.specs.Prelude.{◌≡◌, ◌*◌};
 ghost use Rattle.std.specs.Int.{w16, w32};
-ghost use Rattle.pv_class.specs.Reading.{Gives, number_at, run_at, exactly_at, many_at, text_at, class_at, entry_at, pool_at, code_at, plain_code_at, method_at, whole, head_at, middle_at, layout_at};
+ghost use Rattle.pv_class.specs.Layouts.{Finds};
+ghost use Rattle.pv_class.specs.Reading.{Gives, number_at, run_at, exactly_at, code_at, plain_code_at, method_at, whole, head_at, middle_at, tail_at, IsLayout};
 
 use crate::fault::ClassFault;
-use crate::file::{Code, Entry, Pool};
+use crate::file::Code;
 use crate::layout::{Layout, MethodLayout};
+use byteorder::{BigEndian, ByteOrder};
+use pv_pool::read_pool;
 use pv_value::Name;
 use std::alloc::Global;
 
 /// The number that begins each class file.
 const MAGIC: u32 = 0xCAFE_BABE;
+
+/// Where the constant pool begins, behind the magic number and the version.
+const POOL: usize = 8;
 
 /// A number of two bytes, the high one first.
 fn u16_at(bytes: &[u8]) -> Result<(u16, &[u8]), ClassFault>
@@ -23,9 +29,7 @@ fn u16_at(bytes: &[u8]) -> Result<(u16, &[u8]), ClassFault>
     if bytes.len() < 2 {
         return Err(ClassFault::NotBuilt);
     }
-    let (front, rest) = bytes.split_at(2);
-    let number = u16::from_be_bytes([front[0], front[1]]);
-    Ok((number, rest))
+    Ok((BigEndian::read_u16(bytes), &bytes[2..]))
 }
 
 /// A number of four bytes, the highest first.
@@ -35,9 +39,7 @@ fn u32_at(bytes: &[u8]) -> Result<(u32, &[u8]), ClassFault>
     if bytes.len() < 4 {
         return Err(ClassFault::NotBuilt);
     }
-    let (front, rest) = bytes.split_at(4);
-    let number = u32::from_be_bytes([front[0], front[1], front[2], front[3]]);
-    Ok((number, rest))
+    Ok((BigEndian::read_u32(bytes), &bytes[4..]))
 }
 
 /// So many bytes.
@@ -74,63 +76,6 @@ fn exactly_u32(wanted: u32, bytes: &[u8]) -> Result<&[u8], ClassFault>
     } else {
         Err(ClassFault::NotBuilt)
     }
-}
-
-/// A Utf8 entry behind its tag (JVMS 4.4.7).
-#[tactic(auto, unfolding(crate::specs::Reading::text_at))]
-fn text_at(alloc: Global, bytes: &[u8]) -> Result<(Entry, &[u8]), ClassFault>
-    ensures { Gives (λ x. (x.0, x.1.now)) result (text_at bytes.now) }
-{
-    let (size, rest) = u16_at(bytes)?;
-    let (text, rest) = run_at(size as usize, rest)?;
-    Ok((Entry::Utf8(Name::new(alloc, text)?), rest))
-}
-
-/// A Class entry behind its tag (JVMS 4.4.1).
-#[tactic(auto, unfolding(crate::specs::Reading::class_at))]
-fn class_at(bytes: &[u8]) -> Result<(Entry, &[u8]), ClassFault>
-    ensures { Gives (λ x. (x.0, x.1.now)) result (class_at bytes.now) }
-{
-    let (name, rest) = u16_at(bytes)?;
-    Ok((Entry::Class(name), rest))
-}
-
-/// An entry of the constant pool (JVMS 4.4).
-#[tactic(auto, unfolding(crate::specs::Reading::entry_at))]
-fn entry_at(alloc: Global, bytes: &[u8]) -> Result<(Entry, &[u8]), ClassFault>
-    ensures { Gives (λ x. (x.0, x.1.now)) result (entry_at bytes.now) }
-{
-    match bytes {
-        [1, rest @ ..] => text_at(alloc, rest),
-        [7, rest @ ..] => class_at(rest),
-        _ => Err(ClassFault::NotBuilt),
-    }
-}
-
-/// So many entries.
-fn entries_at(alloc: Global, count: u16, bytes: &[u8]) -> Result<(Vec<Entry>, &[u8]), ClassFault>
-    ensures { Gives (λ x. (x.0.items, x.1.now)) result (many_at entry_at count bytes.now) }
-{
-    let mut entries = Vec::new(alloc);
-    let mut rest = bytes;
-    for _ in 0..count {
-        let (entry, after) = entry_at(alloc, rest)?;
-        entries.push(entry)?;
-        rest = after;
-    }
-    Ok((entries, rest))
-}
-
-/// The pool whose count is given, which is one more than its entries.
-#[tactic(auto, unfolding(crate::specs::Reading::pool_at))]
-fn pool_at(alloc: Global, count: u16, bytes: &[u8]) -> Result<(Pool, &[u8]), ClassFault>
-    ensures { Gives (λ x. (x.0, x.1.now)) result (pool_at count bytes.now) }
-{
-    if count == 0 {
-        return Err(ClassFault::NotBuilt);
-    }
-    let (entries, rest) = entries_at(alloc, count - 1, bytes)?;
-    Ok((Pool::from(entries), rest))
 }
 
 /// A Code up to its attributes. An entry of the exception table has 8 bytes (JVMS 4.7.3).
@@ -190,16 +135,14 @@ fn method_at(alloc: Global, bytes: &[u8]) -> Result<(MethodLayout, &[u8]), Class
     Ok((method, rest))
 }
 
-/// The major version and the count of the pool, from the magic number on (JVMS 4.1).
+/// The major version, from the magic number to the constant pool (JVMS 4.1).
 #[tactic(auto, unfolding(crate::specs::Reading::head_at))]
-fn head_at(bytes: &[u8]) -> Result<((u16, u16), &[u8]), ClassFault>
+fn head_at(bytes: &[u8]) -> Result<(u16, &[u8]), ClassFault>
     ensures { Gives (λ x. (x.0, x.1.now)) result (head_at bytes.now) }
 {
     let rest = exactly_u32(MAGIC, bytes)?;
     let (_minor, rest) = u16_at(rest)?;
-    let (major, rest) = u16_at(rest)?;
-    let (count, rest) = u16_at(rest)?;
-    Ok(((major, count), rest))
+    u16_at(rest)
 }
 
 /// The indices of the class and of its superclass, from behind the pool to the one method.
@@ -216,34 +159,32 @@ fn middle_at(bytes: &[u8]) -> Result<((u16, u16), &[u8]), ClassFault>
     Ok(((this_class, super_class), rest))
 }
 
-/// The items of a class file.
-#[tactic(auto, unfolding(crate::specs::Reading::layout_at))]
-fn layout_at(alloc: Global, bytes: &[u8]) -> Result<(Layout, &[u8]), ClassFault>
-    ensures { Gives (λ x. (x.0, x.1.now)) result (layout_at bytes.now) }
+/// The items behind the pool, all of the bytes: the two indices, and the one method.
+#[tactic(auto, unfolding(crate::specs::Reading::tail_at, crate::specs::Reading::whole))]
+fn whole_tail(alloc: Global, bytes: &[u8]) -> Result<((u16, u16), MethodLayout), ClassFault>
+    ensures { Gives (λ x. x) result (whole tail_at bytes.now) }
 {
-    let ((major, count), rest) = head_at(bytes)?;
-    let (pool, rest) = pool_at(alloc, count, rest)?;
-    let ((this_class, super_class), rest) = middle_at(rest)?;
+    let (classes, rest) = middle_at(bytes)?;
     let (method, rest) = method_at(alloc, rest)?;
-    let rest = exactly_u16(0, rest)?;
-    let layout = Layout {
+    let rest = exactly_u16(0, rest)?; // attributes
+    if !rest.is_empty() {
+        return Err(ClassFault::NotBuilt);
+    }
+    Ok((classes, method))
+}
+
+/// The items that the bytes spell, all of the bytes.
+pub fn whole_layout(alloc: Global, bytes: &[u8]) -> Result<Layout, ClassFault>
+    ensures { Finds (IsLayout bytes.now) result }
+{
+    let (major, _) = head_at(bytes)?;
+    let (pool, after) = read_pool(alloc, bytes, POOL)?;
+    let ((this_class, super_class), method) = whole_tail(alloc, &bytes[after..])?;
+    Ok(Layout {
         major,
         pool,
         this_class,
         super_class,
         method,
-    };
-    Ok((layout, rest))
-}
-
-/// The items that the bytes spell, all of the bytes.
-#[tactic(auto, unfolding(crate::specs::Reading::whole))]
-pub fn whole_layout(alloc: Global, bytes: &[u8]) -> Result<Layout, ClassFault>
-    ensures { Gives (λ x. x) result (whole layout_at bytes.now) }
-{
-    let (layout, rest) = layout_at(alloc, bytes)?;
-    if !rest.is_empty() {
-        return Err(ClassFault::NotBuilt);
-    }
-    Ok(layout)
+    })
 }

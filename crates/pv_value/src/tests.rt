@@ -48,6 +48,27 @@ fn field_types(rt: HostRuntime) {
 }
 
 #[test]
+fn many_brackets(rt: HostRuntime) -> Result<(), Fail> {
+    // what stands behind the brackets, and the field type
+    for (last, t) in [(b"I".as_slice(), Some(A)), (b"", None)] {
+        let mut field = vec![in rt.alloc(); b'['; 65535]?;
+        field.extend_from_slice(last)?;
+        assert_eq!(rt; read_field_type(&field), t);
+
+        let mut method = vec![in rt.alloc(); b'(']?;
+        method.extend_from_slice(&field)?;
+        method.extend_from_slice(b")V")?;
+        let found = read_descriptor(rt.alloc(), &method)?;
+        assert_eq!(rt; found.is_some(), t.is_some());
+        if let Some(found) = found {
+            assert_eq!(rt; found.params.as_slice(), [A].as_slice());
+            assert_eq!(rt; found.result, None);
+        }
+    }
+    Ok(())
+}
+
+#[test]
 fn names(rt: HostRuntime) -> Result<(), Fail> {
     let name = Name::new(rt.alloc(), b"length")?;
     assert_eq!(rt; name.bytes(), b"length".as_slice());

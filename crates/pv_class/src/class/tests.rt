@@ -19,7 +19,7 @@ fn one_method(rt: HostRuntime) -> Result<(), Fail> {
     let class = read_class(rt.alloc(), &BYTES)
         .ok()
         .ok_or("the bytes are a class")?;
-    assert_eq!(rt; class.pool.as_slice().len(), 7);
+    assert_eq!(rt; class.pool.slots().len(), 8);
     assert_eq!(rt; class.methods.as_slice().len(), 1);
     for method in class.methods.as_slice() {
         assert_eq!(rt; method.flags, 9);
@@ -69,6 +69,26 @@ fn too_short_and_too_long(rt: HostRuntime) -> Result<(), Fail> {
     let mut bytes = Vec::from_slice(rt.alloc(), &BYTES)?;
     bytes.push(0)?;
     assert!(rt; is_refused(&rt, &bytes));
+    Ok(())
+}
+
+#[test]
+fn one_more_entry(rt: HostRuntime) -> Result<(), Fail> {
+    // an entry behind the others of the pool, and whether the class is then read
+    let table: [(&[u8], bool); 5] = [
+        (&[1, 0, 0], true),
+        (&[7, 0, 1], true),
+        (&[3, 0, 0, 0, 7], false),
+        (&[8, 0, 1], false),
+        (&[12, 0, 5, 0, 6], false),
+    ];
+    for (entry, read) in table {
+        let mut bytes = Vec::from_slice(rt.alloc(), &BYTES[..56])?;
+        bytes[9] = 9;
+        bytes.extend_from_slice(entry)?;
+        bytes.extend_from_slice(&BYTES[56..])?;
+        assert_eq!(rt; is_refused(&rt, &bytes), !read);
+    }
     Ok(())
 }
 

@@ -1,0 +1,9 @@
+pub mod Places
+pub mod Orders
+pub mod Copies
+pub mod LeastLaws
+pub mod LeastOnce
+pub mod Seen
+pub mod Closed
+pub mod Work
+pub mod Visiting

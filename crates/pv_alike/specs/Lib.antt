@@ -1,0 +1,4 @@
+pub mod Visits
+pub mod Least
+pub mod Renumbered
+pub mod Visited

@@ -1,6 +1,6 @@
 -- Nodes under the numbers of their places: they unfold as before, and are visited in the order of their numbers.
-use Rattle.std.proofs.Common.{◌≡◌, ◌⊎◌, ℕ, zero, suc, ◌+◌, ◌<◌, ◌≤◌, List, [], ◌∷◌, ◌++◌, length, slice_get, Some, refl, sym, ap, ◌∙◌, subst, inl, inr, arith, length-append}
-use Rattle.std.specs.List.{Contains, AllZip, range_with_len}
+use Rattle.std.proofs.Common.{◌≡◌, ℕ, zero, suc, ◌<◌, List, [], ◌∷◌, ◌++◌, length, slice_get, Some, refl, sym, ap, ◌∙◌, subst, arith, length-append}
+use Rattle.std.specs.List.{range_with_len}
 use Rattle.std.proofs.lemmas.Option.{slice_get_within, same_Some}
 use Rattle.pv_graph.specs.declared.node.Op.{Op}
 use Rattle.pv_graph.specs.declared.node.Node.{Node}
@@ -8,8 +8,8 @@ use Rattle.pv_graph.specs.Trees.{Tree, over, trees_of, unfold_at}
 use Rattle.pv_graph.specs.TreeLaws.{unfold_of}
 use Rattle.pv_alike.specs.Visits.{Visits, done, again, new}
 use Rattle.pv_alike.specs.Least.{UnfoldsAs}
-use Rattle.pv_alike.specs.Renumbered.{ArePlaces, IsCopy, IsCopyOf, IsRenumbered}
-use Rattle.pv_alike.proofs.Places.{place_of, contains_at, partner, zip_length, zip_append, Apart, range_contains, range_below, range_more}
+use Rattle.pv_alike.specs.Renumbered.{ArePlaces, IsCopyOf, IsRenumbered}
+use Rattle.pv_alike.proofs.Places.{place_of, partner, zip_length, zip_append, Apart, range_contains, range_below, range_more}
 use Rattle.pv_alike.proofs.Orders.{front_at, next_at}
 
 -- a place of the order, with the node that stands there, and its copy

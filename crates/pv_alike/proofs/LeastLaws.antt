@@ -1,5 +1,5 @@
 -- What a least graph has, and that the copies of the nodes under two roots are one.
-use Rattle.std.proofs.Common.{◌≡◌, ◌↔◌, ℕ, ◌<◌, List, [], ◌∷◌, length, slice_get, Some, refl, sym, ap, ◌∙◌, subst, arith}
+use Rattle.std.proofs.Common.{◌≡◌, ◌↔◌, ℕ, ◌<◌, List, [], ◌∷◌, length, slice_get, Some, sym, ap, ◌∙◌, subst, arith}
 use Rattle.std.specs.List.{Contains, AllByRecursion, range_with_len}
 use Rattle.std.proofs.lemmas.Option.{slice_get_within, same_Some}
 use Rattle.pv_graph.specs.declared.node.Node.{Node}
@@ -10,7 +10,7 @@ use Rattle.pv_graph.specs.TreeLaws.{one_tree, same_tree_value}
 use Rattle.pv_alike.specs.Visits.{Visits}
 use Rattle.pv_alike.specs.Least.{Rooted, UnfoldsAs, MeansAs, IsLeast}
 use Rattle.pv_alike.specs.Renumbered.{IsCopyOf, IsRenumbered}
-use Rattle.pv_alike.proofs.Places.{contains_at, zip_length, Apart, apart_none, range_contains, range_below}
+use Rattle.pv_alike.proofs.Places.{contains_at, zip_length, apart_none, range_contains, range_below}
 use Rattle.pv_alike.proofs.Orders.{visits_all, visits_apart, visits_closed}
 use Rattle.pv_alike.proofs.Copies.{copy_unfolds, copies_visits}
 
@@ -30,8 +30,8 @@ all_below : (n : ℕ) (ks : List ℕ) → AllByRecursion (Contains (range_with_l
 all_below n [] all = tt
 all_below n (k ∷ ks) all = (range_below n k all.0, all_below n ks all.1)
 
-pub least_within : (g : List Node) (a b : ℕ) (h : List Node) (r s : ℕ) → IsLeast g a b h r s → IsWithin h r s
-least_within g a b h r s least =
+pub least_within : {g : List Node} {a b : ℕ} {h : List Node} {r s : ℕ} → IsLeast g a b h r s → IsWithin h r s
+least_within {h = h} {r = r} {s = s} least =
     let roots = visits_all h (range_with_len 0 (length h)) [] (r ∷ s ∷ []) least.numbered in
     record {
       first = range_below (length h) r roots.0;
@@ -46,9 +46,9 @@ least_within g a b h r s least =
         subst (λ (y : Node). AllByRecursion (λ k. k < length h) y.kids) one (all_below (length h) has.0.kids has.2)
 
 -- the roots are one exactly where the nodes unfold equally
-pub least_one : (g : List Node) (a b : ℕ) (h : List Node) (r s : ℕ) → IsLeast g a b h r s → (r ≡ s) ↔ UnfoldEqually g a b
-least_one g a b h r s least =
-    let within = least_within g a b h r s least in (
+pub least_one : {g : List Node} {a b : ℕ} {h : List Node} {r s : ℕ} → IsLeast g a b h r s → (r ≡ s) ↔ UnfoldEqually g a b
+least_one {h = h} {r = r} {s = s} least =
+    let within = least_within least in (
       (λ e m. sym (least.first_root m) ∙ ap (unfold_at h m) e ∙ least.second_root m),
       (λ same. least.distinct r s within.first within.second (λ m. least.first_root m ∙ same m ∙ sym (least.second_root m))),
     )
@@ -84,8 +84,8 @@ least_made g a b order h r s l graph visits copies at_a at_b nodes first second 
     (subst (λ (n : ℕ). IsLeast g a b h r n) (sym second) (copies_least g a b order h r s graph visits copies at_a at_b)))
 
 -- the roots have the values of the nodes
-pub first_means : (g : List Node) (a b : ℕ) (h : List Node) (r s : ℕ) → IsLeast g a b h r s → MeansAs h r g a
-first_means g a b h r s least = unfolds_means h r g a least.first_root
+pub first_means : {g : List Node} {a b : ℕ} {h : List Node} {r s : ℕ} → IsLeast g a b h r s → MeansAs h r g a
+first_means {g = g} {a = a} {h = h} {r = r} least = unfolds_means h r g a least.first_root
 
-pub second_means : (g : List Node) (a b : ℕ) (h : List Node) (r s : ℕ) → IsLeast g a b h r s → MeansAs h s g b
-second_means g a b h r s least = unfolds_means h s g b least.second_root
+pub second_means : {g : List Node} {a b : ℕ} {h : List Node} {r s : ℕ} → IsLeast g a b h r s → MeansAs h s g b
+second_means {g = g} {b = b} {h = h} {s = s} least = unfolds_means h s g b least.second_root

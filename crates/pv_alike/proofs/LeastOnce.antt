@@ -1,18 +1,18 @@
 -- There is one least graph of two nodes.
 use Rattle.std.proofs.Common.{◌≡◌, ℕ, suc, ◌<◌, List, [], ◌∷◌, ◌++◌, length, slice_get, Some, refl, sym, ap, ◌∙◌, subst, arith}
 use Rattle.std.specs.List.{Contains, AllZip, AllByRecursion, range_with_len}
-use Rattle.std.proofs.lemmas.Option.{slice_get_within, same_Some}
+use Rattle.std.proofs.lemmas.Option.{same_Some}
 use Rattle.std.proofs.lemmas.List.FromFn.{length-range_with_len}
 use Rattle.pv_graph.specs.declared.node.Op.{Op}
 use Rattle.pv_graph.specs.declared.node.Node.{Node}
 use Rattle.pv_graph.specs.Elements.{found}
-use Rattle.pv_graph.specs.Trees.{Tree, Trees, over, first, none, trees_of, unfold_at, UnfoldEqually}
+use Rattle.pv_graph.specs.Trees.{over, trees_of, unfold_at, UnfoldEqually}
 use Rattle.pv_graph.specs.TreeLaws.{unfold_of}
 use Rattle.pv_alike.specs.Visits.{Visits, done, again, new}
 use Rattle.pv_alike.specs.Least.{UnfoldsAs, IsLeast}
 use Rattle.pv_alike.proofs.Places.{place_of, contains_at, partner, zip_length, zip_append, range_get, range_below}
 use Rattle.pv_alike.proofs.Orders.{front_at, visits_all}
-use Rattle.pv_alike.proofs.LeastLaws.{IsWithin, least_within}
+use Rattle.pv_alike.proofs.LeastLaws.{least_within}
 
 -- ---- two graphs side by side
 
@@ -74,19 +74,19 @@ side_by_side h h' order order' seen (p ∷ ps) seen' (q ∷ qs) kept kept' (new 
 
 -- ---- one least graph
 
-kept_least : (g : List Node) (a b : ℕ) (h : List Node) (r s : ℕ) → IsLeast g a b h r s → IsKept h (range_with_len 0 (length h))
-kept_least g a b h r s least = record { below = λ n there. range_below (length h) n there; distinct = least.distinct }
+kept_least : {g : List Node} {a b : ℕ} {h : List Node} {r s : ℕ} → IsLeast g a b h r s → IsKept h (range_with_len 0 (length h))
+kept_least {h = h} least = record { below = λ n there. range_below (length h) n there; distinct = least.distinct }
 
 -- a number below both lengths is a node that unfolds as in the other graph
 record AreAlike (h h' : List Node) : Type 0 where
   pub long : length h ≡ length h'
   pub each : (n : ℕ) → n < length h → UnfoldsAs h n h' n
 
-alike : (g : List Node) (a b : ℕ) (h h' : List Node) (r s r' s' : ℕ) → IsLeast g a b h r s → IsLeast g a b h' r' s' → AreAlike h h'
-alike g a b h h' r s r' s' p q =
+alike : {g : List Node} {a b : ℕ} {h h' : List Node} {r s r' s' : ℕ} → IsLeast g a b h r s → IsLeast g a b h' r' s' → AreAlike h h'
+alike {h = h} {h' = h'} {r = r} {s = s} {r' = r'} {s' = s'} p q =
     let orders : AllUnfold h h' (range_with_len 0 (length h)) (range_with_len 0 (length h')) =
     side_by_side h h' (range_with_len 0 (length h)) (range_with_len 0 (length h')) [] (r ∷ s ∷ []) [] (r' ∷ s' ∷ [])
-    (kept_least g a b h r s p) (kept_least g a b h' r' s' q) p.numbered q.numbered tt
+    (kept_least p) (kept_least q) p.numbered q.numbered tt
     ((λ m. p.first_root m ∙ sym (q.first_root m)), ((λ m. p.second_root m ∙ sym (q.second_root m)), tt)) in
     let R : ℕ → ℕ → Type 0 = λ m n. UnfoldsAs h m h' n in
     let long : length h ≡ length h' =
@@ -125,22 +125,22 @@ same_everywhere (x ∷ xs) (y ∷ ys) e each =
     let others : xs ≡ ys = same_everywhere xs ys (omega arith) (λ n lt. each (suc n) (omega arith)) in
     cc (one, others)
 
-nodes_one : (g : List Node) (a b : ℕ) (h h' : List Node) (r s r' s' : ℕ) → IsLeast g a b h r s → IsLeast g a b h' r' s' → AreAlike h h' → (n : ℕ) → n < length h → slice_get h n ≡ slice_get h' n
-nodes_one g a b h h' r s r' s' p q both n lt =
+nodes_one : {g : List Node} {a b : ℕ} {h h' : List Node} {r s r' s' : ℕ} → IsLeast g a b h r s → IsLeast g a b h' r' s' → AreAlike h h' → (n : ℕ) → n < length h → slice_get h n ≡ slice_get h' n
+nodes_one {h = h} {h' = h'} p q both n lt =
     let x = found h n lt in
     let y = found h' n (omega (arith, both.long)) in
     let have = parts h h' n n x.0 y.0 x.1 y.1 (both.each n lt) in
     let kids : x.0.kids ≡ y.0.kids =
-    kids_one h h' x.0.kids y.0.kids both q.distinct ((least_within g a b h r s p).kids n x.0 x.1) ((least_within g a b h' r' s' q).kids n y.0 y.1) have.1 in
+    kids_one h h' x.0.kids y.0.kids both q.distinct ((least_within p).kids n x.0 x.1) ((least_within q).kids n y.0 y.1) have.1 in
     x.1 ∙ ap Some (same_node x.0 y.0 have.0 kids) ∙ sym y.1
 
 -- two nodes of a graph have one least graph: one list of nodes, with the same roots
-pub least_once : (g : List Node) (a b : ℕ) (h h' : List Node) (r s r' s' : ℕ) → IsLeast g a b h r s → IsLeast g a b h' r' s' → (h ≡ h') × (r ≡ r') × (s ≡ s')
-least_once g a b h h' r s r' s' p q =
-    let both = alike g a b h h' r s r' s' p q in
-    let within = least_within g a b h r s p in
-    let within' = least_within g a b h' r' s' q in (
-      same_everywhere h h' both.long (λ n lt. nodes_one g a b h h' r s r' s' p q both n lt),
+pub least_once : {g : List Node} {a b : ℕ} {h h' : List Node} {r s r' s' : ℕ} → IsLeast g a b h r s → IsLeast g a b h' r' s' → (h ≡ h') × (r ≡ r') × (s ≡ s')
+least_once {h = h} {h' = h'} {r = r} {s = s} {r' = r'} {s' = s'} p q =
+    let both = alike p q in
+    let within = least_within p in
+    let within' = least_within q in (
+      same_everywhere h h' both.long (λ n lt. nodes_one p q both n lt),
       one_of h h' r r' both q.distinct within.first within'.first (λ m. p.first_root m ∙ sym (q.first_root m)),
       one_of h h' s s' both q.distinct within.second within'.second (λ m. p.second_root m ∙ sym (q.second_root m)),
     )

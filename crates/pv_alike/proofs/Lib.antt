@@ -7,3 +7,4 @@ pub mod Seen
 pub mod Closed
 pub mod Work
 pub mod Visiting
+mod Examples

@@ -1,5 +1,5 @@
 -- A set of numbers in order: whether it has a number, and at which place.
-use Rattle.std.proofs.Common.{◌≡◌, ◌==◌, ℕ, Bool, true, false, not, List, [], ◌∷◌, ◌++◌, get_or, slice_get, position, Some, refl, sym, ap, ◌∙◌, subst, true≢false, if◌then◌else◌, arith, eqb}
+use Rattle.std.proofs.Common.{◌≡◌, ℕ, Bool, true, false, not, List, [], ◌∷◌, ◌++◌, get_or, slice_get, position, Some, refl, sym, ap, ◌∙◌, subst, true≢false, if◌then◌else◌, eqb}
 use Rattle.std.specs.List.{Contains, list_any}
 use Rattle.std.proofs.lemmas.Bool.Decides.{Decides-eqb}
 use Rattle.std.proofs.lemmas.Option.{slice_get-get_or}
@@ -7,7 +7,7 @@ use Rattle.std.proofs.lemmas.List.Folds.{list_any_at}
 use Rattle.std.proofs.lemmas.List.Quantifiers.{position-Some}
 use Rattle.indexmap.specs.IndexSet.{insert_key}
 use Rattle.indexmap.proofs.CallerLemmas.{Contains-list_any}
-use Rattle.pv_alike.specs.Visited.{Visited}
+use Rattle.pv_alike.specs.Visits.{Visited}
 
 -- what a test finds is there, and what is there is found
 pub has_found : (xs : List ℕ) (n : ℕ) → list_any (eqb n) xs ≡ true → Contains xs n

@@ -1,25 +1,18 @@
 -- A visit that has come some way: what has been visited, and the stack of what is to be visited, whose end is next.
-use Rattle.std.proofs.Common.{◌≡◌, ℕ, suc, ◌+◌, ◌-◌, ◌<◌, Bool, true, false, List, [], ◌∷◌, ◌++◌, length, reverse, slice_get, Some, refl, sym, ap, ◌∙◌, subst, arith, length-append}
+use Rattle.std.proofs.Common.{◌≡◌, ℕ, ◌+◌, ◌-◌, ◌<◌, Bool, true, false, List, [], ◌∷◌, ◌++◌, length, reverse, slice_get, Some, refl, sym, ap, ◌∙◌, subst, arith, length-append}
 use Rattle.std.specs.List.{All, Contains}
 use Rattle.std.proofs.lemmas.List.Elements.{All-append, All-contains, All-weaker, All-from_recursion, Contains-push}
 use Rattle.std.proofs.lemmas.List.{get_or_append_left, get_or-reverse, reverse-append, reverse-reverse, length-reverse}
 use Rattle.std.proofs.lemmas.Option.{slice_get_within}
 use Rattle.pv_graph.specs.declared.node.Node.{Node}
 use Rattle.pv_graph.specs.Nodes.{IsGraph}
-use Rattle.pv_alike.specs.Visits.{Visits, done, again, new}
-use Rattle.pv_alike.specs.Visited.{Visited}
+use Rattle.pv_alike.specs.Visits.{Visits, done, again, new, Visited}
 use Rattle.pv_alike.proofs.Work.{work, work_visit}
 
 -- the rest of the visit completes the whole, and the stack has nodes of the graph
 pub record IsVisiting (g : List Node) (first second : ℕ) (order stack : List ℕ) : Type 0 where
   pub continues : (whole : List ℕ) → Visits g whole order (reverse stack) → Visits g whole [] (first ∷ second ∷ [])
   pub low : All (λ n. n < length g) stack
-
-pub visiting_start : (g : List Node) (first second : ℕ) (stack : List ℕ) → first < length g → second < length g → stack ≡ reverse (first ∷ second ∷ []) → IsVisiting g first second [] stack
-visiting_start g first second stack lt lt' e = record {
-  continues = λ whole visits. subst (λ (todo : List ℕ). Visits g whole [] todo) (ap reverse e) visits;
-  low = subst (All (λ n. n < length g)) (sym e) (All-from_recursion (λ n. n < length g) (second ∷ first ∷ []) (lt', (lt, tt)));
-}
 
 -- what is to be visited once n is taken off the end of the stack, and its kids are put there
 todo_taken : (stack rest : List ℕ) (n : ℕ) → stack ≡ rest ++ n ∷ [] → reverse stack ≡ n ∷ reverse rest
@@ -71,9 +64,6 @@ visiting_end g first second order stack is e = is.continues order (subst (λ (to
 abbrev pub left : List Node → List ℕ → List ℕ → ℕ
 left g order stack = work g 0 order + length stack
 
-pub less_again : (g : List Node) (order stack rest : List ℕ) (n : ℕ) → stack ≡ rest ++ n ∷ [] → left g order rest < left g order stack
-less_again g order stack rest n e = omega (arith, ap length e, length-append rest (n ∷ []))
-
 pub less_new : (g : List Node) (order stack rest : List ℕ) (n : ℕ) (node : Node) → stack ≡ rest ++ n ∷ [] → (Contains order n → ⊥) → slice_get g n ≡ Some node → left g (order ++ n ∷ []) (rest ++ reverse node.kids) < left g order stack
 less_new g order stack rest n node e absent at =
     omega (arith, ap length e, length-append rest (n ∷ []), length-append rest (reverse node.kids), length-reverse node.kids, work_visit g n order node at absent)
@@ -84,11 +74,6 @@ pub turn_again : (g : List Node) (first second : ℕ) (order order' stack rest :
 turn_again g first second order order' stack rest n is_new is e visit old =
     let there = subst (λ b. Visited order order' n b) old visit in
     subst (λ (xs : List ℕ). IsVisiting g first second xs rest) (sym there.1) (visiting_again g first second order stack rest n is e there.0)
-
-pub turn_again_less : (g : List Node) (order order' stack rest : List ℕ) (n : ℕ) (is_new : Bool) → stack ≡ rest ++ n ∷ [] → Visited order order' n is_new → is_new ≡ false → left g order' rest < left g order stack
-turn_again_less g order order' stack rest n is_new e visit old =
-    let there = subst (λ b. Visited order order' n b) old visit in
-    subst (λ (xs : List ℕ). left g xs rest < left g order stack) (sym there.1) (less_again g order stack rest n e)
 
 pub turn_new : (g : List Node) (first second : ℕ) (order order' stack rest : List ℕ) (n : ℕ) (is_new : Bool) (node : Node) (kids stack' : List ℕ) → IsGraph g → IsVisiting g first second order stack → stack ≡ rest ++ n ∷ [] → Visited order order' n is_new → is_new ≡ true → slice_get g n ≡ Some node → kids ≡ node.kids → stack' ≡ rest ++ reverse kids → IsVisiting g first second order' stack'
 turn_new g first second order order' stack rest n is_new node kids stack' graph is e visit young at same e' =

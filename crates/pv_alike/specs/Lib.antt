@@ -1,4 +1,3 @@
 pub mod Visits
 pub mod Least
 pub mod Renumbered
-pub mod Visited

@@ -11,7 +11,8 @@ use pv_graph::{Graph, NodeId};
 use pv_value::Memory;
 use std::alloc::Global;
 
-/// The least graph of two nodes.
+/// The least graph of two nodes: with exactly the nodes that are reached from them, no two of which
+/// unfold equally, numbered by their first visits.
 pub fn least(alloc: Global, g: &Graph, first: NodeId, second: NodeId) -> Result<Least, Memory>
     requires first { first < length g.now }
     requires second { second < length g.now }

@@ -2,7 +2,7 @@
 
 ghost use Rattle.std.specs.Prelude.{◌≡◌, ◌<◌, ◌^◌, [], length, slice_get, Some, IfOk};
 ghost use Rattle.std.specs.List.{Contains};
-ghost use Rattle.pv_alike.specs.Visited.{Visited};
+ghost use Rattle.pv_alike.specs.Visits.{Visited};
 
 use indexmap::IndexSet;
 use pv_graph::NodeId;

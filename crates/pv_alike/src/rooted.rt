@@ -1,12 +1,12 @@
-//! A least graph, with its two roots.
+//! A least graph and its two roots.
 
-ghost use Rattle.std.specs.Prelude.{◌≡◌, ◌<◌, length, slice_get, Some};
+ghost use Rattle.std.specs.Prelude.{◌≡◌, ◌<◌, ◌^◌, length, slice_get, Some};
 
 use pv_graph::{Node, NodeId};
 use std::marker::Model;
 
-/// A least graph, seen as its nodes and the numbers of its two roots. A node has the number of its
-/// first visit, so it stands before its kids where it isn't met from below.
+/// The least graph of two roots, seen as its nodes and the numbers of the roots. A node may have kids
+/// with larger numbers.
 #[derive(Drop)]
 pub struct Least {
     nodes: Vec<Node>,
@@ -15,15 +15,19 @@ pub struct Least {
 }
 
 impl Model for Least {
+    ghost use Rattle.std.specs.Prelude.{◌<◌, ◌^◌, length};
     ghost use Rattle.pv_alike.specs.Least.{Rooted};
 
     ghost Value = { Rooted };
 
     ghost view = { λ l. record { nodes = l.nodes.items; first = l.first; second = l.second } };
+
+    ghost invariant = { λ l. length l.nodes.items < 2 ^ 32 };
 }
 
 impl Least {
     pub(crate) fn new(nodes: Vec<Node>, first: NodeId, second: NodeId) -> Least
+        requires { length nodes.items < 2 ^ 32 }
         ensures nodes { result.nodes ≡ nodes.items }
         ensures first { result.first ≡ first }
         ensures second { result.second ≡ second }
@@ -43,11 +47,11 @@ impl Least {
         &self.nodes[n as usize]
     }
 
-    /// How many nodes there are.
-    pub fn len(&self) -> usize
+    /// How many nodes there are: fewer than 2^32.
+    pub fn len(&self) -> u32
         ensures { result ≡ length self.now.nodes }
     {
-        self.nodes.len()
+        self.nodes.len() as u32
     }
 
     /// The first root.

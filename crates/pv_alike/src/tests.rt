@@ -29,8 +29,8 @@ fn least_of(
 
 // The node with this number is this operation over these kids.
 fn assert_node(rt: &impl Abort, l: &Least, n: NodeId, op: Op, kids: &[NodeId]) {
-    assert!(rt; (n as usize) < l.len());
-    if (n as usize) < l.len() {
+    assert!(rt; n < l.len());
+    if n < l.len() {
         let node = l.node(n);
         assert_eq!(rt; node.op, op);
         assert_eq!(rt; node.kids.as_slice(), kids);

@@ -1,7 +1,9 @@
 //! First visits.
 
-ghost use Rattle.std.specs.Prelude.{◌≡◌, ◌<◌, ◌++◌, ◌∷◌, [], length, reverse, IfOk};
+ghost use Rattle.std.specs.Prelude.{◌≡◌, ◌<◌, ◌^◌, ◌++◌, ◌∷◌, [], length, reverse, IfOk, OnOk};
+ghost use Rattle.std.specs.List.{Contains};
 ghost use Rattle.pv_graph.specs.Nodes.{IsGraph};
+ghost use Rattle.pv_alike.specs.Renumbered.{IsClosed};
 ghost use Rattle.pv_alike.specs.Visits.{Visits};
 
 use crate::order::Order;
@@ -11,7 +13,7 @@ use std::alloc::Global;
 
 // Puts nodes on a stack, the first on top.
 fn push_all(stack: &mut Vec<NodeId>, nodes: &[NodeId]) -> Result<(), Memory>
-    ensures { IfOk result (λ done. stack.new.items ≡ stack.old.items ++ reverse nodes.now) }
+    ensures { OnOk result (stack.new.items ≡ stack.old.items ++ reverse nodes.now) }
 {
     stack.extend(nodes.iter().rev().copied())?;
     Ok(())
@@ -24,7 +26,10 @@ pub fn visited(alloc: Global, g: &Graph, first: NodeId, second: NodeId) -> Resul
     requires first { first < length g.now }
     requires second { second < length g.now }
 
-    ensures { IfOk result (λ order. Visits g.now order [] (first ∷ second ∷ [])) }
+    ensures visits { IfOk result (λ order. Visits g.now order [] (first ∷ second ∷ [])) }
+    ensures roots { IfOk result (λ order. Contains order first × Contains order second) }
+    ensures closed { IfOk result (λ order. IsClosed g.now order) }
+    ensures small { IfOk result (λ order. length order < 2 ^ 32) }
 {
     let mut order = Order::new(alloc);
     let mut stack = Vec::new(alloc);

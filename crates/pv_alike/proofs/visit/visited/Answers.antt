@@ -1,5 +1,8 @@
-use Rattle.std.proofs.Common.{rules}
+use Rattle.std.proofs.Common.{[], ◌∷◌, rules}
 use Rattle.std.proofs.lemmas.List.{nil_from_length}
+use Rattle.pv_alike.specs.Visits.{Visits}
+use Rattle.pv_alike.proofs.Orders.{visits_all}
+use Rattle.pv_alike.proofs.Closed.{closed_visits, order_small}
 use Rattle.pv_alike.proofs.Visiting.{last_low, visiting_end, turn_again, turn_new, turn_new_less}
 use Rattle.pv_alike.proofs.visit.visited.Goals as goal
 
@@ -23,4 +26,12 @@ loop-n-smaller c =
 
 pub returns : goal.returns
 returns c =
-    visiting_end c.args.g.now c.args.first c.args.second c.loop-n.order c.loop-n.stack.items c.loop-n.invariant (nil_from_length c.loop-n.stack.items (search (rules, c.in_default.ensures.cases)))
+    let visits : Visits c.args.g.now c.loop-n.order [] (c.args.first ∷ c.args.second ∷ []) =
+    visiting_end c.args.g.now c.args.first c.args.second c.loop-n.order c.loop-n.stack.items c.loop-n.invariant (nil_from_length c.loop-n.stack.items (search (rules, c.in_default.ensures.cases))) in
+    let all = visits_all c.args.g.now c.loop-n.order [] (c.args.first ∷ c.args.second ∷ []) visits in
+    record {
+      visits = visits;
+      roots = (all.0, all.1.0);
+      closed = closed_visits c.args.g.now c.loop-n.order (c.args.first ∷ c.args.second ∷ []) visits;
+      small = order_small c.args.g.now c.loop-n.order (c.args.first ∷ c.args.second ∷ []) c.requires.graph visits;
+    }

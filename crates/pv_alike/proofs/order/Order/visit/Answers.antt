@@ -1,5 +1,5 @@
 use Rattle.std.proofs.Common.{ℕ, List, subst}
-use Rattle.pv_alike.specs.Visited.{Visited}
+use Rattle.pv_alike.specs.Visits.{Visited}
 use Rattle.pv_alike.proofs.Seen.{visit_found}
 use Rattle.pv_alike.proofs.order.Order.visit.Goals as goal
 

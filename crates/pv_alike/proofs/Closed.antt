@@ -32,7 +32,7 @@ closed_kids g order p n node closed at is =
     subst (λ (y : Node). All (Contains order) y.kids) one has.2
 
 -- a list without doubles, by tests
-distinct_apart : (xs : List ℕ) → Apart xs → IsDistinct eqb xs
+pub distinct_apart : (xs : List ℕ) → Apart xs → IsDistinct eqb xs
 distinct_apart xs apart = IsDistinct-from_apart eqb xs (λ i j d lt lt'. differ i j d lt lt' (eqb (get_or xs i d) (get_or xs j d)) refl)
   where
     differ : (i j d : ℕ) → i < j → j < length xs → (b : Bool) → eqb (get_or xs i d) (get_or xs j d) ≡ b → b ≡ false

@@ -17,7 +17,7 @@ use Rattle.pv_alike.proofs.LeastLaws.{least_within}
 -- ---- two graphs side by side
 
 -- nodes that unfold equally, of one graph and of another
-abbrev AllUnfold : List Node → List Node → List ℕ → List ℕ → Type 0
+abbrev pub AllUnfold : List Node → List Node → List ℕ → List ℕ → Type 0
 AllUnfold h h' ps qs = AllZip (λ p q. UnfoldsAs h p h' q) ps qs
 
 all_unfold : (h h' : List Node) (ks ls : List ℕ) → ((m : ℕ) → trees_of ks (unfold_at h m) ≡ trees_of ls (unfold_at h' m)) → AllUnfold h h' ks ls
@@ -27,14 +27,14 @@ all_unfold h h' (k ∷ ks) [] same = let e = same 0 in absurd (cc)
 all_unfold h h' (k ∷ ks) (l ∷ ls) same = ((λ m. let e = same m in cc), all_unfold h h' ks ls (λ m. let e = same m in cc))
 
 -- nodes that unfold equally have one operation, and kids that unfold equally
-parts : (h h' : List Node) (p q : ℕ) (x y : Node) → slice_get h p ≡ Some x → slice_get h' q ≡ Some y → UnfoldsAs h p h' q → (x.op ≡ y.op) × AllUnfold h h' x.kids y.kids
+pub parts : (h h' : List Node) (p q : ℕ) (x y : Node) → slice_get h p ≡ Some x → slice_get h' q ≡ Some y → UnfoldsAs h p h' q → (x.op ≡ y.op) × AllUnfold h h' x.kids y.kids
 parts h h' p q x y at at' same =
     let both : (m : ℕ) → over x.op (trees_of x.kids (unfold_at h m)) ≡ over y.op (trees_of y.kids (unfold_at h' m)) =
     λ m. sym (unfold_of h p m x at) ∙ same (suc m) ∙ unfold_of h' q m y at' in
     ((let e = both 0 in cc), all_unfold h h' x.kids y.kids (λ m. let e = both m in cc))
 
 -- the other way round
-back : (h h' : List Node) (ps qs : List ℕ) → AllUnfold h h' ps qs → AllUnfold h' h qs ps
+pub back : (h h' : List Node) (ps qs : List ℕ) → AllUnfold h h' ps qs → AllUnfold h' h qs ps
 back h h' [] [] all = tt
 back h h' [] (q ∷ qs) all = absurd all
 back h h' (p ∷ ps) [] all = absurd all

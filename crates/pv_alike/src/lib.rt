@@ -12,6 +12,8 @@
 //! of memory is the one error. And it uses these laws of `proofs/`:
 //!
 //! - `LeastOnce`: `least_once`, two nodes have one least graph, the same list with the same roots.
+//! - `LeastFewest`: `least_fewest`, no graph with nodes that unfold as the roots has fewer nodes, and
+//!   `least_origins`, each node of the least graph unfolds as a node of the graph.
 //! - `LeastLaws`: `least_within`, the roots and all kids are nodes of a least graph; `least_one` and
 //!   `first_means`, `second_means`, the other clauses of `least`, of every least graph.
 //! - `Orders`: `visits_once`, there is one order of first visits; what it has.

@@ -1,11 +1,11 @@
 //! The least graph of two roots.
 //!
-//! This layer stands on `pv_graph`, whose nodes it copies, and on `indexmap`. `least` gives, for two
-//! nodes of a graph, their least graph (`specs/Least`, `IsLeast`): each root unfolds as its node, no
-//! two nodes unfold equally, and the nodes are exactly those that are reached, numbered by their first
-//! visits, from the first root and then from the second, a node before its kids and kids from left to
-//! right (`specs/Visits`). A kid may have a larger number than its node, so it is no `Graph`. The
-//! definition takes any list of nodes: it doesn't ask that a graph has no cycles.
+//! This layer stands on `pv_graph`, whose nodes it copies, on `pv_value` and on the kit's `indexmap`.
+//! `least` gives, for two nodes of a graph, their least graph (`specs/Least`, `IsLeast`): each root
+//! unfolds as its node, no two nodes unfold equally, and the nodes are exactly those that are reached,
+//! numbered by their first visits, from the first root and then from the second, a node before its kids
+//! and kids from left to right (`specs/Visits`). A kid may have a larger number than its node, so this
+//! is no `Graph`. The definition takes any list of nodes: it doesn't ask that a graph has no cycles.
 //!
 //! The layer above uses the clauses of `least`: that the graph is least, that its two roots are one
 //! exactly where the nodes unfold equally, and that each root has exactly the values of its node. Want

@@ -48,7 +48,7 @@ fn returned(rt: &HostRuntime, method: &Method, args: &[Num]) -> Result<Option<Nu
 fn ends(rt: HostRuntime) -> Result<(), Fail> {
     use Num::Int;
     // the code, the descriptor, the arguments, and what is returned
-    let table: [(&[u8], &[u8], &[Num], i32); 12] = [
+    let table: [(&[u8], &[u8], &[Num], i32); 15] = [
         (b"\x04\xAC", b"()I", &[], 1), // iconst_1, ireturn
         (b"\x1A\x1B\x64\xAC", b"(II)I", &[Int(5), Int(7)], -2), // iload_0, iload_1, isub, ireturn
         // iload_0, iload_1, iload_2, imul, isub, ireturn
@@ -73,6 +73,9 @@ fn ends(rt: HostRuntime) -> Result<(), Fail> {
         (b"\x02\xAC", b"()Z", &[], 1), // iconst_m1, ireturn
         (b"\x1A\xAC", b"(I)S", &[Int(98304)], -32768), // iload_0, ireturn
         (b"\x1A\xAC", b"(I)Z", &[Int(6)], 0), // iload_0, ireturn
+        (b"\x1A\xAC", b"(I)Z", &[Int(-257)], 1), // iload_0, ireturn
+        (b"\x1A\xAC", b"(I)C", &[Int(70000)], 4464), // iload_0, ireturn
+        (b"\x1A\xAC", b"(I)C", &[Int(-70000)], 61072), // iload_0, ireturn
     ];
     for (code, desc, args, value) in table {
         let method = method(rt.alloc(), STATIC, desc, code, 3)?;

@@ -1,7 +1,7 @@
 -- The machine (JVMS 2.6, 6.5): what an instruction does to a state, how a method ends, and when two methods have the same meaning.
-use Rattle.std.specs.Prelude.{◌≡◌, ◌↔◌, ℕ, ℤ, pos, zero, suc, ◌+◌, ◌-◌, ◌%◌, List, [], ◌∷◌, ◌++◌, length, Option, Some, None, slice_get, replicate, ◌==◌, Bool, true, false, bit_and}
+use Rattle.std.specs.Prelude.{◌≡◌, ◌↔◌, ℕ, ℤ, pos, zero, suc, ◌+◌, ◌-◌, ◌^◌, List, [], ◌∷◌, ◌++◌, length, Option, Some, None, slice_get, replicate, ◌==◌, Bool, true, false, bit_and}
 use Rattle.std.specs.List.{flat_map}
-use Rattle.std.specs.Int.{w8, w16, int_wrap, cast_unsigned}
+use Rattle.std.specs.Int.{w8, w16, int_wrap, int_rem_euclid}
 use Rattle.pv_value.specs.declared.number.Num.{Num}
 use Rattle.pv_value.specs.declared.number.Num.TheVariants as num
 use Rattle.pv_value.specs.declared.descriptor.JType.{JType}
@@ -80,9 +80,9 @@ start p input = record { at = 0; stack = []; locals = padded p.max_locals (flat_
 
 -- an int as a value of the type of the result: boolean takes the lowest bit, byte, char and short the low bits
 abbrev pub narrowed : JType → ℤ → Option ℤ
-narrowed Z n = Some (pos (cast_unsigned w8 n % 2))
+narrowed Z n = Some (int_rem_euclid n (pos 2))
 narrowed B n = Some (int_wrap w8 n)
-narrowed C n = Some (pos (cast_unsigned w16 n))
+narrowed C n = Some (int_rem_euclid n (pos (2 ^ 16)))
 narrowed S n = Some (int_wrap w16 n)
 narrowed I n = Some n
 narrowed t n = None

@@ -135,7 +135,7 @@ report_line held a b first second text verdicts line p q r l ends =
       partner = equal.0;
       partner_is = equal.1;
       says = found.says ∙ ap (line_of found.method) is;
-      same = same_meaning found.method equal.0 equal.2.0 equal.2.1 equal.2.2;
+      same = same_meaning found.method equal.0 equal.2.0 equal.1.like.desc equal.2.1 equal.2.2;
     }
 
 -- what is said of a file without a reading

@@ -1,8 +1,8 @@
-pub mod Pushed
-pub mod Returned
+pub mod Stacks
 pub mod Builts
 pub mod Runs
-pub mod Roots
+pub mod IntNodes
+pub mod Lays
 pub mod Meanings
 pub mod Partners
 pub mod SameRoots

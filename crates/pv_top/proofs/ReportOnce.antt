@@ -1,42 +1,28 @@
 -- There is one report on two files: one verdict on each method, one text and one status.
-use Rattle.std.proofs.Common.{◌≡◌, ◌⊎◌, ℕ, zero, suc, ◌<◌, ℤ, List, [], ◌∷◌, length, get_or, Option, Some, None, inl, inr, refl, sym, ap, subst, ◌∙◌, arith}
+use Rattle.std.proofs.Common.{◌≡◌, ◌⊎◌, ℕ, zero, suc, ◌<◌, List, [], ◌∷◌, length, get_or, Option, Some, None, inl, inr, refl, sym, ap, subst, ◌∙◌, arith}
 use Rattle.std.specs.Prelude.{slice_get}
 use Rattle.std.specs.List.{AllZip, flat_map}
-use Rattle.std.specs.FinMap.{empty}
-use Rattle.pv_value.specs.declared.number.Num.TheVariants as num
-use Rattle.pv_value.specs.declared.outcome.Input.{Input}
-use Rattle.pv_value.specs.declared.outcome.Outcome.TheVariants.{Returned}
-use Rattle.pv_value.specs.Worlds.{empty_world}
 use Rattle.pv_class.specs.declared.file.Method.{Method}
 use Rattle.pv_class.specs.declared.file.Code.{Code}
 use Rattle.pv_class.specs.declared.file.ClassFile.{ClassFile}
 use Rattle.pv_class.specs.ClassFiles.{AreDistinct}
 use Rattle.pv_class.proofs.ClassLaws.{class_once}
-use Rattle.pv_graph.specs.declared.node.Op.TheVariants.{Int}
 use Rattle.pv_graph.specs.Trees.{Tree}
 use Rattle.pv_top.specs.declared.verdict.Side.TheVariants as side
 use Rattle.pv_top.specs.declared.verdict.Verdict.{Verdict}
 use Rattle.pv_top.specs.declared.verdict.Verdict.TheVariants as verdict
 use Rattle.pv_top.specs.declared.status.Status.{Status}
 use Rattle.pv_top.specs.declared.status.Status.TheVariants as status
-use Rattle.pv_top.specs.Roots.{HasTree, leaf, returning}
+use Rattle.pv_top.specs.Roots.{HasTree, returning}
 use Rattle.pv_top.specs.Verdicts.{HasCode, IsPartner, IsVerdict, IsVerdictOn}
 use Rattle.pv_top.specs.Lines.{line_text}
 use Rattle.pv_top.specs.Report.{IsReport, Judged, AreEquivalent, lines_of}
-use Rattle.pv_top.proofs.Runs.{built_ends, ends_built}
+use Rattle.pv_top.proofs.Builts.{value_once}
 
 -- ---- one tree
 
-abbrev some_input : Input
-some_input = record { this = 1; args = []; heap = empty }
-
-same_int : (a b : ℤ) → Returned (Some (num.Int a)) some_input.heap ≡ Returned (Some (num.Int b)) some_input.heap → a ≡ b
-same_int a b e = cc e
-
 tree_once : (m : Method) (t u : Tree) → HasTree m t → HasTree m u → t ≡ u
-tree_once m t u a b =
-    let one = ends_built m b.n empty_world some_input (Returned (Some (num.Int a.n)) some_input.heap) b.built (built_ends m a.n empty_world some_input a.built) in
-    a.tree ∙ ap (λ (n : ℤ). returning (leaf (Int n))) (same_int a.n b.n one) ∙ sym b.tree
+tree_once m t u a b = a.tree ∙ ap returning (value_once m a.value b.value a.built b.built) ∙ sym b.tree
 
 tree_code : (m : Method) (t : Tree) → HasTree m t → HasCode m
 tree_code m t h = (h.built.code, h.built.has)

@@ -1,78 +1,186 @@
--- A run of a method that returns an int constant.
-use Rattle.std.proofs.Common.{◌≡◌, ℕ, suc, ◌+◌, ℤ, List, [], ◌∷◌, ◌++◌, length, Option, Some, refl, sym, ap, subst, ◌∙◌, arith, append_assoc, length-append}
-use Rattle.std.specs.Prelude.{slice_get}
+-- A run of a method whose straight-line code returns the value of a tree.
+use Rattle.std.proofs.Common.{◌≡◌, ℕ, zero, suc, ◌+◌, ◌-◌, ◌<◌, ℤ, List, [], ◌∷◌, ◌++◌, length, Bool, false, Option, Some, None, refl, sym, ap, subst, ◌∙◌, arith, append_assoc, length-append}
+use Rattle.std.specs.Prelude.{slice_get, replicate}
+use Rattle.std.specs.List.{AllByRecursion, AllZip, flat_map}
 use Rattle.std.proofs.lemmas.List.{append-nil}
 use Rattle.pv_value.specs.declared.number.Num.{Num}
 use Rattle.pv_value.specs.declared.number.Num.TheVariants as num
 use Rattle.pv_value.specs.declared.descriptor.JType.{JType}
+use Rattle.pv_value.specs.declared.descriptor.JType.TheVariants as type
+use Rattle.pv_value.specs.declared.operation.ScalarOp.{ScalarOp}
 use Rattle.pv_value.specs.declared.world.World.{World}
 use Rattle.pv_value.specs.declared.outcome.Input.{Input}
-use Rattle.pv_value.specs.declared.outcome.Outcome.{Outcome}
+use Rattle.pv_value.specs.declared.outcome.Val.TheVariants as val
 use Rattle.pv_value.specs.declared.outcome.Outcome.TheVariants.{Returned}
-use Rattle.pv_class.specs.declared.file.Method.{Method}
+use Rattle.pv_value.specs.Inputs.{IsOfType, Fits}
+use Rattle.pv_value.specs.Scalar.{scalar_of}
 use Rattle.pv_class.specs.declared.instruction.Insn.{Insn}
+use Rattle.pv_class.specs.declared.instruction.Action.{Action}
+use Rattle.pv_class.specs.declared.instruction.Action.TheVariants.{Nop, Push, Load, Scalar, ReturnInt, Unknown}
 use Rattle.pv_class.specs.Actions.{action}
-use Rattle.pv_class.specs.Machine.{Program, State, running, perform, perform_at, go_on, after, start, return_as, Ends}
+use Rattle.pv_class.specs.Machine.{Program, State, running, perform, perform_at, loaded, computed, go_on, after, start, passed, padded, locals_of, return_as, RunEnds}
 use Rattle.pv_class.proofs.Running.{after_none, after_more}
-use Rattle.pv_class.proofs.Programs.{ends_once}
-use Rattle.pv_top.specs.Built.{IsBuilt}
-use Rattle.pv_top.specs.Conversion.{PushAll}
+use Rattle.pv_graph.specs.declared.node.Op.TheVariants as op
+use Rattle.pv_graph.specs.declared.node.OpSort.TheVariants as sort
+use Rattle.pv_graph.specs.Denote.{number_of}
+use Rattle.pv_graph.specs.Trees.{Tree, over, none, first}
+use Rattle.pv_graph.specs.Finite.{tree_value}
+use Rattle.pv_top.specs.Built.{leaf, Lays, LaysAll, ReturnsTree}
+
+-- ---- what the locals hold
+
+-- argument k is an int, and it stands in local k
+pub record HoldsInt (p : Program) (input : Input) (k : ℕ) : Type 0 where
+  pub n : ℤ
+  pub argument : slice_get input.args k ≡ Some (num.Int n)
+  pub local : slice_get (start p input).locals k ≡ Some (Some (num.Int n))
+
+-- the locals of ints are the ints themselves
+int_at : (types : List JType) (args : List Num) (k : ℕ) → AllByRecursion (λ t. t ≡ type.I) types → AllZip IsOfType types args → k < length types
+    → (n : ℤ) × (slice_get args k ≡ Some (num.Int n)) × ((more : List (Option Num)) → slice_get (flat_map locals_of args ++ more) k ≡ Some (Some (num.Int n)))
+int_at [] args k ints fit lt = absurd (omega arith)
+int_at (t ∷ types) [] k ints fit lt = absurd fit
+int_at (t ∷ types) (num.Int n ∷ args) zero ints fit lt = (n, refl, λ more. refl)
+int_at (t ∷ types) (num.Int n ∷ args) (suc k) ints fit lt = int_at types args k ints.1 fit.1 (omega arith)
+int_at (t ∷ types) (num.Long n ∷ args) k ints fit lt = absurd (let is : IsOfType type.I (num.Long n) = subst (λ (s : JType). IsOfType s (num.Long n)) ints.0 fit.0 in is)
+int_at (t ∷ types) (num.Ref n ∷ args) k ints fit lt = absurd (let is : IsOfType type.I (num.Ref n) = subst (λ (s : JType). IsOfType s (num.Ref n)) ints.0 fit.0 in is)
+
+holds_int : (p : Program) (input : Input) (k : ℕ) → p.instance ≡ false → AllByRecursion (λ t. t ≡ type.I) p.desc.params → Fits p.desc input → k < length p.desc.params → HoldsInt p input k
+holds_int p input k static ints fits lt =
+    let one = int_at p.desc.params input.args k ints fits.args lt in
+    let from = λ (b : Bool). padded p.max_locals (flat_map locals_of (passed b input)) in
+    record {
+      n = one.0;
+      argument = one.1;
+      local = ap (λ (b : Bool). slice_get (from b) k) static ∙ one.2 (replicate (p.max_locals - length (flat_map locals_of input.args)) None);
+    }
+
+-- ---- what the operand stack holds
+
+abbrev numbers : List ℤ → List Num
+numbers [] = []
+numbers (n ∷ ns) = num.Int n ∷ numbers ns
+
+-- a tree has this value
+abbrev Gives : World → Input → Tree → ℤ → Type 0
+Gives w x t n = tree_value w x t ≡ Some (val.Num (num.Int n))
+
+abbrev AllGive : World → Input → List Tree → List ℤ → Type 0
+AllGive w x ts ns = AllZip (Gives w x) ts ns
+
+gives_const : (w : World) (x : Input) (n : ℤ) → Gives w x (leaf (op.Int n)) n
+unfolding tree_value
+gives_const w x n = refl
+
+gives_param : (w : World) (x : Input) (k : ℕ) (n : ℤ) → slice_get x.args k ≡ Some (num.Int n) → Gives w x (leaf (op.Param k sort.I)) n
+unfolding tree_value
+gives_param w x k n e = ap (λ (o : Option Num). Some (val.Num (number_of sort.I o))) e
+
+gives_scalar : (w : World) (x : Input) (o : ScalarOp) (a b : Tree) (n m : ℤ) → Gives w x a n → Gives w x b m → Gives w x (over (op.Scalar o) (first a (first b none))) (scalar_of o n m)
+unfolding tree_value
+gives_scalar w x o a b n m p q = rw (p, q) refl
+
+-- ---- steps
 
 -- the state at a place, with this operand stack
-abbrev state : Program → Input → ℕ → List Num → State
-state p input at stack = record { at = at; stack = stack; locals = (start p input).locals; heap = input.heap }
+abbrev state : Program → Input → ℕ → List ℤ → State
+state p input at stack = record { at = at; stack = numbers stack; locals = (start p input).locals; heap = input.heap }
+
+-- what an action makes of the trees, it makes of their values
+record Steps (p : Program) (w : World) (input : Input) (at : ℕ) (act : Action) (ns : List ℤ) (t : List Tree) : Type 0 where
+  ms : List ℤ
+  give : AllGive w input t ms
+  goes : perform p (state p input at ns) act ≡ running (state p input (at + 1) ms)
+
+two_operands : (w : World) (x : Input) (a b : Tree) (rest : List Tree) (ns : List ℤ) → AllGive w x (b ∷ a ∷ rest) ns → (n : ℤ) × (m : ℤ) × (ms : List ℤ) × (ns ≡ m ∷ n ∷ ms) × Gives w x a n × Gives w x b m × AllGive w x rest ms
+two_operands w x a b rest [] h = absurd h
+two_operands w x a b rest (m ∷ []) h = absurd h.1
+two_operands w x a b rest (m ∷ n ∷ ms) h = (n, m, ms, refl, h.1.0, h.0, h.1.1)
+
+steps : (p : Program) (w : World) (input : Input) (at params : ℕ) (act : Action) (s t : List Tree) (ns : List ℤ) → ((k : ℕ) → k < params → HoldsInt p input k) → Lays params act s t → AllGive w input s ns → Steps p w input at act ns t
+steps p w input at params Nop s t ns hold lays give = record { ms = ns; give = subst (λ (l : List Tree). AllGive w input l ns) (sym lays) give; goes = refl }
+steps p w input at params (Push n) s t ns hold lays give =
+    record { ms = n ∷ ns; give = subst (λ (l : List Tree). AllGive w input l (n ∷ ns)) (sym lays) (gives_const w input n, give); goes = refl }
+steps p w input at params (Load k) s t ns hold (lt, is) give =
+    let held = hold k lt in
+    record {
+      ms = held.n ∷ ns;
+      give = subst (λ (l : List Tree). AllGive w input l (held.n ∷ ns)) (sym is) (gives_param w input k held.n held.argument, give);
+      goes = ap (loaded (state p input at ns)) held.local;
+    }
+steps p w input at params (Scalar o) s t ns hold (a, b, rest, e, is) give =
+    let given : AllGive w input (b ∷ a ∷ rest) ns = subst (λ (l : List Tree). AllGive w input l ns) e give in
+    let two = two_operands w input a b rest ns given in
+    let n = two.0 in
+    let m = two.1 in
+    let ms = two.2 in
+    record {
+      ms = scalar_of o n m ∷ ms;
+      give = subst (λ (l : List Tree). AllGive w input l (scalar_of o n m ∷ ms)) (sym is) (gives_scalar w input o a b n m two.4 two.5, two.6);
+      goes = ap (λ (l : List ℤ). computed (state p input at l) o (numbers l)) two.3;
+    }
+steps p w input at params ReturnInt s t ns hold lays give = absurd lays
+steps p w input at params Unknown s t ns hold lays give = absurd lays
+
+-- ---- runs
 
 -- the machine comes to a place with this operand stack
-abbrev Comes : Program → World → Input → ℕ → List Num → Type 0
-Comes p world input at stack = (n : ℕ) × (after p world (start p input) n ≡ running (state p input at stack))
-
--- the stack with these ints on top, the last of them uppermost
-abbrev stacked : List ℤ → List Num → List Num
-stacked [] stack = stack
-stacked (n ∷ ints) stack = stacked ints (num.Int n ∷ stack)
-
-stacked_last : (ints : List ℤ) (n : ℤ) (stack : List Num) → stacked (ints ++ n ∷ []) stack ≡ num.Int n ∷ stacked ints stack
-stacked_last [] n stack = refl
-stacked_last (i ∷ ints) n stack = stacked_last ints n (num.Int i ∷ stack)
+abbrev Comes : Program → World → Input → ℕ → List ℤ → Type 0
+Comes p w input at stack = (n : ℕ) × (after p w (start p input) n ≡ running (state p input at stack))
 
 get_behind : (done : List Insn) (insn : Insn) (rest : List Insn) → slice_get (done ++ insn ∷ rest) (length done) ≡ Some insn
 get_behind [] insn rest = refl
 get_behind (x ∷ done) insn rest = get_behind done insn rest
 
 -- one step, at an instruction that is known
-one_step : (p : Program) (world : World) (input : Input) (done rest : List Insn) (insn : Insn) (stack : List Num) (c : Comes p world input (length done) stack) → p.insns ≡ done ++ insn ∷ rest
-    → after p world (start p input) (suc c.0) ≡ perform p (state p input (length done) stack) (action insn)
-one_step p world input done rest insn stack c e =
+one_step : (p : Program) (w : World) (input : Input) (done rest : List Insn) (insn : Insn) (ns : List ℤ) (c : Comes p w input (length done) ns) → p.insns ≡ done ++ insn ∷ rest
+    → after p w (start p input) (suc c.0) ≡ perform p (state p input (length done) ns) (action insn)
+one_step p w input done rest insn ns c e =
     let found : slice_get p.insns (length done) ≡ Some insn = ap (λ (l : List Insn). slice_get l (length done)) e ∙ get_behind done insn rest in
-    after_more p world (start p input) c.0 ∙ ap (go_on p world) c.1 ∙ ap (perform_at p (state p input (length done) stack)) found
+    after_more p w (start p input) c.0 ∙ ap (go_on p w) c.1 ∙ ap (perform_at p (state p input (length done) ns)) found
 
-walk : (p : Program) (world : World) (input : Input) (done front rest : List Insn) (ints : List ℤ) (stack : List Num) → p.insns ≡ done ++ (front ++ rest) → PushAll front ints → Comes p world input (length done) stack
-    → Comes p world input (length (done ++ front)) (stacked ints stack)
-walk p world input done [] rest [] stack e h c = subst (λ (l : List Insn). Comes p world input (length l) stack) (sym (append-nil done)) c
-walk p world input done [] rest (n ∷ ints) stack e h c = absurd h
-walk p world input done (insn ∷ front) rest [] stack e h c = absurd h
-walk p world input done (insn ∷ front) rest (n ∷ ints) stack e h c =
+-- the machine comes behind these instructions, with the values of the trees
+record ComesBehind (p : Program) (w : World) (input : Input) (done : List Insn) (t : List Tree) : Type 0 where
+  ms : List ℤ
+  give : AllGive w input t ms
+  comes : Comes p w input (length done) ms
+
+walk : (p : Program) (w : World) (input : Input) (params : ℕ) → ((k : ℕ) → k < params → HoldsInt p input k) → (done front rest : List Insn) (s t : List Tree) → p.insns ≡ done ++ (front ++ rest) → LaysAll params front s t → ComesBehind p w input done s
+    → ComesBehind p w input (done ++ front) t
+walk p w input params hold done [] rest s t e laid c =
+    subst (λ (l : List Insn). ComesBehind p w input l t) (sym (append-nil done)) (subst (λ (u : List Tree). ComesBehind p w input done u) (sym laid) c)
+walk p w input params hold done (insn ∷ front) rest s t e (m, lays, laid) c =
     let longer : length (done ++ insn ∷ []) ≡ length done + 1 = omega (arith, length-append done (insn ∷ [])) in
-    let there = one_step p world input done (front ++ rest) insn stack c e ∙ ap (perform p (state p input (length done) stack)) h.0 in
-    let next : Comes p world input (length (done ++ insn ∷ [])) (num.Int n ∷ stack) = (suc c.0, there ∙ ap (λ (k : ℕ). running (state p input k (num.Int n ∷ stack))) (sym longer)) in
+    let next = steps p w input (length done) params (action insn) s m c.ms hold lays c.give in
+    let there = one_step p w input done (front ++ rest) insn c.ms c.comes e ∙ next.goes in
+    let come : ComesBehind p w input (done ++ insn ∷ []) m = record { ms = next.ms; give = next.give; comes = (suc c.comes.0, there ∙ ap (λ (k : ℕ). running (state p input k next.ms)) (sym longer)) } in
     let regrouped = append_assoc done (insn ∷ []) (front ++ rest) in
-    subst (λ (l : List Insn). Comes p world input (length l) (stacked ints (num.Int n ∷ stack))) (append_assoc done (insn ∷ []) front) (walk p world input (done ++ insn ∷ []) front rest ints (num.Int n ∷ stack) (e ∙ sym regrouped) h.1 next)
+    subst (λ (l : List Insn). ComesBehind p w input l t) (append_assoc done (insn ∷ []) front) (walk p w input params hold (done ++ insn ∷ []) front rest m t (e ∙ sym regrouped) laid come)
 
--- a method that is built returns its int, at the heap at its start
-pub built_ends : (m : Method) (n : ℤ) (world : World) (input : Input) → IsBuilt m n → Ends m world input (Returned (Some (num.Int n)) input.heap)
-built_ends m n world input b =
-    let p = b.program in
-    let r = b.returned.run in
-    let c = walk p world input [] r.front (r.last ∷ []) (b.returned.earlier ++ n ∷ []) [] r.spelled r.pushed (0, after_none p world (start p input)) in
-    let c' : Comes p world input (length r.front) (num.Int n ∷ stacked b.returned.earlier []) = subst (λ (s : List Num). Comes p world input (length r.front) s) (stacked_last b.returned.earlier n []) c in
-    let last : after p world (start p input) (suc c'.0) ≡ return_as (state p input (length r.front) (num.Int n ∷ stacked b.returned.earlier [])) p.desc.result (num.Int n ∷ stacked b.returned.earlier []) =
-    one_step p world input r.front [] r.last (num.Int n ∷ stacked b.returned.earlier []) c' r.spelled ∙ ap (perform p (state p input (length r.front) (num.Int n ∷ stacked b.returned.earlier []))) r.returned in
-    record {
-      program = p;
-      is = b.is;
-      run = (suc c'.0, last ∙ ap (λ (t : Option JType). return_as (state p input (length r.front) (num.Int n ∷ stacked b.returned.earlier [])) t (num.Int n ∷ stacked b.returned.earlier [])) b.ints.result_is);
-    }
+-- what instructions that return a tree end with
+pub record EndsWith (p : Program) (w : World) (input : Input) (value : Tree) : Type 0 where
+  pub n : ℤ
+  pub gives : tree_value w input value ≡ Some (val.Num (num.Int n))
+  pub ends : RunEnds p w input (Returned (Some (num.Int n)) input.heap)
 
--- and in no other way
-pub ends_built : (m : Method) (n : ℤ) (world : World) (input : Input) (o : Outcome) → IsBuilt m n → Ends m world input o → o ≡ Returned (Some (num.Int n)) input.heap
-ends_built m n world input o b e = ends_once m world input o (Returned (Some (num.Int n)) input.heap) e (built_ends m n world input b)
+returns_top : (p : Program) (w : World) (input : Input) (front : List Insn) (last : Insn) (value : Tree) (below : List Tree) → p.desc.result ≡ Some type.I → p.insns ≡ front ++ last ∷ [] → action last ≡ ReturnInt → ComesBehind p w input front (value ∷ below) → EndsWith p w input value
+returns_top p w input front last value below result e act c = top c.ms c.give c.comes
+  where
+    top : (ms : List ℤ) → AllGive w input (value ∷ below) ms → Comes p w input (length front) ms → EndsWith p w input value
+    top [] give comes = absurd give
+    top (n ∷ ms) give comes =
+        let at = state p input (length front) (n ∷ ms) in
+        record {
+          n = n;
+          gives = give.0;
+          ends = (suc comes.0, one_step p w input front [] last (n ∷ ms) comes e ∙ ap (perform p at) act ∙ ap (λ (t : Option JType). return_as at t (num.Int n ∷ numbers ms)) result);
+        }
+
+-- a program of ints whose instructions return a tree ends with its value, at the heap at its start
+pub returns_value : (p : Program) (w : World) (input : Input) (value : Tree) → p.instance ≡ false → AllByRecursion (λ t. t ≡ type.I) p.desc.params → p.desc.result ≡ Some type.I → Fits p.desc input → ReturnsTree (length p.desc.params) p.insns value
+    → EndsWith p w input value
+returns_value p w input value static ints result fits r =
+    let hold = λ (k : ℕ) (lt : k < length p.desc.params). holds_int p input k static ints fits lt in
+    let begin : ComesBehind p w input [] [] = record { ms = []; give = tt; comes = (0, after_none p w (start p input)) } in
+    let come = walk p w input (length p.desc.params) hold [] r.front (r.last ∷ []) [] (value ∷ r.below) r.spelled r.laid begin in
+    returns_top p w input r.front r.last value r.below result r.spelled r.returned come

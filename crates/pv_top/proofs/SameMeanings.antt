@@ -1,24 +1,21 @@
--- Methods with one tree have the same meaning.
-use Rattle.std.proofs.Common.{◌≡◌, ℤ, sym, subst, ◌∙◌}
-use Rattle.pv_value.specs.declared.world.World.{World}
-use Rattle.pv_value.specs.declared.outcome.Input.{Input}
-use Rattle.pv_value.specs.declared.outcome.Outcome.{Outcome}
+-- Methods of one descriptor and one tree have the same meaning.
+use Rattle.std.proofs.Common.{◌≡◌, List, ℕ, sym, subst, ◌∙◌}
 use Rattle.pv_class.specs.declared.file.Method.{Method}
-use Rattle.pv_class.specs.Machine.{Ends, SameMeaning}
-use Rattle.pv_graph.specs.declared.node.Op.TheVariants.{Int}
+use Rattle.pv_class.specs.Machine.{SameMeaning}
+use Rattle.pv_value.specs.Descriptors.{IsMethodType}
 use Rattle.pv_graph.specs.Trees.{Tree}
 use Rattle.pv_top.specs.Built.{IsBuilt}
-use Rattle.pv_top.specs.Roots.{HasTree, leaf, returning}
-use Rattle.pv_top.proofs.Runs.{built_ends, ends_built}
+use Rattle.pv_top.specs.Roots.{HasTree, returning}
+use Rattle.pv_top.proofs.Meanings.{built_ends}
 
-one_int : (a b : ℤ) → returning (leaf (Int a)) ≡ returning (leaf (Int b)) → a ≡ b
-one_int a b e = cc e
+pub one_value : (a b : Tree) → returning a ≡ returning b → a ≡ b
+one_value a b e = cc e
 
-follows : (m p : Method) (n : ℤ) (world : World) (input : Input) (o : Outcome) → IsBuilt m n → IsBuilt p n → Ends m world input o → Ends p world input o
-follows m p n world input o a b ends = subst (λ (q : Outcome). Ends p world input q) (sym (ends_built m n world input o a ends)) (built_ends p n world input b)
-
-pub same_meaning : (m p : Method) (t : Tree) → HasTree m t → HasTree p t → SameMeaning m p
-same_meaning m p t a b d is world fine input fits o =
-    let one : a.n ≡ b.n = one_int a.n b.n (sym a.tree ∙ b.tree) in
-    let other : IsBuilt p a.n = subst (λ (n : ℤ). IsBuilt p n) (sym one) b.built in
-    (follows m p a.n world input o a.built other, follows p m a.n world input o other a.built)
+pub same_meaning : (m p : Method) (t : Tree) → p.desc ≡ m.desc → HasTree m t → HasTree p t → SameMeaning m p
+same_meaning m p t alike a b d is world fine input fits o =
+    let one : b.value ≡ a.value = one_value b.value a.value (sym b.tree ∙ a.tree) in
+    let other : IsBuilt p a.value = subst (λ (v : Tree). IsBuilt p v) one b.built in
+    let is' : IsMethodType p.desc d = subst (λ (text : List ℕ). IsMethodType text d) (sym alike) is in
+    let first = built_ends m a.value d world input o a.built is fits in
+    let second = built_ends p a.value d world input o other is' fits in
+    (λ e. second.1 (first.0 e), λ e. first.1 (second.0 e))

@@ -1,28 +1,28 @@
--- Two roots in one graph are one node exactly where their trees are equal.
-use Rattle.std.proofs.Common.{◌≡◌, ℕ, List, sym, ap, subst, refl, ◌∙◌, arith}
+-- Two roots in one graph unfold equally exactly where their trees are equal.
+use Rattle.std.proofs.Common.{◌≡◌, ℕ, ◌<◌, List, length, sym, ap, subst, ◌∙◌, arith}
 use Rattle.pv_class.specs.declared.file.Method.{Method}
 use Rattle.pv_graph.specs.declared.node.Node.{Node}
-use Rattle.pv_graph.specs.Trees.{Tree, unfold_at}
-use Rattle.pv_graph.specs.TreeLaws.{one_tree}
-use Rattle.pv_top.specs.Roots.{HasTree, IsRootOf, cut_at}
+use Rattle.pv_graph.specs.Trees.{Tree, UnfoldEqually}
+use Rattle.pv_graph.specs.Finite.{cut_at}
+use Rattle.pv_graph.specs.FiniteLaws.{is_tree_in_range, is_tree_kept, is_tree_unfolds, one_tree_of_both}
+use Rattle.pv_top.specs.Roots.{HasTree, IsRootOf}
 use Rattle.pv_top.specs.Conversion.{Grows}
 
--- a tree of a method goes no deeper than two operations
-whole_at : (m : Method) (t : Tree) → HasTree m t → cut_at 2 t ≡ t
-unfolding cut_at
-whole_at m t has = subst (λ (x : Tree). cut_at 2 x ≡ x) (sym has.tree) refl
+pub root_within : (g : List Node) (r : ℕ) (m : Method) → IsRootOf g r m → r < length g
+root_within g r m one = is_tree_in_range g r one.tree one.is
 
-unfolds_later : (g h : List Node) (r : ℕ) (m : Method) → Grows g h → (root : IsRootOf g r m) → (depth : ℕ) → unfold_at h depth r ≡ cut_at depth root.tree
-unfolds_later g h r m grows root depth = grows.extends.trees depth r root.in_range ∙ root.unfolds depth
+-- a root is there in a graph that has grown
+pub root_kept : (g h : List Node) (r : ℕ) (m : Method) → IsRootOf g r m → Grows g h → r < length h
+root_kept g h r m one grows = let within = root_within g r m one in let longer = grows.extends.longer in omega arith
 
-pub same_root : (g h : List Node) (r s : ℕ) (m p : Method) → IsRootOf g r m → Grows g h → IsRootOf h s p → r ≡ s → (t : Tree) × HasTree m t × HasTree p t
-same_root g h r s m p one grows two e =
-    let cuts : cut_at 2 one.tree ≡ cut_at 2 two.tree = sym (unfolds_later g h r m grows one 2) ∙ ap (unfold_at h 2) e ∙ two.unfolds 2 in
-    let trees : one.tree ≡ two.tree = sym (whole_at m one.tree one.has) ∙ cuts ∙ whole_at p two.tree two.has in
+pub same_root : (g h : List Node) (r s : ℕ) (m p : Method) → IsRootOf g r m → Grows g h → IsRootOf h s p → UnfoldEqually h r s → (t : Tree) × HasTree m t × HasTree p t
+same_root g h r s m p one grows two equal =
+    let is = is_tree_kept g h r one.tree grows.extends one.is in
+    let trees : one.tree ≡ two.tree = one_tree_of_both h h r s one.tree two.tree equal is two.is in
     (one.tree, one.has, subst (λ (t : Tree). HasTree p t) (sym trees) two.has)
 
-pub apart_roots : (g h : List Node) (r s : ℕ) (m p : Method) → IsRootOf g r m → Grows g h → IsRootOf h s p → (r ≡ s → ⊥) → (t u : Tree) × HasTree m t × HasTree p u × (t ≡ u → ⊥)
+pub apart_roots : (g h : List Node) (r s : ℕ) (m p : Method) → IsRootOf g r m → Grows g h → IsRootOf h s p → (UnfoldEqually h r s → ⊥) → (t : Tree) × (u : Tree) × HasTree m t × HasTree p u × (t ≡ u → ⊥)
 apart_roots g h r s m p one grows two apart =
-    let longer = grows.extends.longer in
-    let same = λ (e : one.tree ≡ two.tree). apart (one_tree h grows.graph r s (omega (arith, one.in_range)) two.in_range (λ depth. unfolds_later g h r m grows one depth ∙ ap (cut_at depth) e ∙ sym (two.unfolds depth))) in
+    let is = is_tree_kept g h r one.tree grows.extends one.is in
+    let same = λ (e : one.tree ≡ two.tree). apart (λ depth. is_tree_unfolds h r one.tree is depth ∙ ap (cut_at depth) e ∙ sym (is_tree_unfolds h s two.tree two.is depth)) in
     (one.tree, two.tree, one.has, two.has, same)

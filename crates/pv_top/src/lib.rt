@@ -9,7 +9,10 @@
 mod built;
 mod cause;
 mod conversion;
+mod laying;
 mod line;
+mod nodes;
+mod operands;
 mod report;
 mod status;
 mod top;

@@ -8,16 +8,16 @@ use std::thread::Threads;
 
 // A class of first form with one method.
 #[derive(Clone, Copy)]
-struct Sample {
+struct Sample<'a> {
     flags: u8,
     name: &'static [u8],
     desc: &'static [u8],
     max_stack: u8,
     max_locals: u8,
-    code: &'static [u8],
+    code: &'a [u8],
 }
 
-fn int_method(name: &'static [u8], desc: &'static [u8], code: &'static [u8]) -> Sample {
+fn int_method<'a>(name: &'static [u8], desc: &'static [u8], code: &'a [u8]) -> Sample<'a> {
     Sample {
         flags: 0x09,
         name,
@@ -40,7 +40,7 @@ fn push_u32(out: &mut Vec<u8>, number: usize) -> Result<(), AllocError> {
 }
 
 // The bytes of the class, in the order of JVMS 4.1.
-fn class(alloc: Global, m: &Sample) -> Result<Vec<u8>, AllocError> {
+fn class(alloc: Global, m: &Sample<'_>) -> Result<Vec<u8>, AllocError> {
     let mut out = Vec::new(alloc);
     out.extend_from_slice(&[0xCA, 0xFE, 0xBA, 0xBE, 0, 0, 0, 52, 0, 8])?;
     push_text(&mut out, b"A")?;
@@ -85,8 +85,8 @@ fn expect_run<R: AllocGlobal + Threads + Sync + Abort>(
 
 fn expect_line<R: AllocGlobal + Threads + Sync + Abort>(
     rt: &R,
-    first: &Sample,
-    second: &Sample,
+    first: &Sample<'_>,
+    second: &Sample<'_>,
     said: &[u8],
     status: Status,
 ) -> Result<(), Fail> {
@@ -108,7 +108,7 @@ fn says_what_two_methods_mean(rt: HostRuntime) -> Result<(), Fail> {
     let instance = Sample { flags: 0x01, ..f };
     let odd_name = int_method(b"\xc3\xa9%", b"()I", b"\x04\xac");
     let unread = int_method(b"f", b"(I)I", b"\x04\xac");
-    let rows: [(Sample, Sample, &[u8], Status); 8] = [
+    let rows: [(Sample<'_>, Sample<'_>, &[u8], Status); 8] = [
         (f, f, b"f ()I equivalent\n", Status::AllEquivalent),
         (f, two, b"f ()I unknown apart\n", Status::Others),
         (
@@ -144,8 +144,138 @@ fn says_what_two_methods_mean(rt: HostRuntime) -> Result<(), Fail> {
     Ok(())
 }
 
-fn constant() -> Sample {
+fn constant() -> Sample<'static> {
     int_method(b"f", b"()I", b"\x04\xac")
+}
+
+// A method with room for its operands and its parameters.
+fn roomy_method<'a>(name: &'static [u8], desc: &'static [u8], code: &'a [u8]) -> Sample<'a> {
+    Sample {
+        max_stack: 3,
+        max_locals: 3,
+        ..int_method(name, desc, code)
+    }
+}
+
+// The lines of pairs of methods with parameters and operations.
+#[test]
+fn says_what_two_operations_mean(rt: HostRuntime) -> Result<(), Fail> {
+    let sum = roomy_method(b"g", b"(II)I", b"\x1a\x1b\x60\xac");
+    let late_sum = roomy_method(b"g", b"(II)I", b"\x00\x1a\x1b\x60\xac");
+    let sum_back = roomy_method(b"g", b"(II)I", b"\x1b\x1a\x60\xac");
+    let product = roomy_method(b"h", b"(III)I", b"\x1a\x1b\x64\x1c\x68\xac");
+    let late_product = roomy_method(
+        b"h",
+        b"(III)I",
+        b"\x1a\x00\x1b\x00\x64\x00\x1c\x00\x68\x00\xac",
+    );
+    let difference = roomy_method(b"h", b"(III)I", b"\x1a\x1b\x1c\x68\x64\xac");
+    let no_local = roomy_method(b"k", b"(I)I", b"\x15\x03\xac");
+    let ints_below = roomy_method(b"l", b"(I)I", b"\x04\x05\x1a\xac");
+    let ints_wide = roomy_method(b"l", b"(I)I", b"\x04\x05\x15\x00\xac");
+    let no_operand = roomy_method(b"m", b"(I)I", b"\x1a\x60\xac");
+    let one_local = int_method(b"n", b"(I)I", b"\x1a\xac");
+    let slots_64 = Sample {
+        max_stack: 1,
+        max_locals: 63,
+        ..one_local
+    };
+    let slots_65 = Sample {
+        max_stack: 1,
+        max_locals: 64,
+        ..one_local
+    };
+    let rows: [(Sample<'_>, Sample<'_>, &[u8], Status); 10] = [
+        (
+            sum,
+            late_sum,
+            b"g (II)I equivalent\n",
+            Status::AllEquivalent,
+        ),
+        (sum, sum_back, b"g (II)I unknown apart\n", Status::Others),
+        (
+            product,
+            late_product,
+            b"h (III)I equivalent\n",
+            Status::AllEquivalent,
+        ),
+        (
+            product,
+            difference,
+            b"h (III)I unknown apart\n",
+            Status::Others,
+        ),
+        (
+            no_local,
+            no_local,
+            b"k (I)I refused first not-built at 0\n",
+            Status::Others,
+        ),
+        (
+            ints_below,
+            ints_wide,
+            b"l (I)I equivalent\n",
+            Status::AllEquivalent,
+        ),
+        (
+            no_operand,
+            no_operand,
+            b"m (I)I refused first not-built at 0\n",
+            Status::Others,
+        ),
+        (
+            slots_64,
+            slots_64,
+            b"n (I)I equivalent\n",
+            Status::AllEquivalent,
+        ),
+        (
+            slots_65,
+            slots_64,
+            b"n (I)I refused first not-built at 0\n",
+            Status::Others,
+        ),
+        (
+            slots_64,
+            slots_65,
+            b"n (I)I refused second not-built at 0\n",
+            Status::Others,
+        ),
+    ];
+    for (first, second, said, status) in &rows {
+        expect_line(&rt, first, second, said, *status)?;
+    }
+    Ok(())
+}
+
+// So much code: nothing, then a constant that is returned.
+fn long_code(alloc: Global, length: usize) -> Result<Vec<u8>, AllocError> {
+    let mut code = vec![in alloc; 0; length.saturating_sub(2)]?;
+    code.extend_from_slice(b"\x04\xac")?;
+    Ok(code)
+}
+
+// The longest code that is converted, and a longer one.
+#[test]
+fn decides_long_code(rt: HostRuntime) -> Result<(), Fail> {
+    let longest = long_code(rt.alloc(), 8192)?;
+    let longer = long_code(rt.alloc(), 8193)?;
+    let longest = int_method(b"f", b"()I", &longest);
+    let longer = int_method(b"f", b"()I", &longer);
+    expect_line(
+        &rt,
+        &longest,
+        &constant(),
+        b"f ()I equivalent\n",
+        Status::AllEquivalent,
+    )?;
+    expect_line(
+        &rt,
+        &longer,
+        &longest,
+        b"f ()I refused first not-built at 0\n",
+        Status::Others,
+    )
 }
 
 // Words that are no command: nothing is fetched.

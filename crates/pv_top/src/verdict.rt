@@ -6,6 +6,7 @@ ghost use Rattle.pv_top.specs.Verdicts.{IsPartner, IsLike, IsVerdict, IsVerdictO
 
 use crate::cause::{Cause, Refused};
 use crate::conversion::convert;
+use pv_alike::least;
 use pv_class::Method;
 use pv_graph::Graph;
 use pv_value::Memory;
@@ -86,7 +87,8 @@ fn verdict_with(alloc: Global, first: &Method, second: &Method) -> Result<Verdic
         Err(Refused::Cause(cause)) => return Ok(Verdict::Refused(Side::Second, cause)),
         Err(Refused::Memory) => return Err(Memory),
     };
-    if one == two {
+    let roots = least(alloc, &g, one, two)?;
+    if roots.first() == roots.second() {
         Ok(Verdict::Equivalent)
     } else {
         Ok(Verdict::Apart)

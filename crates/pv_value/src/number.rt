@@ -37,3 +37,12 @@ impl From<Vec<Num>> for Nums {
         Nums { items }
     }
 }
+
+impl Nums {
+    /// The numbers in order. It takes no memory.
+    pub fn as_slice(&self) -> &[Num]
+        ensures { result.now ≡ self.now }
+    {
+        &self.items
+    }
+}

@@ -76,6 +76,13 @@ fn names(rt: HostRuntime) -> Result<(), Fail> {
 }
 
 #[test]
+fn numbers(rt: HostRuntime) -> Result<(), Fail> {
+    let nums = Nums::from(vec![in rt.alloc(); Num::Long(7), Num::Ref(0)]?);
+    assert_eq!(rt; nums.as_slice(), [Num::Long(7), Num::Ref(0)].as_slice());
+    Ok(())
+}
+
+#[test]
 fn heaps(rt: HostRuntime) -> Result<(), Fail> {
     let mut heap = Heap::new(rt.alloc());
     let table = [(7, 0), (7, -9), (8, i64::MAX), (7, 0)];

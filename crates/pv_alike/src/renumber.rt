@@ -1,0 +1,48 @@
+//! Nodes under new numbers.
+
+ghost use Rattle.std.specs.Prelude.{◌≡◌, ◌<◌, ◌^◌, length, IfOk};
+ghost use Rattle.std.specs.List.{All, Contains};
+ghost use Rattle.pv_alike.specs.Renumbered.{ArePlaces, IsClosed, IsCopy, IsRenumbered};
+
+use crate::order::Order;
+use pv_graph::{Graph, Kids, Node, NodeId};
+use pv_value::Memory;
+use std::alloc::Global;
+
+// The places of nodes.
+fn places(alloc: Global, order: &Order, nodes: &[NodeId]) -> Result<Kids, Memory>
+    requires there { All (Contains order.now) nodes.now }
+    requires small { length order.now < 2 ^ 32 }
+    ensures { IfOk result (λ kids. ArePlaces order.now kids nodes.now) }
+{
+    let mut places = Vec::new(alloc);
+    for n in nodes {
+        places.push(order.place(*n))?;
+    }
+    Kids::new(alloc, &places)
+}
+
+// A copy of a node over the places of its kids.
+fn copy(alloc: Global, order: &Order, node: &Node) -> Result<Node, Memory>
+    requires there { All (Contains order.now) node.now.kids }
+    requires small { length order.now < 2 ^ 32 }
+    ensures { IfOk result (λ copy. IsCopy order.now node.now copy) }
+{
+    Ok(Node {
+        op: node.op,
+        kids: places(alloc, order, node.kids.as_slice())?,
+    })
+}
+
+/// The nodes of an order, over the places of their kids.
+pub fn renumbered(alloc: Global, g: &Graph, order: &Order) -> Result<Vec<Node>, Memory>
+    requires closed { IsClosed g.now order.now }
+    requires small { length order.now < 2 ^ 32 }
+    ensures { IfOk result (λ copies. IsRenumbered g.now order.now copies.items) }
+{
+    let mut copies = Vec::new(alloc);
+    for n in order.as_slice() {
+        copies.push(copy(alloc, order, g.node(*n))?)?;
+    }
+    Ok(copies)
+}

@@ -1,0 +1,4 @@
+pub mod Stacks
+pub mod States
+pub mod Nows
+pub mod Runs

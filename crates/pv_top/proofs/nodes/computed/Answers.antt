@@ -1,0 +1,11 @@
+use Rattle.std.proofs.Common.{◌∷◌, [], ap, ◌∙◌, Err}
+use Rattle.pv_graph.specs.declared.node.Op.TheVariants.{Scalar}
+use Rattle.pv_graph.specs.Nodes.{node_of}
+use Rattle.pv_top.proofs.IntNodes.{grows_interned, computed_fits}
+use Rattle.pv_top.proofs.nodes.computed.Goals as goal
+
+pub unreachable-requires : goal.unreachable-requires
+unreachable-requires c = c.add.ensures.sort (c.in-Err-Sort.is ∙ ap Err c.in-Err-Sort.field-0-is) (computed_fits c.args.g.now c.args.op c.args.first c.args.second c.requires.graph c.requires.first c.requires.second)
+
+pub returns-in-Ok-clause-grows : goal.returns-in-Ok-clause-grows
+returns-in-Ok-clause-grows c = grows_interned c.args.g.now c.add.new.self (node_of (Scalar c.args.op) (c.args.first ∷ c.args.second ∷ [])) c.in-Ok.n c.requires.graph c.in-Ok.ensures.ok

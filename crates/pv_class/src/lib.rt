@@ -25,6 +25,7 @@ mod seen;
 mod signature;
 mod table;
 
+pub use class::read_class;
 pub use fault::{Bad, ClassCause, ClassFault};
 pub use file::{ClassFile, Code, Method, Methods};
 pub use frames::{Sort, has_frames};

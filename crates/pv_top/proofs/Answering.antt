@@ -1,6 +1,6 @@
 -- What the top call answers, from what was fetched and said.
 use Rattle.std.proofs.Common.{◌≡◌, ◌⊎◌, ℕ, zero, suc, ◌<◌, List, [], ◌∷◌, ◌++◌, length, take, drop, Option, Some, None, inl, inr, refl, sym, ap, subst, ◌∙◌, arith, Err, Result}
-use Rattle.std.specs.Prelude.{codes}
+use Rattle.std.specs.Prelude.{codes, decimal}
 use Rattle.std.specs.Global.{Vec}
 use Rattle.std.proofs.lemmas.List.{append_cancel_left, append-nil, take-append-drop}
 use Rattle.pv_base.specs.Stored.{Stored}
@@ -17,14 +17,18 @@ use Rattle.pv_top.specs.declared.verdict.Side.TheVariants as side
 use Rattle.pv_top.specs.declared.verdict.Verdict.{Verdict}
 use Rattle.pv_top.specs.declared.verdict.Verdict.TheVariants.{Equivalent}
 use Rattle.pv_top.specs.Verdicts.{IsVerdict}
-use Rattle.pv_top.specs.Lines.{bad_class, line_of, line_text, side_word}
+use Rattle.pv_class.specs.declared.fault.Bad.{Bad}
+use Rattle.pv_class.specs.declared.fault.ClassCause.{ClassCause}
+use Rattle.pv_class.specs.declared.fault.ClassCause.TheVariants as fault
+use Rattle.pv_top.specs.Lines.{bad_class, fault_word, line_of, line_text, side_word}
 use Rattle.pv_top.specs.Report.{IsReport, Judged}
 use Rattle.pv_top.specs.Judging.{JudgesFetched}
 use Rattle.pv_top.specs.Run.{Holds, Puts, Says, SaidOf, Answered, AskedFor, IsLineOf, EndsWith, HaveOneMeaning, EachEquivalent}
 use Rattle.pv_top.specs.Fetching.{HoldsFetched}
 use Rattle.pv_top.proofs.SameMeanings.{same_meaning}
 use Rattle.pv_top.proofs.WholeLines.{IsWhole, no_line_of_nothing, line_of_front, first_or_later}
-use Rattle.pv_top.proofs.SaidLines.{tested, differ, last_two, line_of_method, only_equivalent}
+use Rattle.pv_top.proofs.Decimals.{whole_decimal}
+use Rattle.pv_top.proofs.SaidLines.{tested, whole_append, whole_side, digit_last, line_of_method, only_equivalent}
 
 -- ---- what was fetched
 
@@ -139,22 +143,36 @@ report_line held a b first second text verdicts line p q r l ends =
     }
 
 -- what is said of a file without a reading
-abbrev bad_class_words : Side → List ℕ
-bad_class_words s = (codes "bad class " ++ side_word s) ++ codes " not-built at 0"
+abbrev bad_class_front : Side → Bad → List ℕ
+bad_class_front s b = codes "bad class " ++ side_word s ++ codes " " ++ fault_word b.cause ++ codes " at "
 
-bad_class_text : (s : Side) → bad_class s ≡ line_text (bad_class_words s)
-bad_class_text side.First = refl
-bad_class_text side.Second = refl
+whole_fault : (c : ClassCause) → IsWhole (fault_word c)
+whole_fault fault.Truncated = tested (codes "truncated") refl
+whole_fault fault.Magic = tested (codes "magic") refl
+whole_fault fault.Version = tested (codes "version") refl
+whole_fault fault.PoolTag = tested (codes "pool-tag") refl
+whole_fault fault.PoolUtf8 = tested (codes "pool-utf8") refl
+whole_fault fault.PoolReference = tested (codes "pool-reference") refl
+whole_fault fault.Descriptor = tested (codes "descriptor") refl
+whole_fault fault.Code = tested (codes "code") refl
+whole_fault fault.Duplicate = tested (codes "duplicate") refl
+whole_fault fault.Trailing = tested (codes "trailing") refl
+whole_fault fault.TooLong = tested (codes "too-long") refl
 
-whole_bad_class : (s : Side) → IsWhole (bad_class_words s)
-whole_bad_class side.First = tested (bad_class_words side.First) refl
-whole_bad_class side.Second = tested (bad_class_words side.Second) refl
+whole_bad_class : (s : Side) (b : Bad) → IsWhole (bad_class_front s b ++ decimal b.at)
+whole_bad_class s b =
+    let said = whole_append (codes "bad class ") (side_word s) (tested (codes "bad class ") refl) (whole_side s) in
+    let blank = whole_append (codes "bad class " ++ side_word s) (codes " ") said (tested (codes " ") refl) in
+    let word = whole_append (codes "bad class " ++ side_word s ++ codes " ") (fault_word b.cause) blank (whole_fault b.cause) in
+    let at = whole_append (codes "bad class " ++ side_word s ++ codes " " ++ fault_word b.cause) (codes " at ") word (tested (codes " at ") refl) in
+    whole_append (bad_class_front s b) (decimal b.at) at (whole_decimal b.at)
 
-bad_class_line : (s : Side) (text line : List ℕ) → text ≡ bad_class s → IsLineOf text line → EndsWith line (codes " equivalent") → ⊥
-bad_class_line s text line e l ends =
-    let parts : IsLineOf (line_text (bad_class_words s) ++ []) line = subst (λ (t : List ℕ). IsLineOf t line) (e ∙ bad_class_text s ∙ sym (append-nil (line_text (bad_class_words s)))) l in
-    elim (first_or_later (bad_class_words s) [] line (whole_bad_class s) parts) [
-      | inl is ↦ differ 48 116 refl (last_two line ends.0 (codes "bad class " ++ side_word s) (codes " not-built at") 32 48 is ends.1).1
+bad_class_line : (s : Side) (b : Bad) (text line : List ℕ) → text ≡ bad_class s b → IsLineOf text line → EndsWith line (codes " equivalent") → ⊥
+bad_class_line s b text line e l ends =
+    let words = bad_class_front s b ++ decimal b.at in
+    let parts : IsLineOf (line_text words ++ []) line = subst (λ (t : List ℕ). IsLineOf t line) (e ∙ sym (append-nil (line_text words))) l in
+    elim (first_or_later words [] line (whole_bad_class s b) parts) [
+      | inl is ↦ digit_last line ends.0 (bad_class_front s b) b.at is ends.1
       | inr rest ↦ no_line_of_nothing line rest
     ]
 
@@ -163,8 +181,8 @@ judged_line held a b first second text status.AllEquivalent line p q h l ends = 
 judged_line held a b first second text status.Others line p q h l ends = report_line held a b first second text h.0 line p q h.1 l ends
 judged_line held a b first second text status.BadClass line p q h l ends =
     elim h [
-      | inl x ↦ absurd (bad_class_line side.First text line x.1 l ends)
-      | inr x ↦ absurd (bad_class_line side.Second text line x.2 l ends)
+      | inl x ↦ absurd (bad_class_line side.First x.0 text line x.2 l ends)
+      | inr x ↦ absurd (bad_class_line side.Second x.1.0 text line x.1.2 l ends)
     ]
 judged_line held a b first second text status.BadCert line p q h l ends = absurd h
 judged_line held a b first second text status.BadWords line p q h l ends = absurd h

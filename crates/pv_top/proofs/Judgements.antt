@@ -1,5 +1,5 @@
 -- What is said of two files that both have a reading.
-use Rattle.std.proofs.Common.{ℕ, List, Result, Ok, Err, Some}
+use Rattle.std.proofs.Common.{ℕ, List, Result, Ok, Err}
 use Rattle.std.specs.Prelude.{IfOk}
 use Rattle.std.specs.Global.{Vec}
 use Rattle.pv_value.specs.declared.memory.Memory.{Memory}
@@ -25,7 +25,7 @@ judged_of a b one two text status.ReadFault p q h = absurd h
 judged_of a b one two text status.WriteFault p q h = absurd h
 judged_of a b one two text status.Memory p q h = absurd h
 
-pub judges : (first second : Fetched) (one two : ClassFile) (r : Result (Vec ℕ × Status) Memory) → ReadsFetched first (Some one) → ReadsFetched second (Some two) → IfOk r (λ said. Compares one.methods two.methods said.0.items said.1)
+pub judges : (first second : Fetched) (one two : ClassFile) (r : Result (Vec ℕ × Status) Memory) → ReadsFetched first (Ok one) → ReadsFetched second (Ok two) → IfOk r (λ said. Compares one.methods two.methods said.0.items said.1)
     → IfOk r (λ said. JudgesFetched first second said.0.items said.1)
 judges first second one two (Ok said) p q h = λ a b f s. judged_of a b one two said.0.items said.1 (p a f) (q b s) h
 judges first second one two (Err e) p q h = tt

@@ -1,3 +1,4 @@
+pub mod Decimals
 pub mod Stacks
 pub mod Builts
 pub mod Runs

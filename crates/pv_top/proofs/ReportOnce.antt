@@ -1,13 +1,18 @@
 -- There is one report on two files: one verdict on each method, one text and one status.
-use Rattle.std.proofs.Common.{◌≡◌, ◌⊎◌, ℕ, zero, suc, ◌<◌, List, [], ◌∷◌, length, get_or, Option, Some, None, inl, inr, refl, sym, ap, subst, ◌∙◌, arith}
+use Rattle.std.proofs.Common.{◌≡◌, ◌⊎◌, ℕ, zero, suc, ◌<◌, List, [], ◌∷◌, length, get_or, Option, Some, None, Result, Ok, Err, inl, inr, refl, sym, ap, subst, ◌∙◌, arith}
 use Rattle.std.specs.Prelude.{slice_get}
 use Rattle.std.specs.List.{AllZip, flat_map}
 use Rattle.pv_class.specs.declared.file.Method.{Method}
 use Rattle.pv_class.specs.declared.file.Code.{Code}
 use Rattle.pv_class.specs.declared.file.ClassFile.{ClassFile}
 use Rattle.pv_class.specs.ClassFiles.{AreDistinct}
-use Rattle.pv_class.proofs.ClassLaws.{class_once}
+use Rattle.pv_pool.proofs.Formats.{IsBytes}
+use Rattle.pv_class.specs.declared.fault.Bad.{Bad}
+use Rattle.pv_class.specs.ClassFiles.{IsClass}
+use Rattle.pv_class.specs.ClassFaults.{IsBad}
+use Rattle.pv_class.proofs.Outcomes.{is_comes, comes_once}
 use Rattle.pv_graph.specs.Trees.{Tree}
+use Rattle.pv_top.specs.declared.verdict.Side.{Side}
 use Rattle.pv_top.specs.declared.verdict.Side.TheVariants as side
 use Rattle.pv_top.specs.declared.verdict.Verdict.{Verdict}
 use Rattle.pv_top.specs.declared.verdict.Verdict.TheVariants as verdict
@@ -15,8 +20,8 @@ use Rattle.pv_top.specs.declared.status.Status.{Status}
 use Rattle.pv_top.specs.declared.status.Status.TheVariants as status
 use Rattle.pv_top.specs.Roots.{HasTree, returning}
 use Rattle.pv_top.specs.Verdicts.{HasCode, IsPartner, IsVerdict, IsVerdictOn}
-use Rattle.pv_top.specs.Lines.{line_text}
-use Rattle.pv_top.specs.Report.{IsReport, Judged, AreEquivalent, lines_of}
+use Rattle.pv_top.specs.Lines.{line_text, bad_class}
+use Rattle.pv_top.specs.Report.{IsReport, IsBadText, Judged, AreEquivalent, lines_of}
 use Rattle.pv_top.proofs.Builts.{value_once}
 
 -- ---- one tree
@@ -126,6 +131,23 @@ line_once m others v w distinct h k =
           ]
     ]
 
+-- ---- one reading of a file
+
+file_once : (bytes : List ℕ) (f g : ClassFile) → IsBytes bytes → IsClass bytes f → IsClass bytes g → f ≡ g
+file_once bytes f g fits p q =
+    let same : ◌≡◌ {A = Result ClassFile Bad} (Ok f) (Ok g) = comes_once bytes (Ok f) (Ok g) fits (is_comes bytes (Ok f) p) (is_comes bytes (Ok g) q) in
+    cc same
+
+bad_once : (bytes : List ℕ) (b c : Bad) → IsBytes bytes → IsBad bytes b → IsBad bytes c → b ≡ c
+bad_once bytes b c fits p q =
+    let same : ◌≡◌ {A = Result ClassFile Bad} (Err b) (Err c) = comes_once bytes (Err b) (Err c) fits (is_comes bytes (Err b) p) (is_comes bytes (Err c) q) in
+    cc same
+
+not_both : (bytes : List ℕ) (f : ClassFile) (b : Bad) → IsBytes bytes → IsClass bytes f → IsBad bytes b → ⊥
+not_both bytes f b fits p q =
+    let same : ◌≡◌ {A = Result ClassFile Bad} (Ok f) (Err b) = comes_once bytes (Ok f) (Err b) fits (is_comes bytes (Ok f) p) (is_comes bytes (Err b) q) in
+    absurd (cc same)
+
 -- ---- one report
 
 verdicts_once : (methods others : List Method) (vs ws : List Verdict) → AreDistinct others → AllZip (λ m v. IsVerdict m others v) methods vs → AllZip (λ m v. IsVerdict m others v) methods ws → vs ≡ ws
@@ -139,10 +161,10 @@ verdicts_once (m ∷ methods) others (v ∷ vs) (w ∷ ws) distinct h k =
     let rest = verdicts_once methods others vs ws distinct h.1 k.1 in
     cc (one, rest)
 
-report_once : (a b t u : List ℕ) (vs ws : List Verdict) → IsReport a b vs t → IsReport a b ws u → (vs ≡ ws) × (t ≡ u)
-report_once a b t u vs ws r s =
-    let first : s.first ≡ r.first = class_once a s.first r.first s.first_is r.first_is in
-    let second : s.second ≡ r.second = class_once b s.second r.second s.second_is r.second_is in
+report_once : (a b t u : List ℕ) (vs ws : List Verdict) → IsBytes a → IsBytes b → IsReport a b vs t → IsReport a b ws u → (vs ≡ ws) × (t ≡ u)
+report_once a b t u vs ws m n r s =
+    let first : s.first ≡ r.first = file_once a s.first r.first m s.first_is r.first_is in
+    let second : s.second ≡ r.second = file_once b s.second r.second n s.second_is r.second_is in
     let methods : s.first.methods ≡ r.first.methods = ap (λ (f : ClassFile). f.methods) first in
     let others : s.second.methods ≡ r.second.methods = ap (λ (f : ClassFile). f.methods) second in
     let each = subst (λ (os : List Method). AllZip (λ m v. IsVerdict m os v) r.first.methods ws) others (subst (λ (ms : List Method). AllZip (λ m v. IsVerdict m s.second.methods v) ms ws) methods s.each) in
@@ -165,29 +187,32 @@ reading_of a b t status.ReadFault h = absurd h
 reading_of a b t status.WriteFault h = absurd h
 reading_of a b t status.Memory h = absurd h
 
-bad_twice : (a b t u : List ℕ) → Judged a b t status.BadClass → Judged a b u status.BadClass → t ≡ u
-bad_twice a b t u (inl h) (inl k) = h.1 ∙ sym k.1
-bad_twice a b t u (inl h) (inr k) = absurd (h.0 k.0.0 k.0.1)
-bad_twice a b t u (inr h) (inl k) = absurd (k.0 h.0.0 h.0.1)
-bad_twice a b t u (inr h) (inr k) = h.2 ∙ sym k.2
+one_bad : (s : Side) (bytes t u : List ℕ) → IsBytes bytes → IsBadText s bytes t → IsBadText s bytes u → t ≡ u
+one_bad s bytes t u fits h k = h.2 ∙ ap (bad_class s) (bad_once bytes h.0 k.0 fits h.1 k.1) ∙ sym k.2
 
-not_bad : (a b t u : List ℕ) (vs : List Verdict) → IsReport a b vs t → Judged a b u status.BadClass → ⊥
-not_bad a b t u vs r (inl k) = k.0 r.first r.first_is
-not_bad a b t u vs r (inr k) = k.1 r.second r.second_is
+bad_twice : (a b t u : List ℕ) → IsBytes a → IsBytes b → Judged a b t status.BadClass → Judged a b u status.BadClass → t ≡ u
+bad_twice a b t u p q (inl h) (inl k) = one_bad side.First a t u p h k
+bad_twice a b t u p q (inl h) (inr k) = absurd (not_both a k.0.0 h.0 p k.0.1 h.1)
+bad_twice a b t u p q (inr h) (inl k) = absurd (not_both a h.0.0 k.0 p h.0.1 k.1)
+bad_twice a b t u p q (inr h) (inr k) = one_bad side.Second b t u q h.1 k.1
+
+not_bad : (a b t u : List ℕ) (vs : List Verdict) → IsBytes a → IsBytes b → IsReport a b vs t → Judged a b u status.BadClass → ⊥
+not_bad a b t u vs p q r (inl k) = not_both a r.first k.0 p r.first_is k.1
+not_bad a b t u vs p q r (inr k) = not_both b r.second k.1.0 q r.second_is k.1.1
 
 both : (t u : List ℕ) (r s q : Status) → r ≡ q → s ≡ q → t ≡ u → (t ≡ u) × (r ≡ s)
 both t u r s q p p' e = (e, p ∙ sym p')
 
-pub judged_once : (a b t u : List ℕ) (r s : Status) → Judged a b t r → Judged a b u s → (t ≡ u) × (r ≡ s)
-judged_once a b t u r s h k = go (reading_of a b t r h) (reading_of a b u s k)
+pub judged_once : (a b t u : List ℕ) (r s : Status) → IsBytes a → IsBytes b → Judged a b t r → Judged a b u s → (t ≡ u) × (r ≡ s)
+judged_once a b t u r s m n h k = go (reading_of a b t r h) (reading_of a b u s k)
   where
     go : Reading a b t r → Reading a b u s → (t ≡ u) × (r ≡ s)
-    go (bad p x) (bad q y) = both t u r s status.BadClass p q (bad_twice a b t u x y)
-    go (bad p x) (all q y) = absurd (not_bad a b u t y.0 y.1 x)
-    go (bad p x) (some q y) = absurd (not_bad a b u t y.0 y.1 x)
-    go (all p x) (bad q y) = absurd (not_bad a b t u x.0 x.1 y)
-    go (all p x) (all q y) = both t u r s status.AllEquivalent p q (report_once a b t u x.0 y.0 x.1 y.1).1
-    go (all p x) (some q y) = absurd (y.2 (subst (λ (vs : List Verdict). AreEquivalent vs) (report_once a b t u x.0 y.0 x.1 y.1).0 x.2))
-    go (some p x) (bad q y) = absurd (not_bad a b t u x.0 x.1 y)
-    go (some p x) (all q y) = absurd (x.2 (subst (λ (vs : List Verdict). AreEquivalent vs) (sym (report_once a b t u x.0 y.0 x.1 y.1).0) y.2))
-    go (some p x) (some q y) = both t u r s status.Others p q (report_once a b t u x.0 y.0 x.1 y.1).1
+    go (bad p x) (bad q y) = both t u r s status.BadClass p q (bad_twice a b t u m n x y)
+    go (bad p x) (all q y) = absurd (not_bad a b u t y.0 m n y.1 x)
+    go (bad p x) (some q y) = absurd (not_bad a b u t y.0 m n y.1 x)
+    go (all p x) (bad q y) = absurd (not_bad a b t u x.0 m n x.1 y)
+    go (all p x) (all q y) = both t u r s status.AllEquivalent p q (report_once a b t u x.0 y.0 m n x.1 y.1).1
+    go (all p x) (some q y) = absurd (y.2 (subst (λ (vs : List Verdict). AreEquivalent vs) (report_once a b t u x.0 y.0 m n x.1 y.1).0 x.2))
+    go (some p x) (bad q y) = absurd (not_bad a b t u x.0 m n x.1 y)
+    go (some p x) (all q y) = absurd (x.2 (subst (λ (vs : List Verdict). AreEquivalent vs) (sym (report_once a b t u x.0 y.0 m n x.1 y.1).0) y.2))
+    go (some p x) (some q y) = both t u r s status.Others p q (report_once a b t u x.0 y.0 m n x.1 y.1).1

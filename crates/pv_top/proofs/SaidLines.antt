@@ -1,6 +1,6 @@
 -- The lines of a report, and which of them say `equivalent`.
 use Rattle.std.proofs.Common.{◌≡◌, ℕ, ◌+◌, ◌≤◌, ◌/◌, ◌%◌, Bool, true, false, cond, List, [], ◌∷◌, ◌++◌, inl, inr, refl, sym, ap, subst, ◌∙◌, append_assoc, arith}
-use Rattle.std.specs.Prelude.{codes, nat_le, nat_lt, ◌==◌, ◌&&◌, not}
+use Rattle.std.specs.Prelude.{codes, decimal, nat_le, nat_lt, ◌==◌, ◌&&◌, not}
 use Rattle.std.specs.List.{AllZip, flat_map, Contains}
 use Rattle.std.proofs.lemmas.Bool.{leb-true, eq-eqb}
 use Rattle.std.proofs.lemmas.Fmt.{decimal_digit}
@@ -18,8 +18,9 @@ use Rattle.pv_top.specs.Lines.{hex_digit, shown, shown_byte, cause_text, side_wo
 use Rattle.pv_top.specs.Report.{lines_of}
 use Rattle.pv_top.specs.Run.{IsLineOf, EndsWith}
 use Rattle.pv_top.proofs.WholeLines.{IsWhole, no_line_of_nothing, first_or_later}
+use Rattle.pv_top.proofs.Decimals.{whole_decimal, last_digit}
 
-whole_append : (a b : List ℕ) → IsWhole a → IsWhole b → IsWhole (a ++ b)
+pub whole_append : (a b : List ℕ) → IsWhole a → IsWhole b → IsWhole (a ++ b)
 whole_append [] b p q = q
 whole_append (c ∷ a) b p q = (p.0, whole_append a b p.1 q)
 
@@ -67,7 +68,7 @@ tested (b ∷ text) e =
     let both = not_and (b == 10) (no_feed text) e in
     (λ is. let yes : (b == 10) ≡ true = eq-eqb b 10 is in absurd (cc (yes, both.0)), tested text both.1)
 
-whole_side : (s : Side) → IsWhole (side_word s)
+pub whole_side : (s : Side) → IsWhole (side_word s)
 whole_side side.First = tested (codes "first") refl
 whole_side side.Second = tested (codes "second") refl
 
@@ -136,6 +137,22 @@ pub last_two : (line front said word : List ℕ) (a b : ℕ) → line ≡ said +
 last_two line front said word a b e f =
     two_last (said ++ word) (front ++ codes " equivale") a b 110 116
     (append_assoc said word (a ∷ b ∷ []) ∙ sym e ∙ f ∙ sym (append_assoc front (codes " equivale") (110 ∷ 116 ∷ [])))
+
+one_last : (xs ys : List ℕ) (a b : ℕ) → xs ++ a ∷ [] ≡ ys ++ b ∷ [] → a ≡ b
+one_last [] [] a b e = cc e
+one_last [] (y ∷ []) a b e = absurd (cc e)
+one_last [] (y ∷ z ∷ ys) a b e = absurd (cc e)
+one_last (x ∷ []) [] a b e = absurd (cc e)
+one_last (x ∷ w ∷ xs) [] a b e = absurd (cc e)
+one_last (x ∷ xs) (y ∷ ys) a b e = one_last xs ys a b (cc e)
+
+-- a line that ends in a number doesn't say `equivalent`
+pub digit_last : (line front said : List ℕ) (n : ℕ) → line ≡ said ++ decimal n → line ≡ front ++ codes " equivalent" → ⊥
+digit_last line front said n e f =
+    let d = last_digit n in
+    let one = one_last (said ++ d.0) (front ++ codes " equivalen") d.1 116 (append_assoc said d.0 (d.1 ∷ []) ∙ ap (λ (t : List ℕ). said ++ t) (sym d.2) ∙ sym e ∙ f ∙ sym (append_assoc front (codes " equivalen") (116 ∷ []))) in
+    let low = d.3 in
+    omega arith
 
 -- what is said in front of the verdict
 abbrev front_of : Method → List ℕ

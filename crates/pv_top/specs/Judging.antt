@@ -1,9 +1,10 @@
 -- What is said of two files that were fetched.
-use Rattle.std.specs.Prelude.{◌≡◌, ◌<◌, ℕ, List, Option, Some, None, length}
+use Rattle.std.specs.Prelude.{◌≡◌, ◌<◌, ℕ, List, Result, length}
 use Rattle.std.specs.List.{AllZip, flat_map}
 use Rattle.pv_class.specs.declared.file.Method.{Method}
 use Rattle.pv_class.specs.declared.file.ClassFile.{ClassFile}
-use Rattle.pv_class.specs.ClassFiles.{IsClass}
+use Rattle.pv_class.specs.declared.fault.Bad.{Bad}
+use Rattle.pv_class.specs.Answers.{IsAnswer}
 use Rattle.pv_top.specs.declared.report.Fetched.{Fetched}
 use Rattle.pv_top.specs.declared.report.Fetched.TheVariants.{Bytes, TooLong}
 use Rattle.pv_top.specs.declared.status.Status.{Status}
@@ -11,17 +12,16 @@ use Rattle.pv_top.specs.declared.status.Status.TheVariants as status
 use Rattle.pv_top.specs.declared.verdict.Verdict.{Verdict}
 use Rattle.pv_top.specs.Verdicts.{IsVerdict}
 use Rattle.pv_top.specs.Lines.{line_text}
-use Rattle.pv_top.specs.Report.{lines_of, AreEquivalent, Judged, HasNoClass}
+use Rattle.pv_top.specs.Report.{lines_of, AreEquivalent, Judged}
 
 -- a fetch of at most 4194304 bytes gave these bytes
 abbrev pub IsFetched : Fetched → List ℕ → Type 0
 IsFetched (Bytes v) bytes = v.items ≡ bytes
 IsFetched TooLong bytes = 4194304 < length bytes
 
--- the class of the bytes that were fetched
-abbrev pub ReadsFetched : Fetched → Option ClassFile → Type 0
-ReadsFetched fetched (Some file) = (bytes : List ℕ) → IsFetched fetched bytes → IsClass bytes file
-ReadsFetched fetched None = (bytes : List ℕ) → IsFetched fetched bytes → HasNoClass bytes
+-- the class of the bytes that were fetched, or their fault
+abbrev pub ReadsFetched : Fetched → Result ClassFile Bad → Type 0
+ReadsFetched fetched read = (bytes : List ℕ) → IsFetched fetched bytes → IsAnswer bytes read
 
 -- what is said of the bytes that were fetched
 abbrev pub JudgesFetched : Fetched → Fetched → List ℕ → Status → Type 0

@@ -2,6 +2,9 @@
 use Rattle.std.specs.Prelude.{ℕ, ◌+◌, ◌/◌, ◌%◌, List, [], ◌∷◌, ◌++◌, codes, decimal, nat_lt, nat_le, ◌==◌, ◌&&◌, not, if◌then◌else◌}
 use Rattle.std.specs.List.{flat_map}
 use Rattle.pv_class.specs.declared.file.Method.{Method}
+use Rattle.pv_class.specs.declared.fault.Bad.{Bad}
+use Rattle.pv_class.specs.declared.fault.ClassCause.{ClassCause}
+use Rattle.pv_class.specs.declared.fault.ClassCause.TheVariants as fault
 use Rattle.pv_top.specs.declared.cause.Cause.{Cause}
 use Rattle.pv_top.specs.declared.cause.CauseKind.{CauseKind}
 use Rattle.pv_top.specs.declared.cause.CauseKind.TheVariants as kind
@@ -48,9 +51,22 @@ line_of m v = shown m.name ++ codes " " ++ shown m.desc ++ codes " " ++ verdict_
 abbrev pub line_text : List ℕ → List ℕ
 line_text line = line ++ 10 ∷ []
 
--- a file that has no reading
-abbrev pub bad_class : Side → List ℕ
-bad_class s = line_text (codes "bad class " ++ side_word s ++ codes " not-built at 0")
+abbrev pub fault_word : ClassCause → List ℕ
+fault_word fault.Truncated = codes "truncated"
+fault_word fault.Magic = codes "magic"
+fault_word fault.Version = codes "version"
+fault_word fault.PoolTag = codes "pool-tag"
+fault_word fault.PoolUtf8 = codes "pool-utf8"
+fault_word fault.PoolReference = codes "pool-reference"
+fault_word fault.Descriptor = codes "descriptor"
+fault_word fault.Code = codes "code"
+fault_word fault.Duplicate = codes "duplicate"
+fault_word fault.Trailing = codes "trailing"
+fault_word fault.TooLong = codes "too-long"
+
+-- a file that has no reading, with its fault
+abbrev pub bad_class : Side → Bad → List ℕ
+bad_class s b = line_text (codes "bad class " ++ side_word s ++ codes " " ++ fault_word b.cause ++ codes " at " ++ decimal b.at)
 
 abbrev pub bad_words : List ℕ
 bad_words = line_text (codes "bad words")

@@ -3,7 +3,10 @@ use Rattle.std.specs.Prelude.{◌≡◌, ◌⊎◌, ℕ, List, [], ◌∷◌}
 use Rattle.std.specs.List.{AllByRecursion, AllZip, flat_map}
 use Rattle.pv_class.specs.declared.file.Method.{Method}
 use Rattle.pv_class.specs.declared.file.ClassFile.{ClassFile}
+use Rattle.pv_class.specs.declared.fault.Bad.{Bad}
 use Rattle.pv_class.specs.ClassFiles.{IsClass}
+use Rattle.pv_class.specs.ClassFaults.{IsBad}
+use Rattle.pv_top.specs.declared.verdict.Side.{Side}
 use Rattle.pv_top.specs.declared.verdict.Side.TheVariants as side
 use Rattle.pv_top.specs.declared.verdict.Verdict.{Verdict}
 use Rattle.pv_top.specs.declared.verdict.Verdict.TheVariants.{Equivalent}
@@ -28,12 +31,16 @@ pub record IsReport (a b : List ℕ) (verdicts : List Verdict) (text : List ℕ)
 abbrev pub AreEquivalent : List Verdict → Type 0
 AreEquivalent verdicts = AllByRecursion (λ v. v ≡ Equivalent) verdicts
 
-abbrev pub HasNoClass : List ℕ → Type 0
-HasNoClass bytes = (file : ClassFile) → IsClass bytes file → ⊥
+abbrev pub HasClass : List ℕ → Type 0
+HasClass bytes = (file : ClassFile) × IsClass bytes file
+
+-- the file has no reading, and this is said of its fault
+abbrev pub IsBadText : Side → List ℕ → List ℕ → Type 0
+IsBadText s bytes text = (b : Bad) × IsBad bytes b × (text ≡ bad_class s b)
 
 -- The text and the status for the bytes of two files: a report, or the first of the two that has no reading.
 abbrev pub Judged : List ℕ → List ℕ → List ℕ → Status → Type 0
 Judged a b text status.AllEquivalent = (verdicts : List Verdict) × IsReport a b verdicts text × AreEquivalent verdicts
 Judged a b text status.Others = (verdicts : List Verdict) × IsReport a b verdicts text × (AreEquivalent verdicts → ⊥)
-Judged a b text status.BadClass = (HasNoClass a × (text ≡ bad_class side.First)) ⊎ (((file : ClassFile) × IsClass a file) × HasNoClass b × (text ≡ bad_class side.Second))
+Judged a b text status.BadClass = IsBadText side.First a text ⊎ (HasClass a × IsBadText side.Second b text)
 Judged a b text s = ⊥

@@ -1,20 +1,49 @@
 //! The lines of a report.
 
 ghost use Rattle.std.specs.Prelude.{◌≡◌, ◌++◌, ◌<◌, OnOk};
-ghost use Rattle.pv_top.specs.Lines.{shown, shown_byte, hex_digit, side_word, kind_word, cause_text, verdict_text, line_of, line_text, bad_class};
+ghost use Rattle.pv_top.specs.Lines.{shown, shown_byte, hex_digit, side_word, kind_word, cause_text, verdict_text, line_of, line_text, fault_word, bad_class};
 
 use crate::cause::{Cause, CauseKind};
 use crate::verdict::{Side, Verdict};
-use pv_class::Method;
+use pv_class::{Bad, ClassCause, Method};
 use std::alloc::{AllocError, Global};
 
-/// The line that says that a file has no reading.
-pub fn push_bad_class(out: &mut Vec<u8>, side: Side) -> Result<(), AllocError>
-    ensures { OnOk result (out.new.items ≡ out.old.items ++ bad_class side) }
+/// The line that says that a file has no reading, with its fault.
+pub fn push_bad_class(
+    alloc: Global,
+    out: &mut Vec<u8>,
+    side: Side,
+    bad: Bad,
+) -> Result<(), AllocError>
+    ensures { OnOk result (out.new.items ≡ out.old.items ++ bad_class side bad) }
 {
+    let at = bad.at;
     out.extend_from_slice(b"bad class ")?;
     out.extend_from_slice(side_word(side))?;
-    out.extend_from_slice(b" not-built at 0\n")
+    out.extend_from_slice(b" ")?;
+    out.extend_from_slice(fault_word(bad.cause))?;
+    out.extend_from_slice(b" at ")?;
+    let at = format!(in alloc; "{at}")?;
+    out.extend_from_slice(at.as_bytes())?;
+    out.extend_from_slice(b"\n")
+}
+
+fn fault_word(cause: ClassCause) -> &'static [u8]
+    ensures { result.now ≡ fault_word cause }
+{
+    match cause {
+        ClassCause::Truncated => b"truncated",
+        ClassCause::Magic => b"magic",
+        ClassCause::Version => b"version",
+        ClassCause::PoolTag => b"pool-tag",
+        ClassCause::PoolUtf8 => b"pool-utf8",
+        ClassCause::PoolReference => b"pool-reference",
+        ClassCause::Descriptor => b"descriptor",
+        ClassCause::Code => b"code",
+        ClassCause::Duplicate => b"duplicate",
+        ClassCause::Trailing => b"trailing",
+        ClassCause::TooLong => b"too-long",
+    }
 }
 
 /// What is said of a method, and a line feed.

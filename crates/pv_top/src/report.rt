@@ -7,9 +7,12 @@ ghost use Rattle.pv_top.specs.Judging.{ReadsFetched, JudgesFetched, Compares};
 use crate::line::{push_bad_class, push_line};
 use crate::status::Status;
 use crate::verdict::{Side, Verdict, verdict_on};
-use pv_class::{ClassFault, ClassFile, Method, read_class};
+use pv_class::{Bad, ClassCause, ClassFault, ClassFile, Method, read_class};
 use pv_value::Memory;
 use std::alloc::{AllocError, Global};
+
+// The bytes of the longest file that is read.
+const LONGEST_FILE: usize = 4194304;
 
 /// What a fetch gave: the bytes of a file, or that there are more than 4194304 of them.
 #[derive(Drop)]
@@ -22,34 +25,39 @@ pub enum Fetched {
 pub fn judge(alloc: Global, first: &Fetched, second: &Fetched) -> Result<(Vec<u8>, Status), Memory>
     ensures { IfOk result (λ said. JudgesFetched first.now second.now said.0.items said.1) }
 {
-    let Some(one) = class_of(alloc, first)? else {
-        return Ok((bad_class(alloc, Side::First)?, Status::BadClass));
+    let one = match class_of(alloc, first)? {
+        Ok(file) => file,
+        Err(bad) => return Ok((bad_class(alloc, Side::First, bad)?, Status::BadClass)),
     };
-    let Some(two) = class_of(alloc, second)? else {
-        return Ok((bad_class(alloc, Side::Second)?, Status::BadClass));
+    let two = match class_of(alloc, second)? {
+        Ok(file) => file,
+        Err(bad) => return Ok((bad_class(alloc, Side::Second, bad)?, Status::BadClass)),
     };
     compare(alloc, one.methods.as_slice(), two.methods.as_slice())
 }
 
-// The class that a file holds, None where it has no reading.
-fn class_of(alloc: Global, fetched: &Fetched) -> Result<Option<ClassFile>, Memory>
-    ensures { IfOk result (λ found. ReadsFetched fetched.now found) }
+// The class that a file holds, or its fault.
+fn class_of(alloc: Global, fetched: &Fetched) -> Result<Result<ClassFile, Bad>, Memory>
+    ensures { IfOk result (λ read. ReadsFetched fetched.now read) }
 {
     let Fetched::Bytes(bytes) = fetched else {
-        return Ok(None);
+        return Ok(Err(Bad {
+            cause: ClassCause::TooLong,
+            at: LONGEST_FILE,
+        }));
     };
     match read_class(alloc, bytes) {
-        Ok(file) => Ok(Some(file)),
-        Err(ClassFault::NotBuilt) => Ok(None),
+        Ok(file) => Ok(Ok(file)),
+        Err(ClassFault::Bad(bad)) => Ok(Err(bad)),
         Err(ClassFault::Memory) => Err(Memory),
     }
 }
 
-fn bad_class(alloc: Global, side: Side) -> Result<Vec<u8>, AllocError>
-    ensures { IfOk result (λ text. text.items ≡ bad_class side) }
+fn bad_class(alloc: Global, side: Side, bad: Bad) -> Result<Vec<u8>, AllocError>
+    ensures { IfOk result (λ text. text.items ≡ bad_class side bad) }
 {
     let mut text = Vec::new(alloc);
-    push_bad_class(&mut text, side)?;
+    push_bad_class(alloc, &mut text, side, bad)?;
     Ok(text)
 }
 

@@ -6,7 +6,7 @@ use std::process::Abort;
 use std::test::Fail;
 use std::thread::Threads;
 
-// A class of first form with one method.
+// A method, with code where it has some.
 #[derive(Clone, Copy)]
 struct Sample<'a> {
     flags: u8,
@@ -14,7 +14,7 @@ struct Sample<'a> {
     desc: &'static [u8],
     max_stack: u8,
     max_locals: u8,
-    code: &'a [u8],
+    code: Option<&'a [u8]>,
 }
 
 fn int_method<'a>(name: &'static [u8], desc: &'static [u8], code: &'a [u8]) -> Sample<'a> {
@@ -24,14 +24,13 @@ fn int_method<'a>(name: &'static [u8], desc: &'static [u8], code: &'a [u8]) -> S
         desc,
         max_stack: 2,
         max_locals: 1,
-        code,
+        code: Some(code),
     }
 }
 
-fn push_text(out: &mut Vec<u8>, text: &[u8]) -> Result<(), AllocError> {
-    let [_, _, _, _, _, _, high, low] = (text.len() as u64).to_be_bytes();
-    out.extend_from_slice(&[1, high, low])?;
-    out.extend_from_slice(text)
+fn push_u16(out: &mut Vec<u8>, number: usize) -> Result<(), AllocError> {
+    let [_, _, _, _, _, _, high, low] = (number as u64).to_be_bytes();
+    out.extend_from_slice(&[high, low])
 }
 
 fn push_u32(out: &mut Vec<u8>, number: usize) -> Result<(), AllocError> {
@@ -39,24 +38,57 @@ fn push_u32(out: &mut Vec<u8>, number: usize) -> Result<(), AllocError> {
     out.extend_from_slice(&[a, b, c, d])
 }
 
-// The bytes of the class, in the order of JVMS 4.1.
-fn class(alloc: Global, m: &Sample<'_>) -> Result<Vec<u8>, AllocError> {
+fn push_text(out: &mut Vec<u8>, text: &[u8]) -> Result<(), AllocError> {
+    out.push(1).map_err(|_| AllocError)?;
+    push_u16(out, text.len())?;
+    out.extend_from_slice(text)
+}
+
+// A method whose name has this index, in a class where `Code` has that one (JVMS 4.6).
+fn push_method(
+    out: &mut Vec<u8>,
+    m: &Sample<'_>,
+    name: usize,
+    code_name: usize,
+) -> Result<(), AllocError> {
+    out.extend_from_slice(&[m.flags >> 7, m.flags & 0x7F])?;
+    push_u16(out, name)?;
+    push_u16(out, name.saturating_add(1))?;
+    let Some(code) = m.code else {
+        return out.extend_from_slice(&[0, 0]);
+    };
+    out.extend_from_slice(&[0, 1])?;
+    push_u16(out, code_name)?;
+    push_u32(out, code.len().saturating_add(12))?;
+    out.extend_from_slice(&[0, m.max_stack, 0, m.max_locals])?;
+    push_u32(out, code.len())?;
+    out.extend_from_slice(code)?;
+    out.extend_from_slice(&[0, 0, 0, 0])
+}
+
+// The bytes of a class with these methods, in the order of JVMS 4.1.
+fn class(alloc: Global, methods: &[Sample<'_>]) -> Result<Vec<u8>, AllocError> {
     let mut out = Vec::new(alloc);
-    out.extend_from_slice(&[0xCA, 0xFE, 0xBA, 0xBE, 0, 0, 0, 52, 0, 8])?;
+    out.extend_from_slice(&[0xCA, 0xFE, 0xBA, 0xBE, 0, 0, 0, 52])?;
+    let code_name = methods.len().saturating_mul(2).saturating_add(5);
+    push_u16(&mut out, code_name.saturating_add(1))?;
     push_text(&mut out, b"A")?;
     out.extend_from_slice(&[7, 0, 1])?;
     push_text(&mut out, b"java/lang/Object")?;
     out.extend_from_slice(&[7, 0, 3])?;
-    push_text(&mut out, m.name)?;
-    push_text(&mut out, m.desc)?;
+    for m in methods {
+        push_text(&mut out, m.name)?;
+        push_text(&mut out, m.desc)?;
+    }
     push_text(&mut out, b"Code")?;
-    out.extend_from_slice(&[0, 0x21, 0, 2, 0, 4, 0, 0, 0, 0, 0, 1])?;
-    out.extend_from_slice(&[0, m.flags, 0, 5, 0, 6, 0, 1, 0, 7])?;
-    push_u32(&mut out, m.code.len().saturating_add(12))?;
-    out.extend_from_slice(&[0, m.max_stack, 0, m.max_locals])?;
-    push_u32(&mut out, m.code.len())?;
-    out.extend_from_slice(m.code)?;
-    out.extend_from_slice(&[0, 0, 0, 0, 0, 0])?;
+    out.extend_from_slice(&[0, 0x21, 0, 2, 0, 4, 0, 0, 0, 0])?;
+    push_u16(&mut out, methods.len())?;
+    let mut name: usize = 5;
+    for m in methods {
+        push_method(&mut out, m, name, code_name)?;
+        name = name.saturating_add(2);
+    }
+    out.extend_from_slice(&[0, 0])?;
     Ok(out)
 }
 
@@ -83,6 +115,18 @@ fn expect_run<R: AllocGlobal + Threads + Sync + Abort>(
     Ok(())
 }
 
+// What is said of two files.
+fn expect_said<R: AllocGlobal + Threads + Sync + Abort>(
+    rt: &R,
+    first: &[u8],
+    second: &[u8],
+    said: &[u8],
+    status: Status,
+) -> Result<(), Fail> {
+    let mut files = files(rt.alloc(), first, second, &[])?;
+    expect_run(rt, &["validate", "A", "B"], &mut files, 1000, said, status)
+}
+
 fn expect_line<R: AllocGlobal + Threads + Sync + Abort>(
     rt: &R,
     first: &Sample<'_>,
@@ -90,10 +134,9 @@ fn expect_line<R: AllocGlobal + Threads + Sync + Abort>(
     said: &[u8],
     status: Status,
 ) -> Result<(), Fail> {
-    let first = class(rt.alloc(), first)?;
-    let second = class(rt.alloc(), second)?;
-    let mut files = files(rt.alloc(), &first, &second, &[])?;
-    expect_run(rt, &["validate", "A", "B"], &mut files, 1000, said, status)
+    let first = class(rt.alloc(), &[*first])?;
+    let second = class(rt.alloc(), &[*second])?;
+    expect_said(rt, &first, &second, said, status)
 }
 
 // The lines of pairs of methods.
@@ -281,7 +324,7 @@ fn decides_long_code(rt: HostRuntime) -> Result<(), Fail> {
 // Words that are no command: nothing is fetched.
 #[test]
 fn refuses_other_words(rt: HostRuntime) -> Result<(), Fail> {
-    let bytes = class(rt.alloc(), &constant())?;
+    let bytes = class(rt.alloc(), &[constant()])?;
     let rows: [&[&str]; 9] = [
         &[],
         &["validate"],
@@ -311,7 +354,7 @@ fn refuses_other_words(rt: HostRuntime) -> Result<(), Fail> {
 // A fetch that fails ends the run with nothing said.
 #[test]
 fn says_nothing_after_a_failed_fetch(rt: HostRuntime) -> Result<(), Fail> {
-    let bytes = class(rt.alloc(), &constant())?;
+    let bytes = class(rt.alloc(), &[constant()])?;
     for (fail, asked) in [(1, 1), (2, 2)] {
         let mut files = files(rt.alloc(), &bytes, &bytes, &[fail])?;
         let words = ["validate", "A", "B"];
@@ -326,7 +369,7 @@ fn says_nothing_after_a_failed_fetch(rt: HostRuntime) -> Result<(), Fail> {
 // A sink with room for a front of the line.
 #[test]
 fn fills_a_sink_that_is_too_small(rt: HostRuntime) -> Result<(), Fail> {
-    let bytes = class(rt.alloc(), &constant())?;
+    let bytes = class(rt.alloc(), &[constant()])?;
     let line = b"f ()I equivalent\n";
     for room in 0..=line.len() {
         let status = if room < line.len() {
@@ -341,25 +384,96 @@ fn fills_a_sink_that_is_too_small(rt: HostRuntime) -> Result<(), Fail> {
     Ok(())
 }
 
-// Files that are no class of the form that is read.
+// Files without a reading.
 #[test]
 fn says_which_file_has_no_reading(rt: HostRuntime) -> Result<(), Fail> {
-    let good = class(rt.alloc(), &constant())?;
+    let good = class(rt.alloc(), &[constant()])?;
     let empty = Vec::new(rt.alloc());
     let long = vec![in rt.alloc(); 0; 4194305]?;
-    let first = b"bad class first not-built at 0\n".as_slice();
-    let second = b"bad class second not-built at 0\n".as_slice();
-    let rows: [(&Vec<u8>, &Vec<u8>, &[u8]); 5] = [
-        (&empty, &good, first),
-        (&good, &empty, second),
-        (&empty, &empty, first),
-        (&long, &good, first),
-        (&good, &long, second),
+    let mut old = good.to_vec(rt.alloc())?;
+    old[7] = 44;
+    let mut short_code = good.to_vec(rt.alloc())?;
+    short_code[81] = 13;
+    let mut more = good.to_vec(rt.alloc())?;
+    more.push(0)?;
+    let cut = good[..97].to_vec(rt.alloc())?;
+    let rows: [(&Vec<u8>, &Vec<u8>, &[u8]); 9] = [
+        (&empty, &good, b"bad class first truncated at 0\n"),
+        (&good, &empty, b"bad class second truncated at 0\n"),
+        (&empty, &long, b"bad class first truncated at 0\n"),
+        (&long, &good, b"bad class first too-long at 4194304\n"),
+        (&good, &long, b"bad class second too-long at 4194304\n"),
+        (&old, &good, b"bad class first version at 4\n"),
+        (&short_code, &good, b"bad class first code at 76\n"),
+        (&cut, &good, b"bad class first truncated at 96\n"),
+        (&more, &good, b"bad class first trailing at 98\n"),
     ];
     for (a, b, said) in rows {
-        let mut files = files(rt.alloc(), a, b, &[])?;
-        let words = ["validate", "A", "B"];
-        expect_run(&rt, &words, &mut files, 100, said, Status::BadClass)?;
+        expect_said(&rt, a, b, said, Status::BadClass)?;
     }
     Ok(())
+}
+
+// Where the items of the class of one constant begin.
+const ITEMS: [usize; 42] = [
+    0, 4, 6, 8, 10, 11, 13, 14, 15, 17, 18, 20, 36, 37, 39, 40, 42, 43, 44, 46, 49, 50, 52, 56, 58,
+    60, 62, 64, 66, 68, 70, 72, 74, 76, 78, 82, 84, 86, 90, 92, 94, 96,
+];
+
+// Each front of a class file is cut in its last item.
+#[test]
+fn says_where_a_file_is_cut(rt: HostRuntime) -> Result<(), Fail> {
+    let good = class(rt.alloc(), &[constant()])?;
+    for n in 0..98 {
+        let place = ITEMS.iter().filter(|item| **item <= n).max();
+        let place = place.copied().unwrap_or(0);
+        let said = format!(in rt.alloc(); "bad class first truncated at {place}\n")?;
+        let cut = good[..n].to_vec(rt.alloc())?;
+        expect_said(&rt, &cut, &good, said.as_bytes(), Status::BadClass)?;
+    }
+    Ok(())
+}
+
+// With any byte changed there is one line.
+#[test]
+fn says_one_line_of_a_changed_class(rt: HostRuntime) -> Result<(), Fail> {
+    let good = class(rt.alloc(), &[constant()])?;
+    for place in 0..98 {
+        for byte in [0, 255] {
+            let mut changed = good.to_vec(rt.alloc())?;
+            changed[place] = byte;
+            let mut files = files(rt.alloc(), &changed, &good, &[])?;
+            let mut out = MemSink::new(rt.alloc(), 1000)?;
+            let words = ["validate", "A", "B"];
+            let answer = run(&rt, rt.alloc(), &words, &mut files, &mut out, &OpenGate);
+            assert!(&rt; answer.number() <= 2);
+            let feeds = out.taken().iter().filter(|b| **b == b'\n').count();
+            assert_eq!(&rt; feeds, 1);
+            assert!(&rt; out.taken().ends_with(b"\n"));
+        }
+    }
+    Ok(())
+}
+
+// A line for each method, in the order of the first file.
+#[test]
+fn says_a_line_for_each_method(rt: HostRuntime) -> Result<(), Fail> {
+    let one = constant();
+    let native = Sample {
+        flags: 0x09,
+        code: None,
+        ..int_method(b"n", b"()V", b"")
+    };
+    let same_name = int_method(b"f", b"(I)I", b"\x1a\xac");
+    let instance = Sample { flags: 0x01, ..one };
+    let other = int_method(b"g", b"()I", b"\x05\xac");
+    let none = class(rt.alloc(), &[])?;
+    let some = class(rt.alloc(), &[other, one, native, same_name])?;
+    let changed = class(rt.alloc(), &[native, same_name, instance])?;
+    let all = b"g ()I equivalent\nf ()I equivalent\nn ()V nocode first\nf (I)I equivalent\n";
+    let few = b"g ()I missing\nf ()I missing\nn ()V nocode first\nf (I)I equivalent\n";
+    expect_said(&rt, &none, &none, b"", Status::AllEquivalent)?;
+    expect_said(&rt, &none, &some, b"", Status::AllEquivalent)?;
+    expect_said(&rt, &some, &some, all, Status::Others)?;
+    expect_said(&rt, &some, &changed, few, Status::Others)
 }

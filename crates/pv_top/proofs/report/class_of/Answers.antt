@@ -1,9 +1,9 @@
-use Rattle.std.proofs.Common.{List, ℕ, ◌≡◌, sym, subst, ◌∙◌}
-use Rattle.pv_class.specs.ClassFiles.{IsClass}
+use Rattle.std.proofs.Common.{List, ℕ, ◌≡◌, ◌∙◌, subst}
+use Rattle.pv_class.specs.ClassFaults.{IsBad}
 use Rattle.pv_top.proofs.report.class_of.Goals as goal
 
-pub returns-in-Err-NotBuilt : goal.returns-in-Err-NotBuilt
-returns-in-Err-NotBuilt c bytes is file class =
+pub returns-in-Err-Bad : goal.returns-in-Err-Bad
+returns-in-Err-Bad c bytes is =
     let same : c.in-Bytes.bytes.items ≡ bytes = rw c.in-Bytes.is at is in
-    let none = rw c.in-Err-NotBuilt.field-0-is at c.in-Err-NotBuilt.ensures.exact in
-    none file (subst (λ (b : List ℕ). IsClass b file) (sym (c.deref.ensures.value ∙ same)) class)
+    let bad = rw (c.in-Err-Bad.field-0-is, c.in-Err-Bad.bad-is) at c.in-Err-Bad.ensures.exact in
+    subst (λ (b : List ℕ). IsBad b c.in-Err-Bad.bad) (c.deref.ensures.value ∙ same) bad

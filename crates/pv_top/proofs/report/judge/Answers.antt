@@ -1,23 +1,26 @@
-use Rattle.std.proofs.Common.{List, inl, inr, Some, subst}
+use Rattle.std.proofs.Common.{List, ℕ, inl, inr, Ok, Err, subst}
 use Rattle.std.specs.Prelude.{IfOk}
 use Rattle.pv_class.specs.declared.file.Method.{Method}
 use Rattle.pv_top.specs.Judging.{ReadsFetched, Compares}
 use Rattle.pv_top.proofs.Judgements.{judges}
 use Rattle.pv_top.proofs.report.judge.Goals as goal
 
-pub returns-in_default : goal.returns-in_default
-returns-in_default c a b first second = inl ((rw c.in_default.is at c.in_ok-one.ensures) a first, c.in_ok-bad_class.ensures)
+pub returns-in-Err : goal.returns-in-Err
+returns-in-Err c a b first second =
+    let bad : ReadsFetched c.args.first.now (Err c.in-Err.bad) = rw c.in-Err.is at c.in_ok-file.ensures in
+    inl (c.in-Err.bad, bad a first, c.in_ok-bad_class-in-Err.ensures)
 
-pub returns-in_default-2 : goal.returns-in_default-2
-returns-in_default-2 c a b first second =
-    let one : ReadsFetched c.args.first.now (Some c.in-Some.one) = rw c.in-Some.is at c.in_ok-one.ensures in
-    inr ((c.in-Some.one, one a first), (rw c.in_default-2.is at c.in_ok-two.ensures) b second, c.in_ok-bad_class-2.ensures)
+pub returns-in-Err-2 : goal.returns-in-Err-2
+returns-in-Err-2 c a b first second =
+    let one : ReadsFetched c.args.first.now (Ok c.in-Ok.file) = rw c.in-Ok.is at c.in_ok-file.ensures in
+    let bad : ReadsFetched c.args.second.now (Err c.in-Err-2.bad) = rw c.in-Err-2.is at c.in_ok-file-2.ensures in
+    inr ((c.in-Ok.file, one a first), (c.in-Err-2.bad, bad b second, c.in_ok-bad_class-in-Err-2.ensures))
 
 pub returns : goal.returns
 returns c =
-    let one : ReadsFetched c.args.first.now (Some c.in-Some.one) = rw c.in-Some.is at c.in_ok-one.ensures in
-    let two : ReadsFetched c.args.second.now (Some c.in-Some-2.two) = rw c.in-Some-2.is at c.in_ok-two.ensures in
+    let one : ReadsFetched c.args.first.now (Ok c.in-Ok.file) = rw c.in-Ok.is at c.in_ok-file.ensures in
+    let two : ReadsFetched c.args.second.now (Ok c.in-Ok-2.file) = rw c.in-Ok-2.is at c.in_ok-file-2.ensures in
     let compared =
-    subst (λ (ms : List Method). IfOk c.compare.result (λ said. Compares ms c.in-Some-2.two.methods said.0.items said.1)) c.as_slice.ensures
+    subst (λ (ms : List Method). IfOk c.compare.result (λ said. Compares ms c.in-Ok-2.file.methods said.0.items said.1)) c.as_slice.ensures
     (subst (λ (ms : List Method). IfOk c.compare.result (λ said. Compares c.as_slice.result.now ms said.0.items said.1)) c.as_slice-2.ensures c.compare.ensures) in
-    judges c.args.first.now c.args.second.now c.in-Some.one c.in-Some-2.two c.compare.result one two compared
+    judges c.args.first.now c.args.second.now c.in-Ok.file c.in-Ok-2.file c.compare.result one two compared

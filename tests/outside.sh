@@ -51,11 +51,11 @@ expect 'a word that is not UTF-8' 4 'bad words
 expect 'an absent file' 5 '' validate "$work/absent" "$work/B"
 expect 'an absent second file' 5 '' validate "$work/A" "$work/absent"
 expect 'a folder' 5 '' validate "$work/folder" "$work/B"
-expect 'an empty file' 2 'bad class first not-built at 0
+expect 'an empty file' 2 'bad class first truncated at 0
 ' validate "$work/empty" "$work/B"
-expect 'a file that is too long' 2 'bad class second not-built at 0
+expect 'a file that is too long' 2 'bad class second too-long at 4194304
 ' validate "$work/A" "$work/long"
-expect 'an endless file' 2 'bad class first not-built at 0
+expect 'an endless file' 2 'bad class first too-long at 4194304
 ' validate /dev/zero "$work/B"
 
 # An unreadable file, read by one who is not the superuser.

@@ -1,0 +1,117 @@
+#!/usr/bin/env python3
+"""Runs the built program on every class file of a JDK against itself.
+
+It works on the program that `cd crates/punthizha && rt run` leaves. The class files are extracted from
+the JDK's image with `jimage`. For each of major version 45 to 69 the status must be 0 or 1, with a line
+for each method, in the order of the file; the methods are counted by a reader of its own.
+
+    tests/jdk.py [IMAGE]      IMAGE is the file lib/modules of a JDK
+"""
+
+import os
+import shutil
+import struct
+import subprocess
+import sys
+import tempfile
+import time
+from concurrent.futures import ThreadPoolExecutor
+
+TOP = os.path.dirname(os.path.dirname(os.path.abspath(__file__)))
+PROGRAM = os.path.join(TOP, "crates", "punthizha", "out", "punthizha")
+SIZES = {3: 4, 4: 4, 5: 8, 6: 8, 7: 2, 8: 2, 9: 4, 10: 4, 11: 4, 12: 4, 15: 3, 16: 2, 17: 4, 18: 4, 19: 2, 20: 2}
+
+
+def image():
+    if len(sys.argv) > 1:
+        return sys.argv[1]
+    java = os.path.realpath(shutil.which("java"))
+    return os.path.join(os.path.dirname(os.path.dirname(java)), "lib", "modules")
+
+
+def members(data, at):
+    """The (name index, descriptor index) of each member of a table, and the offset behind it."""
+    (count,) = struct.unpack_from(">H", data, at)
+    at += 2
+    found = []
+    for _ in range(count):
+        _, name, desc, attributes = struct.unpack_from(">4H", data, at)
+        at += 8
+        for _ in range(attributes):
+            (length,) = struct.unpack_from(">I", data, at + 2)
+            at += 6 + length
+        found.append((name, desc))
+    return found, at
+
+
+def methods(data):
+    """The major version, and the name and descriptor of each method."""
+    _, _, major, count = struct.unpack_from(">IHHH", data, 0)
+    at, index, texts = 10, 1, {}
+    while index < count:
+        tag = data[at]
+        if tag == 1:
+            (length,) = struct.unpack_from(">H", data, at + 1)
+            texts[index] = data[at + 3 : at + 3 + length]
+            at += 3 + length
+        else:
+            at += 1 + SIZES[tag]
+        index += 2 if tag in (5, 6) else 1
+    (interfaces,) = struct.unpack_from(">H", data, at + 6)
+    _, at = members(data, at + 8 + 2 * interfaces)
+    found, _ = members(data, at)
+    return major, [(texts[name], texts[desc]) for name, desc in found]
+
+
+def shown(text):
+    bytes_ = ("%c" % b if 0x21 <= b <= 0x7E and b != 0x25 else "%%%02X" % b for b in text)
+    return "".join(bytes_) or "%-"
+
+
+def run(path):
+    with open(path, "rb") as file:
+        data = file.read()
+    major, wanted = methods(data)
+    if not 45 <= major <= 69:
+        return path, None, 0, 0.0
+    begin = time.monotonic()
+    done = subprocess.run([PROGRAM, "validate", path, path], capture_output=True, timeout=60)
+    took = time.monotonic() - begin
+    lines = done.stdout.decode().splitlines()
+    fronts = [shown(name) + " " + shown(desc) + " " for name, desc in wanted]
+    right = (
+        done.returncode in (0, 1)
+        and not done.stderr
+        and len(lines) == len(fronts)
+        and all(line.startswith(front) for line, front in zip(lines, fronts))
+        and (done.returncode == 0) == all(line.endswith(" equivalent") for line in lines)
+    )
+    return path, right, len(lines), took
+
+
+def main():
+    if not os.access(PROGRAM, os.X_OK):
+        sys.exit("no program: run 'cd crates/punthizha && rt run' first")
+    with tempfile.TemporaryDirectory() as work:
+        subprocess.run(["jimage", "extract", "--dir", work, image()], check=True)
+        paths = [
+            os.path.join(folder, name)
+            for folder, _, names in os.walk(work)
+            for name in names
+            if name.endswith(".class")
+        ]
+        begin = time.monotonic()
+        with ThreadPoolExecutor(2) as pool:
+            answers = list(pool.map(run, sorted(paths)))
+        took = time.monotonic() - begin
+    read = [a for a in answers if a[1] is not None]
+    wrong = [a for a in read if not a[1]]
+    slowest = max(read, key=lambda a: a[3])
+    for path, _, _, _ in wrong[:20]:
+        print("FAILED ", os.path.relpath(path, work))
+    print(f"{len(read)} files, {sum(a[2] for a in read)} methods, {len(answers) - len(read)} of other versions")
+    print(f"{took:.1f} s, the slowest {slowest[3]:.3f} s: {os.path.relpath(slowest[0], work)}")
+    sys.exit(1 if wrong else 0)
+
+
+main()

@@ -1,0 +1,12 @@
+//! The instructions that the bytes of a code spell (JVMS 6).
+#![tactic(auto)]
+
+mod fault;
+mod form;
+mod insn;
+mod raw;
+mod reading;
+
+pub use fault::CodeFault;
+pub use form::{Form, ROWS, Row};
+pub use insn::{Case, Cases, Insn, Insns, Placed, Targets};

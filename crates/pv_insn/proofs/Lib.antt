@@ -1,1 +1,4 @@
 pub mod Loop
+pub mod Formats
+pub mod Switches
+pub mod Operands

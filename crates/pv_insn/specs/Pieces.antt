@@ -18,27 +18,27 @@ pub data Piece : Type 0 where
 -- ---- numbers
 
 -- the bytes of a number, its high byte first
-abbrev pub IsUnsigned : Width → List ℕ → ℕ → Type 0
-IsUnsigned w bytes n = (n < 2 ^ (8 * byte_len w)) × (bytes ≡ to_be_bytes w n)
+abbrev pub IsUnsigned : Width → ℕ → List ℕ → Type 0
+IsUnsigned w n bytes = (n < 2 ^ (8 * byte_len w)) × (bytes ≡ to_be_bytes w n)
 
 -- in two's complement
 abbrev pub signed : Width → ℤ → List ℕ
 signed w n = to_be_bytes w (cast_unsigned w n)
 
-abbrev pub IsSigned : Width → List ℕ → ℤ → Type 0
-IsSigned w bytes n = FitsSigned w n × (bytes ≡ signed w n)
+abbrev pub IsSigned : Width → ℤ → List ℕ → Type 0
+IsSigned w n bytes = FitsSigned w n × (bytes ≡ signed w n)
 
 -- ---- operands
 
 -- a number, and the instruction that it makes
 pub record OneUnsigned (w : Width) (make : ℕ → Raw) (piece : Piece) (bytes : List ℕ) : Type 0 where
   pub number : ℕ
-  pub spelled : IsUnsigned w bytes number
+  pub spelled : IsUnsigned w number bytes
   pub is : piece ≡ instruction (make number)
 
 pub record OneSigned (w : Width) (make : ℤ → Raw) (piece : Piece) (bytes : List ℕ) : Type 0 where
   pub number : ℤ
-  pub spelled : IsSigned w bytes number
+  pub spelled : IsSigned w number bytes
   pub is : piece ≡ instruction (make number)
 
 -- the number of a local, and a signed number
@@ -48,8 +48,8 @@ pub record IsIncrement (w : Width) (piece : Piece) (bytes : List ℕ) : Type 0 w
   pub front : List ℕ
   pub back : List ℕ
   pub parts : bytes ≡ front ++ back
-  pub first : IsUnsigned w front local
-  pub second : IsSigned w back number
+  pub first : IsUnsigned w local front
+  pub second : IsSigned w number back
   pub is : piece ≡ instruction (raw.Iinc local number)
 
 -- bytes of any value
@@ -120,6 +120,7 @@ Widened op _ piece bytes = IsUnknown piece bytes
 pub record IsWide (piece : Piece) (bytes : List ℕ) : Type 0 where
   pub op : ℕ
   pub rest : List ℕ
+  pub byte : op < 2 ^ 8
   pub parts : bytes ≡ op ∷ rest
   pub operands : Widened op (form_of op) piece rest
 
@@ -148,6 +149,7 @@ Behind at op None piece bytes = IsUnknown piece bytes
 pub record Stands (at : ℕ) (piece : Piece) (text : List ℕ) : Type 0 where
   pub op : ℕ
   pub rest : List ℕ
+  pub byte : op < 2 ^ 8
   pub parts : text ≡ op ∷ rest
   pub operands : Behind (at + 1) op (form_of op) piece rest
 

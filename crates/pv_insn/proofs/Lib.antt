@@ -2,3 +2,4 @@ pub mod Loop
 pub mod Formats
 pub mod Switches
 pub mod Operands
+pub mod Walks

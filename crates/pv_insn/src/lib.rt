@@ -6,6 +6,7 @@ mod form;
 mod insn;
 mod raw;
 mod reading;
+mod targets;
 mod walk;
 
 pub use fault::CodeFault;

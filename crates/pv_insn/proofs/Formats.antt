@@ -297,6 +297,7 @@ many_format {A = A} Fits text read f (suc n) =
           let m = s.others in
           let P : List A → Type 0 = λ ys. Many Fits text (suc n) ys t in
           subst P (sym m.is) (ap suc m.fits.0, (s.fits.0, m.fits.1), s.parts ∙ ap (λ (u : List ℕ). u ++ s.back) s.fits.1 ∙ ap (λ (u : List ℕ). text s.first ++ u) m.fits.2)
+
       from : (xs : List A) (t : List ℕ) → Many Fits text (suc n) xs t → Then A (List A) (IsText Fits text) (λ a. Made (List A) (List A) (Many Fits text n) (λ ys. a ∷ ys)) xs t
       from [] t m = absurd (let long = m.0 in omega arith)
       from (x ∷ xs) t m = record {

@@ -5,3 +5,6 @@ pub mod Operands
 pub mod Walks
 pub mod Linking
 pub mod Placing
+pub mod Resolving
+pub mod Once
+pub mod Answering

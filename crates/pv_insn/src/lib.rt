@@ -1,6 +1,7 @@
 //! The instructions that the bytes of a code spell (JVMS 6).
 #![tactic(auto)]
 
+mod decoding;
 mod fault;
 mod form;
 mod insn;
@@ -9,6 +10,7 @@ mod reading;
 mod targets;
 mod walk;
 
+pub use decoding::decode;
 pub use fault::CodeFault;
 pub use form::{Form, ROWS, Row};
 pub use insn::{Case, Cases, Insn, Insns, Placed, Targets};

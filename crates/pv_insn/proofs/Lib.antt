@@ -8,3 +8,4 @@ pub mod Placing
 pub mod Resolving
 pub mod Once
 pub mod Answering
+pub mod Examples

@@ -8,6 +8,8 @@ mod insn;
 mod raw;
 mod reading;
 mod targets;
+#[cfg(test)]
+mod tests;
 mod walk;
 
 pub use decoding::decode;

@@ -1,5 +1,5 @@
 -- What decode finds is the answer, and no other answer is right.
-use Rattle.std.proofs.Common.{◌≡◌, ◌≢◌, ◌⊎◌, inl, inr, ℕ, zero, suc, ℤ, pos, ◌+◌, ◌≤◌, ◌<◌, ◌+ℤ◌, List, [], ◌∷◌, ◌++◌, length, Option, Some, None, Result, Ok, Err, refl, sym, ap, subst, ◌∙◌, append_assoc, arith}
+use Rattle.std.proofs.Common.{◌≡◌, ◌⊎◌, inl, inr, ℕ, zero, suc, ℤ, pos, ◌+◌, ◌≤◌, ◌<◌, List, [], ◌∷◌, ◌++◌, length, Option, Some, Result, Ok, Err, refl, sym, ap, subst, ◌∙◌, arith}
 use Rattle.std.specs.Prelude.{slice_get}
 use Rattle.std.specs.List.{AllZip, AllByRecursion}
 use Rattle.std.proofs.lemmas.List.{append-nil, length-append}
@@ -14,7 +14,7 @@ use Rattle.pv_insn.specs.declared.insn.Placed.{Placed}
 use Rattle.pv_insn.specs.declared.fault.CodeFault.{CodeFault}
 use Rattle.pv_insn.specs.declared.fault.CodeFault.TheVariants as fault
 use Rattle.pv_insn.specs.Codes.{IsInstruction, AreFrom, Leads, LeadsCase, Resolves, IsPlaced, IsCode}
-use Rattle.pv_insn.specs.Faults.{IsStop, Lands, Strays, IsBad, IsAnswer}
+use Rattle.pv_insn.specs.Faults.{IsStop, Lands, IsBad, IsAnswer}
 use Rattle.pv_insn.specs.Answers.{Answers, Tells}
 use Rattle.pv_insn.specs.Stops.{HasFault}
 use Rattle.pv_insn.specs.Targets.{ArePlaces, linked, IsLinked}

@@ -9,3 +9,4 @@ pub mod Resolving
 pub mod Once
 pub mod Answering
 pub mod Examples
+pub mod Within

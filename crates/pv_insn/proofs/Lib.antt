@@ -1,0 +1,12 @@
+pub mod Loop
+pub mod Formats
+pub mod Switches
+pub mod Operands
+pub mod Walks
+pub mod Linking
+pub mod Placing
+pub mod Resolving
+pub mod Once
+pub mod Answering
+pub mod Examples
+pub mod Within

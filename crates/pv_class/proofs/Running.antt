@@ -13,7 +13,7 @@ pub after_more : (p : Program) (world : World) (s : State) (n : ℕ) → after p
 unfolding after
 after_more p world s n = refl
 
-ended_later : (p : Program) (world : World) (s : State) (n k : ℕ) (o : Outcome) → after p world s n ≡ ended o → after p world s (k + n) ≡ ended o
+pub ended_later : (p : Program) (world : World) (s : State) (n k : ℕ) (o : Outcome) → after p world s n ≡ ended o → after p world s (k + n) ≡ ended o
 ended_later p world s n zero o e = subst (λ (m : ℕ). after p world s m ≡ ended o) (omega arith) e
 ended_later p world s n (suc k) o e =
     let next : suc (k + n) ≡ suc k + n = omega arith in

@@ -110,11 +110,10 @@ both_true false b e f = absurd (true≢false (sym e))
 result_decides : (text : List ℕ) → (is_result (Some text) ≡ true) ↔ ((r : Option JType) × IsResult text r)
 result_decides text =
     let void = bytes_eq-Decides text (86 ∷ []) in
-    let field = field_decides text in
-    (
+    let field = field_decides text in (
       λ ok. elim (or_true (bytes_eq text (86 ∷ [])) (is_field_type text) ok) [
-          | inl e ↦ (None, void.0 e)
-          | inr e ↦ let t = field.0 e in (Some t.0, t.1)
+        | inl e ↦ (None, void.0 e)
+        | inr e ↦ let t = field.0 e in (Some t.0, t.1)
       ],
       λ h. of_result h.0 h.1,
     )
@@ -146,6 +145,7 @@ method_decides (b ∷ body) = (
       let found = behind_again (length body) body m.last h.0.params (omega arith) params in
       both_true (eqb b 40) (is_result (behind_params (length body) body)) (eq-eqb b 40 first) (ap is_result found ∙ (result_decides m.last).1 (h.0.result, m.result)),
 )
+
 -- ---- indices and signatures
 
 text_found : (o : Option Entry) → is_some (o >>= text_of) ≡ true → (text : List ℕ) × (o ≡ Some (entry.Utf8 text))
@@ -167,12 +167,12 @@ class_decides pool i = (class_found (entry_under pool i), λ h. ap is_class h.1)
 none_decides : (pool : List Entry) (i : ℕ) → ((eqb i 0 || is_class (entry_under pool i)) ≡ true) ↔ ((i ≡ 0) ⊎ HasClass pool i)
 none_decides pool i = (
   λ ok. elim (or_true (eqb i 0) (is_class (entry_under pool i)) ok) [
-      | inl e ↦ inl (eqb_true i 0 e)
-      | inr e ↦ inr ((class_decides pool i).0 e)
+    | inl e ↦ inl (eqb_true i 0 e)
+    | inr e ↦ inr ((class_decides pool i).0 e)
   ],
   λ h. elim h [
-      | inl e ↦ or_left (eqb i 0) (is_class (entry_under pool i)) (eq-eqb i 0 e)
-      | inr c ↦ or_right (eqb i 0) (is_class (entry_under pool i)) ((class_decides pool i).1 c)
+    | inl e ↦ or_left (eqb i 0) (is_class (entry_under pool i)) (eq-eqb i 0 e)
+    | inr c ↦ or_right (eqb i 0) (is_class (entry_under pool i)) ((class_decides pool i).1 c)
   ],
 )
 
@@ -196,8 +196,10 @@ new_decides seen s = (
     by_not : (b : Bool) → not b ≡ true → b ≡ false
     by_not true e = absurd (true≢false (sym e))
     by_not false e = refl
+
     found : Contains seen s → list_any (alike s) seen ≡ true
     found there = list_any_at (alike s) seen there.0 s there.1 (same_alike s (get_or seen there.0 s) (sym there.2))
+
     not_found : (b : Bool) → list_any (alike s) seen ≡ b → (Contains seen s → ⊥) → not b ≡ true
     not_found true e none = absurd (none (Contains-list_any alike alike_same seen s e))
     not_found false e none = refl

@@ -107,12 +107,12 @@ no_fault bytes fits h e entries after p q =
     absurd (cc same)
 
 -- one pool, and so one reading behind it
-one_tail : (bytes : List ℕ) → HeadRead bytes → (entries other : List Entry) (after behind : ℕ) → IsPoolAt bytes 8 entries after → IsPoolAt bytes 8 other behind → (entries ≡ other) × (read (tail entries) (drop after bytes) ≡ read (tail other) (drop behind bytes))
+pub one_tail : (bytes : List ℕ) → HeadRead bytes → (entries other : List Entry) (after behind : ℕ) → IsPoolAt bytes 8 entries after → IsPoolAt bytes 8 other behind → (entries ≡ other) × (read (tail entries) (drop after bytes) ≡ read (tail other) (drop behind bytes))
 one_tail bytes h entries other after behind p q =
     let same = one_pool bytes 8 entries other after behind (head_long bytes h) p q in
     (same.0, ap (λ (x : List Entry). read (tail x) (drop after bytes)) same.0 ∙ ap (λ (k : ℕ). read (tail other) (drop k bytes)) same.1)
 
-one_reading : (ms ms' : List Method) → ◌≡◌ {A = Result (List Method × List ℕ) Failure} (Ok (ms, [])) (Ok (ms', [])) → ms ≡ ms'
+pub one_reading : (ms ms' : List Method) → ◌≡◌ {A = Result (List Method × List ℕ) Failure} (Ok (ms, [])) (Ok (ms', [])) → ms ≡ ms'
 one_reading ms ms' e =
     let same : ◌≡◌ {A = List Method × List ℕ} (ms, []) (ms', []) = cc e in
     ap (λ (p : List Method × List ℕ). p.0) same

@@ -125,11 +125,7 @@ fn class_end_at<'a>(
 }
 
 /// What stands behind the constant pool.
-fn tail_at<'a>(
-    alloc: Global,
-    pool: &Pool,
-    bytes: &'a [u8],
-) -> Result<(Methods, &'a [u8]), Stop>
+fn tail_at<'a>(alloc: Global, pool: &Pool, bytes: &'a [u8]) -> Result<(Methods, &'a [u8]), Stop>
     ensures read { Gives (λ x. (x.0, x.1.now)) result (read (tail pool.now) bytes.now) }
     ensures end { IfOk result (λ x. x.1.now ≡ []) }
 {

@@ -19,9 +19,10 @@ returns-in_err-method c =
 pub loop-preserved : goal.loop-preserved
 loop-preserved c =
     let read = reads_seen c.args.pool.now c.loop.seen (signatures c.loop.methods.items) c.loop.rest.now c.in_ok-method.after.now c.in_ok-method.method c.loop.invariant.1 c.in_ok-method.ensures.read in
-    rw c.in_ok-push.ensures.items
-    (c.loop.invariant.0 ∙ methods_more c.args.pool.now c.args.count c.loop.counter c.loop.methods.items c.in_ok-method.method c.loop.rest.now c.in_ok-method.after.now c.loop-test.true read,
-    c.in_ok-method.ensures.seen ∙ ap (λ (ss : List _). ss ++ signature c.in_ok-method.method ∷ []) c.loop.invariant.1 ∙ sym (signatures_more c.loop.methods.items c.in_ok-method.method))
+    rw c.in_ok-push.ensures.items (
+      c.loop.invariant.0 ∙ methods_more c.args.pool.now c.args.count c.loop.counter c.loop.methods.items c.in_ok-method.method c.loop.rest.now c.in_ok-method.after.now c.loop-test.true read,
+      c.in_ok-method.ensures.seen ∙ ap (λ (ss : List _). ss ++ signature c.in_ok-method.method ∷ []) c.loop.invariant.1 ∙ sym (signatures_more c.loop.methods.items c.in_ok-method.method),
+    )
 
 pub returns : goal.returns
 returns c = rw c.from.ensures (c.loop.invariant.0 ∙ methods_end c.args.pool.now c.args.count c.loop.counter c.loop.methods.items c.loop.rest.now c.loop-test.false)

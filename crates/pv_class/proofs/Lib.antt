@@ -19,3 +19,4 @@ pub mod MethodLists
 pub mod ClassTexts
 pub mod ClassAgrees
 pub mod ClassLaws
+mod Examples

@@ -1,7 +1,6 @@
 -- A class file by the spelling of its items, and what the grammar takes, are the same.
 use Rattle.std.proofs.Common.{◌≡◌, ℕ, ◌+◌, ◌≤◌, List, [], ◌++◌, length, drop, refl, sym, ap, subst, ◌∙◌, append_assoc, arith}
 use Rattle.std.proofs.lemmas.List.{length-append, append-nil, drop_at}
-use Rattle.pv_pool.specs.declared.entry.Entry.{Entry}
 use Rattle.pv_pool.specs.Pools.{IsPoolText, IsPoolAt}
 use Rattle.pv_pool.proofs.Formats.{IsBytes, bytes_behind}
 use Rattle.pv_class.specs.declared.file.ClassFile.{ClassFile}

@@ -9,7 +9,7 @@ use Rattle.pv_class.specs.ClassGrammar.{head, tail}
 use Rattle.pv_class.specs.ClassFiles.{IsClass}
 use Rattle.pv_class.specs.Answers.{IsAnswer}
 use Rattle.pv_class.proofs.Readings.{takes_read}
-use Rattle.pv_class.proofs.ClassAgrees.{TakesAll, takes_class}
+use Rattle.pv_class.proofs.ClassAgrees.{takes_class}
 use Rattle.pv_class.proofs.Outcomes.{file_of, one_tail, one_reading, is_comes, comes_once}
 
 pub class_once : (bytes : List ℕ) (a b : ClassFile) → IsClass bytes a → IsClass bytes b → a ≡ b

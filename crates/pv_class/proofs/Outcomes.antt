@@ -1,5 +1,5 @@
 -- What reading a class file comes to, and that this is the one answer.
-use Rattle.std.proofs.Common.{◌≡◌, ℕ, ◌+◌, ◌-◌, ◌<◌, ◌≤◌, List, [], ◌++◌, length, take, drop, Result, Ok, Err, refl, sym, ap, subst, ◌∙◌, arith}
+use Rattle.std.proofs.Common.{◌≡◌, ℕ, ◌-◌, ◌<◌, ◌≤◌, List, [], length, take, drop, Result, Ok, Err, refl, sym, ap, subst, ◌∙◌, arith}
 use Rattle.std.proofs.lemmas.List.{length-append, length-drop, take_all}
 use Rattle.pv_pool.specs.declared.entry.Entry.{Entry}
 use Rattle.pv_pool.specs.declared.fault.PoolFault.{PoolFault}
@@ -13,9 +13,8 @@ use Rattle.pv_class.specs.declared.file.ClassFile.{ClassFile}
 use Rattle.pv_class.specs.declared.fault.Bad.{Bad}
 use Rattle.pv_class.specs.declared.fault.ClassCause.TheVariants as cause
 use Rattle.pv_class.specs.declared.fault.Failure.{Failure}
-use Rattle.pv_class.specs.Grammars.{bind, Takes, Stops}
+use Rattle.pv_class.specs.Grammars.{bind, Takes}
 use Rattle.pv_class.specs.ClassGrammar.{head, tail}
-use Rattle.pv_class.specs.ClassFiles.{IsClass}
 use Rattle.pv_class.specs.ClassFaults.{bad, bad_of, IsOfPool, HasHead, IsBad, too_long, in_head, in_pool, in_tail}
 use Rattle.pv_class.specs.declared.fault.ClassFault.{ClassFault}
 use Rattle.pv_class.specs.declared.fault.ClassFault.TheVariants as class
@@ -25,7 +24,7 @@ use Rattle.pv_pool.specs.Answers.{Answers}
 use Rattle.pv_class.specs.Answers.{IsAnswer, IsOnly, Told}
 use Rattle.pv_class.specs.Reading.{read, Fails, fault_of, of_pool}
 use Rattle.pv_class.proofs.Readings.{read_takes, takes_read, read_stops, stops_read}
-use Rattle.pv_class.proofs.ClassAgrees.{TakesAll, takes_class, class_taken}
+use Rattle.pv_class.proofs.ClassAgrees.{takes_class, class_taken}
 
 abbrev pub HeadRead : List ℕ → Type 0
 HeadRead bytes = (rest : List ℕ) × (read head bytes ≡ Ok (tt, rest))

@@ -1,7 +1,6 @@
 -- A class file by the spelling of its items, and what the grammar takes, are the same.
 use Rattle.std.proofs.Common.{◌≡◌, ℕ, ◌+◌, ◌≤◌, List, [], ◌++◌, length, drop, refl, sym, ap, subst, ◌∙◌, append_assoc, arith}
 use Rattle.std.proofs.lemmas.List.{length-append, append-nil, drop_at}
-use Rattle.pv_pool.specs.declared.entry.Entry.{Entry}
 use Rattle.pv_pool.specs.Pools.{IsPoolText, IsPoolAt}
 use Rattle.pv_pool.proofs.Formats.{IsBytes, bytes_behind}
 use Rattle.pv_class.specs.declared.file.ClassFile.{ClassFile}
@@ -24,12 +23,11 @@ pub record TakesAll (bytes : List ℕ) (file : ClassFile) : Type 0 where
 abbrev head_text : ℕ → ℕ → List ℕ
 head_text minor major = u4 0xCAFEBABE ++ (u2 minor ++ u2 major)
 
-abbrev all_items : ℕ → ℕ → List ℕ → List Entry → TailItems → Items
-all_items minor major pool_text pool i = record {
+abbrev all_items : ℕ → ℕ → List ℕ → TailItems → Items
+all_items minor major pool_text i = record {
   minor = minor;
   major = major;
   pool_text = pool_text;
-  pool = pool;
   flags = i.flags;
   this = i.this;
   super = i.super;
@@ -47,7 +45,7 @@ file_parts a b c d = sym (simp append_assoc)
 
 -- ---- a class file is taken
 
-described : (i : Items) (file : ClassFile) → Describes i file → IsTail i.pool (tail_text (tail_items i)) file.methods
+described : (i : Items) (file : ClassFile) → Describes i file → IsTail file.pool (tail_text (tail_items i)) file.methods
 described i file d =
     let f = d.fits in
     record {
@@ -80,24 +78,22 @@ takes_class bytes file c =
     let Q : List ℕ → Type 0 = λ u. Takes head u tt rest in
     let after = 8 + length i.pool_text in
     let stands : drop 8 bytes ≡ rest = ap (λ (u : List ℕ). drop 8 u) spelled ∙ drop_at front rest 8 refl in
-    let pool : IsPoolText i.pool_text file.pool = subst (λ (p : List Entry). IsPoolText i.pool_text p) (sym d.pool_is) d.pool in
     let long : length (front ++ i.pool_text) ≡ after = length-append front i.pool_text in
     let last : drop after bytes ≡ behind = ap (λ (u : List ℕ). drop after u) (spelled ∙ sym (append_assoc front i.pool_text behind)) ∙ drop_at (front ++ i.pool_text) behind after long in
-    let read : Takes (untested i.pool) (behind ++ []) file.methods [] = (untested_texts i.pool).again behind file.methods [] (described i file d) (omega arith) in
-    let tested : Takes (tail i.pool) (behind ++ []) file.methods [] = tail_tested i.pool (behind ++ []) file.methods read in
-    let P : List ℕ → Type 0 = λ u. Takes (tail i.pool) u file.methods [] in
-    let R : List Entry → Type 0 = λ p. Takes (tail p) (drop after bytes) file.methods [] in
+    let read : Takes (untested file.pool) (behind ++ []) file.methods [] = (untested_texts file.pool).again behind file.methods [] (described i file d) (omega arith) in
+    let tested : Takes (tail file.pool) (behind ++ []) file.methods [] = tail_tested file.pool (behind ++ []) file.methods read in
+    let P : List ℕ → Type 0 = λ u. Takes (tail file.pool) u file.methods [] in
     record {
       rest = rest;
       head_is = subst Q (sym spelled) head_taken;
       after = after;
-      pool_is = record { text = i.pool_text; rest = behind; stands = stands; is = pool; behind = refl };
-      tail_is = subst R (sym d.pool_is) (subst P (append-nil behind ∙ sym last) tested);
+      pool_is = record { text = i.pool_text; rest = behind; stands = stands; is = d.pool; behind = refl };
+      tail_is = subst P (append-nil behind ∙ sym last) tested;
     }
 
 -- ---- what is taken is a class file
 
-describes : (file : ClassFile) (front text behind : List ℕ) (h : IsHead front tt) → IsPoolText text file.pool → (t : IsTail file.pool behind file.methods) → Describes (all_items h.minor h.major text file.pool t.items) file
+describes : (file : ClassFile) (front text behind : List ℕ) (h : IsHead front tt) → IsPoolText text file.pool → (t : IsTail file.pool behind file.methods) → Describes (all_items h.minor h.major text t.items) file
 describes file front text behind h pool t = record {
   fits = record { minor = h.minor_fits; major = h.major_fits; flags = t.flags; this = t.this.0; super = t.super.0; interfaces = t.interfaces; fields = t.fields; methods = t.methods; attributes = t.attributes };
   old = h.old;
@@ -110,7 +106,6 @@ describes file front text behind h pool t = record {
   methods = t.are_methods;
   distinct = t.distinct;
   attributes = t.are_attributes;
-  pool_is = refl;
 }
 
 -- three parts of the bytes, and where the last begins
@@ -132,6 +127,6 @@ class_taken bytes file fits small t =
     let P : List ℕ → Type 0 = λ u. Takes (tail file.pool) u file.methods [] in
     let q = (untested_texts file.pool).takes pool.rest file.methods [] fits_last (tail_untested file.pool pool.rest file.methods [] (subst P last t.tail_is)) in
     let behind : pool.rest ≡ tail_text q.2.items = q.1 ∙ append-nil q.0 ∙ q.2.text in
-    let spelled : bytes ≡ file_text (all_items h.minor h.major pool.text file.pool q.2.items) =
+    let spelled : bytes ≡ file_text (all_items h.minor h.major pool.text q.2.items) =
     parts ∙ ap (λ (u : List ℕ). front ++ (pool.text ++ u)) behind ∙ ap (λ (u : List ℕ). u ++ (pool.text ++ tail_text q.2.items)) h.text ∙ sym (file_parts (u4 0xCAFEBABE) (u2 h.minor) (u2 h.major) (pool.text ++ tail_text q.2.items)) in
-    record { items = all_items h.minor h.major pool.text file.pool q.2.items; spelled = spelled; small = small; describes = describes file front pool.text q.0 h pool.is q.2 }
+    record { items = all_items h.minor h.major pool.text q.2.items; spelled = spelled; small = small; describes = describes file front pool.text q.0 h pool.is q.2 }

@@ -1,5 +1,5 @@
 -- Reading the parts of a class file one after the other.
-use Rattle.std.proofs.Common.{◌≡◌, ℕ, List, [], length, Bool, true, false, eqb, Result, Ok, Err, refl, sym, ap, subst, ◌∙◌}
+use Rattle.std.proofs.Common.{◌≡◌, ℕ, List, length, eqb, Result, Ok, Err, refl, sym, subst, ◌∙◌}
 use Rattle.std.proofs.lemmas.Bool.{eq-eqb, ne_eqb}
 use Rattle.pv_pool.specs.declared.entry.Entry.{Entry}
 use Rattle.pv_class.specs.declared.file.Method.{Method}
@@ -8,7 +8,7 @@ use Rattle.pv_class.specs.declared.fault.Failure.{Failure}
 use Rattle.pv_class.specs.declared.fault.Stop.{Stop}
 use Rattle.pv_class.specs.Checks.{holds, class, class_or_none}
 use Rattle.pv_class.specs.Grammars.{Grammar, give, here, check, bind, u2, times, table, failure}
-use Rattle.pv_class.specs.ClassGrammar.{in_file, index, interface, skipped, field, methods, all_methods, class_front, class_end, tail}
+use Rattle.pv_class.specs.ClassGrammar.{in_file, index, interface, skipped, field, all_methods, class_front, class_end, tail}
 use Rattle.pv_class.specs.Reading.{read, Fails, Gives}
 use Rattle.pv_class.proofs.Grammars.{read_then, read_give, fails_first, fails_as}
 

@@ -124,15 +124,9 @@ to_holds pool t c s =
         spelled = spelled;
         fits = record { max_stack = s.fits.max_stack; max_locals = s.fits.max_locals; some = s.fits.some; few = s.fits.few; handlers = (hs.3, hs.4); attributes = (attrs.3, both.0) };
         names = both.1;
-        max_stack = ap (λ (d : Code). d.max_stack) last.1;
-        max_locals = ap (λ (d : Code). d.max_locals) last.1;
-        bytes = ap (λ (d : Code). d.bytes) last.1;
-        handlers = ap (λ (d : Code). d.handlers) last.1 ∙ hs.1;
+        held = last.1 ∙ ap (λ (n : ℕ). code_of x n) hs.1;
       },
     )
-
-code_is : (c : Code) (s l : ℕ) (b : List ℕ) (h : ℕ) → c.max_stack ≡ s → c.max_locals ≡ l → c.bytes ≡ b → c.handlers ≡ h → c ≡ record { max_stack = s; max_locals = l; bytes = b; handlers = h }
-code_is c s l b h e1 e2 e3 e4 = rw (← e1, ← e2, ← e3, ← e4) refl
 
 of_holds : (pool : List Entry) (t : List ℕ) (c : Code) → Holds pool t c → Then Front Code IsCodeFront (T2 pool) t c
 of_holds pool t c s =
@@ -159,7 +153,7 @@ of_holds pool t c s =
           back = [];
           parts = sym (append-nil A);
           fits = (i.attributes, refl, refl, h.fits.attributes.0, of_both FitsAttribute (λ a. HasText pool a.name) i.attributes h.fits.attributes.1 h.names);
-          others = (refl, code_is c i.max_stack i.max_locals i.code (length i.handlers) h.max_stack h.max_locals h.bytes h.handlers);
+          others = (refl, h.held);
         };
       };
     }

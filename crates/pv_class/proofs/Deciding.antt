@@ -1,9 +1,9 @@
 -- The tests tell what passes.
-use Rattle.std.proofs.Common.{◌≡◌, ◌↔◌, ◌⊎◌, ℕ, zero, suc, ◌+◌, ◌<◌, ◌≤◌, Bool, true, false, not, ◌&&◌, ◌||◌, eqb, List, [], ◌∷◌, length, get_or, Option, Some, None, is_some, inl, inr, refl, sym, ap, subst, ◌∙◌, true≢false, arith}
+use Rattle.std.proofs.Common.{◌≡◌, ◌↔◌, ◌⊎◌, ℕ, zero, suc, ◌≤◌, Bool, true, false, not, ◌||◌, eqb, List, [], ◌∷◌, length, get_or, Option, Some, None, is_some, inl, inr, refl, sym, ap, subst, ◌∙◌, true≢false, arith}
 use Rattle.std.specs.Prelude.{MatchOption}
 use Rattle.std.specs.List.{Contains, list_any}
 use Rattle.std.specs.Str.{bytes_eq}
-use Rattle.std.proofs.lemmas.Bool.{cases_eq, eq-eqb, ne_eqb}
+use Rattle.std.proofs.lemmas.Bool.{cases_eq, eq-eqb, ne_eqb, eqb-true, and_parts, and_from}
 use Rattle.std.proofs.lemmas.Slice.Eq.{bytes_eq-Decides}
 use Rattle.std.proofs.lemmas.List.Folds.{list_any_at}
 use Rattle.indexmap.proofs.CallerLemmas.{Contains-list_any}
@@ -11,7 +11,7 @@ use Rattle.pv_value.specs.declared.descriptor.Descriptor.{Descriptor}
 use Rattle.pv_value.specs.declared.descriptor.JType.{JType}
 use Rattle.pv_value.specs.Descriptors.{IsFieldType, IsResult, IsMethodType}
 use Rattle.pv_value.specs.Reading.{field_at, ReadsParams}
-use Rattle.pv_value.specs.Once.{whole_again, no_bracket, method_again}
+use Rattle.pv_value.specs.Once.{no_bracket, method_again}
 use Rattle.pv_value.proofs.FieldTypes.{is_whole as whole_is, is_unread, is_longer}
 use Rattle.pv_value.proofs.MethodTypes.{method_takes, is_shorter}
 use Rattle.pv_pool.specs.declared.entry.Entry.{Entry}
@@ -21,13 +21,6 @@ use Rattle.pv_pool.specs.Readers.{◌>>=◌, text_under, text_of}
 use Rattle.pv_class.specs.declared.signature.Signature.{Signature}
 use Rattle.pv_class.specs.Checks.{Check, Passes, holds, utf8, class, class_or_none, field_type, method_type, new}
 use Rattle.pv_class.specs.Deciding.{is_class, is_whole, is_field_type, behind_first, behind_params, is_result, is_method_type, alike, passes}
-
-eqb_true : (x y : ℕ) → eqb x y ≡ true → x ≡ y
-eqb_true x y e =
-    elim (cases_eq x y) [
-      | inl is ↦ is
-      | inr ne ↦ absurd (true≢false (sym e ∙ ne_eqb x y ne))
-    ]
 
 -- ---- descriptors
 
@@ -99,22 +92,13 @@ or_right : (a b : Bool) → b ≡ true → (a || b) ≡ true
 or_right true b e = refl
 or_right false b e = e
 
-and_true : (a b : Bool) → (a && b) ≡ true → (a ≡ true) × (b ≡ true)
-and_true true b e = (refl, e)
-and_true false b e = absurd (true≢false (sym e))
-
-both_true : (a b : Bool) → a ≡ true → b ≡ true → (a && b) ≡ true
-both_true true b e f = f
-both_true false b e f = absurd (true≢false (sym e))
-
 result_decides : (text : List ℕ) → (is_result (Some text) ≡ true) ↔ ((r : Option JType) × IsResult text r)
 result_decides text =
     let void = bytes_eq-Decides text (86 ∷ []) in
-    let field = field_decides text in
-    (
+    let field = field_decides text in (
       λ ok. elim (or_true (bytes_eq text (86 ∷ [])) (is_field_type text) ok) [
-          | inl e ↦ (None, void.0 e)
-          | inr e ↦ let t = field.0 e in (Some t.0, t.1)
+        | inl e ↦ (None, void.0 e)
+        | inr e ↦ let t = field.0 e in (Some t.0, t.1)
       ],
       λ h. of_result h.0 h.1,
     )
@@ -135,17 +119,18 @@ pub method_decides : (text : List ℕ) → (is_method_type text ≡ true) ↔ ((
 method_decides [] = (λ ok. absurd (true≢false (sym ok)), λ h. absurd (let m = method_again [] h.0 h.1 in let e = m.opened in cc))
 method_decides (b ∷ body) = (
   λ ok.
-      let both = and_true (eqb b 40) (is_result (behind_params (length body) body)) ok in
+      let both = and_parts (eqb b 40) (is_result (behind_params (length body) body)) ok in
       let d = method_reads body (behind_params (length body) body) refl both.1 in
-      (d.0, subst (λ (c : ℕ). IsMethodType (c ∷ body) d.0) (sym (eqb_true b 40 both.0)) d.1),
+      (d.0, subst (λ (c : ℕ). IsMethodType (c ∷ body) d.0) (sym (eqb-true b 40 both.0)) d.1),
   λ h.
       let m = method_again (b ∷ body) h.0 h.1 in
       let first : b ≡ 40 = cc (m.opened) in
       let same : m.body ≡ body = cc (m.opened) in
       let params = subst (λ (x : List ℕ). ReadsParams x h.0.params m.last) same m.params in
       let found = behind_again (length body) body m.last h.0.params (omega arith) params in
-      both_true (eqb b 40) (is_result (behind_params (length body) body)) (eq-eqb b 40 first) (ap is_result found ∙ (result_decides m.last).1 (h.0.result, m.result)),
+      and_from (eqb b 40) (is_result (behind_params (length body) body)) (eq-eqb b 40 first) (ap is_result found ∙ (result_decides m.last).1 (h.0.result, m.result)),
 )
+
 -- ---- indices and signatures
 
 text_found : (o : Option Entry) → is_some (o >>= text_of) ≡ true → (text : List ℕ) × (o ≡ Some (entry.Utf8 text))
@@ -167,25 +152,25 @@ class_decides pool i = (class_found (entry_under pool i), λ h. ap is_class h.1)
 none_decides : (pool : List Entry) (i : ℕ) → ((eqb i 0 || is_class (entry_under pool i)) ≡ true) ↔ ((i ≡ 0) ⊎ HasClass pool i)
 none_decides pool i = (
   λ ok. elim (or_true (eqb i 0) (is_class (entry_under pool i)) ok) [
-      | inl e ↦ inl (eqb_true i 0 e)
-      | inr e ↦ inr ((class_decides pool i).0 e)
+    | inl e ↦ inl (eqb-true i 0 e)
+    | inr e ↦ inr ((class_decides pool i).0 e)
   ],
   λ h. elim h [
-      | inl e ↦ or_left (eqb i 0) (is_class (entry_under pool i)) (eq-eqb i 0 e)
-      | inr c ↦ or_right (eqb i 0) (is_class (entry_under pool i)) ((class_decides pool i).1 c)
+    | inl e ↦ or_left (eqb i 0) (is_class (entry_under pool i)) (eq-eqb i 0 e)
+    | inr c ↦ or_right (eqb i 0) (is_class (entry_under pool i)) ((class_decides pool i).1 c)
   ],
 )
 
-same_signature : (s t : Signature) → s.name ≡ t.name → s.desc ≡ t.desc → s ≡ t
+pub same_signature : (s t : Signature) → s.name ≡ t.name → s.desc ≡ t.desc → s ≡ t
 same_signature s t p q = ap (λ (n : List ℕ). record { name = n; desc = s.desc }) p ∙ ap (λ (d : List ℕ). record { name = t.name; desc = d }) q
 
 alike_same : (s t : Signature) → alike s t ≡ true → s ≡ t
 alike_same s t ok =
-    let both = and_true (bytes_eq s.name t.name) (bytes_eq s.desc t.desc) ok in
+    let both = and_parts (bytes_eq s.name t.name) (bytes_eq s.desc t.desc) ok in
     same_signature s t ((bytes_eq-Decides s.name t.name).0 both.0) ((bytes_eq-Decides s.desc t.desc).0 both.1)
 
 same_alike : (s t : Signature) → s ≡ t → alike s t ≡ true
-same_alike s t e = both_true (bytes_eq s.name t.name) (bytes_eq s.desc t.desc) ((bytes_eq-Decides s.name t.name).1 (ap (λ (x : Signature). x.name) e)) ((bytes_eq-Decides s.desc t.desc).1 (ap (λ (x : Signature). x.desc) e))
+same_alike s t e = and_from (bytes_eq s.name t.name) (bytes_eq s.desc t.desc) ((bytes_eq-Decides s.name t.name).1 (ap (λ (x : Signature). x.name) e)) ((bytes_eq-Decides s.desc t.desc).1 (ap (λ (x : Signature). x.desc) e))
 
 new_decides : (seen : List Signature) (s : Signature) → (not (list_any (alike s) seen) ≡ true) ↔ (Contains seen s → ⊥)
 new_decides seen s = (
@@ -196,8 +181,10 @@ new_decides seen s = (
     by_not : (b : Bool) → not b ≡ true → b ≡ false
     by_not true e = absurd (true≢false (sym e))
     by_not false e = refl
+
     found : Contains seen s → list_any (alike s) seen ≡ true
     found there = list_any_at (alike s) seen there.0 s there.1 (same_alike s (get_or seen there.0 s) (sym there.2))
+
     not_found : (b : Bool) → list_any (alike s) seen ≡ b → (Contains seen s → ⊥) → not b ≡ true
     not_found true e none = absurd (none (Contains-list_any alike alike_same seen s e))
     not_found false e none = refl

@@ -7,6 +7,7 @@ use Rattle.pv_class.specs.declared.file.Method.{Method}
 use Rattle.pv_class.specs.declared.signature.Signature.{Signature}
 use Rattle.pv_class.specs.ClassGrammar.{signature, signatures}
 use Rattle.pv_class.specs.ClassFiles.{AreDistinct}
+use Rattle.pv_class.proofs.Deciding.{same_signature}
 
 -- each of the methods is new behind these
 abbrev pub Fresh : List Method → List Method → Type 0
@@ -35,9 +36,6 @@ at_length [] y ys = refl
 at_length (x ∷ xs) y ys = at_length xs y ys
 
 -- ---- signatures in a list
-
-pub same_signature : (s t : Signature) → s.name ≡ t.name → s.desc ≡ t.desc → s ≡ t
-same_signature s t p q = ap (λ (n : List ℕ). record { name = n; desc = s.desc }) p ∙ ap (λ (d : List ℕ). record { name = t.name; desc = d }) q
 
 has_signature : (xs : List Method) (i : ℕ) (x : Method) (s : Signature) → slice_get xs i ≡ Some x → signature x ≡ s → Contains (signatures xs) s
 has_signature [] i x s e same = absurd cc

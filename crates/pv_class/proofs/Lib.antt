@@ -18,3 +18,5 @@ pub mod Distinct
 pub mod MethodLists
 pub mod ClassTexts
 pub mod ClassAgrees
+pub mod ClassLaws
+mod Examples

@@ -21,7 +21,8 @@ use Rattle.pv_class.specs.ClassFiles.{IsMethod, AreDistinct}
 use Rattle.pv_class.proofs.Takings.{IsTexts, same_texts, then_texts, check_texts, here_texts, give_texts, Follow, with_u2, joined, ended}
 use Rattle.pv_class.proofs.ItemTexts.{both_of, of_both, text_found, text_told, text_is, IsFront, member_texts, with_attributes, front_of, front_text, member_parts}
 use Rattle.pv_class.proofs.MethodTexts.{KeepAll, kept_texts, code_among, among_threads}
-use Rattle.pv_class.proofs.Distinct.{Fresh, fresh_distinct, distinct_fresh, same_signature}
+use Rattle.pv_class.proofs.Deciding.{same_signature}
+use Rattle.pv_class.proofs.Distinct.{Fresh, fresh_distinct, distinct_fresh}
 
 -- ---- a method
 

@@ -1,5 +1,5 @@
 -- What reading a class file comes to, and that this is the one answer.
-use Rattle.std.proofs.Common.{◌≡◌, ℕ, ◌+◌, ◌-◌, ◌<◌, ◌≤◌, List, [], ◌++◌, length, take, drop, Result, Ok, Err, refl, sym, ap, subst, ◌∙◌, arith}
+use Rattle.std.proofs.Common.{◌≡◌, ℕ, ◌-◌, ◌<◌, ◌≤◌, List, [], length, take, drop, Result, Ok, Err, refl, sym, ap, subst, ◌∙◌, arith}
 use Rattle.std.proofs.lemmas.List.{length-append, length-drop, take_all}
 use Rattle.pv_pool.specs.declared.entry.Entry.{Entry}
 use Rattle.pv_pool.specs.declared.fault.PoolFault.{PoolFault}
@@ -13,9 +13,8 @@ use Rattle.pv_class.specs.declared.file.ClassFile.{ClassFile}
 use Rattle.pv_class.specs.declared.fault.Bad.{Bad}
 use Rattle.pv_class.specs.declared.fault.ClassCause.TheVariants as cause
 use Rattle.pv_class.specs.declared.fault.Failure.{Failure}
-use Rattle.pv_class.specs.Grammars.{bind, Takes, Stops}
+use Rattle.pv_class.specs.Grammars.{bind, Takes}
 use Rattle.pv_class.specs.ClassGrammar.{head, tail}
-use Rattle.pv_class.specs.ClassFiles.{IsClass}
 use Rattle.pv_class.specs.ClassFaults.{bad, bad_of, IsOfPool, HasHead, IsBad, too_long, in_head, in_pool, in_tail}
 use Rattle.pv_class.specs.declared.fault.ClassFault.{ClassFault}
 use Rattle.pv_class.specs.declared.fault.ClassFault.TheVariants as class
@@ -25,7 +24,7 @@ use Rattle.pv_pool.specs.Answers.{Answers}
 use Rattle.pv_class.specs.Answers.{IsAnswer, IsOnly, Told}
 use Rattle.pv_class.specs.Reading.{read, Fails, fault_of, of_pool}
 use Rattle.pv_class.proofs.Readings.{read_takes, takes_read, read_stops, stops_read}
-use Rattle.pv_class.proofs.ClassAgrees.{TakesAll, takes_class, class_taken}
+use Rattle.pv_class.proofs.ClassAgrees.{takes_class, class_taken}
 
 abbrev pub HeadRead : List ℕ → Type 0
 HeadRead bytes = (rest : List ℕ) × (read head bytes ≡ Ok (tt, rest))
@@ -107,12 +106,12 @@ no_fault bytes fits h e entries after p q =
     absurd (cc same)
 
 -- one pool, and so one reading behind it
-one_tail : (bytes : List ℕ) → HeadRead bytes → (entries other : List Entry) (after behind : ℕ) → IsPoolAt bytes 8 entries after → IsPoolAt bytes 8 other behind → (entries ≡ other) × (read (tail entries) (drop after bytes) ≡ read (tail other) (drop behind bytes))
+pub one_tail : (bytes : List ℕ) → HeadRead bytes → (entries other : List Entry) (after behind : ℕ) → IsPoolAt bytes 8 entries after → IsPoolAt bytes 8 other behind → (entries ≡ other) × (read (tail entries) (drop after bytes) ≡ read (tail other) (drop behind bytes))
 one_tail bytes h entries other after behind p q =
     let same = one_pool bytes 8 entries other after behind (head_long bytes h) p q in
     (same.0, ap (λ (x : List Entry). read (tail x) (drop after bytes)) same.0 ∙ ap (λ (k : ℕ). read (tail other) (drop k bytes)) same.1)
 
-one_reading : (ms ms' : List Method) → ◌≡◌ {A = Result (List Method × List ℕ) Failure} (Ok (ms, [])) (Ok (ms', [])) → ms ≡ ms'
+pub one_reading : (ms ms' : List Method) → ◌≡◌ {A = Result (List Method × List ℕ) Failure} (Ok (ms, [])) (Ok (ms', [])) → ms ≡ ms'
 one_reading ms ms' e =
     let same : ◌≡◌ {A = List Method × List ℕ} (ms, []) (ms', []) = cc e in
     ap (λ (p : List Method × List ℕ). p.0) same

@@ -1,5 +1,5 @@
 -- Class files: bytes that spell items which meet the conditions of the format (JVMS 4.1 to 4.7.3), and what they hold.
-use Rattle.std.specs.Prelude.{◌≡◌, ◌⊎◌, ℕ, ◌≤◌, List, [], ◌∷◌, ◌++◌, length, Option, Some, None, slice_get, codes}
+use Rattle.std.specs.Prelude.{◌≡◌, ◌⊎◌, ℕ, ◌≤◌, List, ◌∷◌, ◌++◌, length, Option, Some, None, slice_get, codes}
 use Rattle.std.specs.List.{AllByRecursion, AllZip}
 use Rattle.pv_value.specs.declared.descriptor.Descriptor.{Descriptor}
 use Rattle.pv_value.specs.declared.descriptor.JType.{JType}
@@ -18,15 +18,16 @@ code_word = codes "Code"
 abbrev pub IsCodeAttribute : List Entry → Attribute → Type 0
 IsCodeAttribute pool a = text_under pool a.name ≡ Some code_word
 
+-- what is kept of a Code
+abbrev pub code_of : CodeItems → Code
+code_of c = record { max_stack = c.max_stack; max_locals = c.max_locals; bytes = c.code; handlers = length c.handlers }
+
 -- what a Code attribute holds
 pub record HoldsCode (pool : List Entry) (contents : List ℕ) (items : CodeItems) (code : Code) : Type 0 where
   pub spelled : contents ≡ code_text items
   pub fits : FitsCode items
   pub names : AllByRecursion (λ a. HasText pool a.name) items.attributes
-  pub max_stack : code.max_stack ≡ items.max_stack
-  pub max_locals : code.max_locals ≡ items.max_locals
-  pub bytes : code.bytes ≡ items.code
-  pub handlers : code.handlers ≡ length items.handlers
+  pub held : code ≡ code_of items
 
 -- one of the attributes is the Code, and no other
 pub record OneCode (pool : List Entry) (attributes : List Attribute) (code : Code) : Type 0 where
@@ -70,15 +71,14 @@ pub record Describes (i : Items) (file : ClassFile) : Type 0 where
   pub fits : FitsItems i
   pub old : 45 ≤ i.major
   pub young : i.major ≤ 69
-  pub pool : IsPoolText i.pool_text i.pool
-  pub this : HasClass i.pool i.this
-  pub super : (i.super ≡ 0) ⊎ HasClass i.pool i.super
-  pub interfaces : AllByRecursion (HasClass i.pool) i.interfaces
-  pub fields : AllByRecursion (IsField i.pool) i.fields
-  pub methods : AllZip (IsMethod i.pool) i.methods file.methods
+  pub pool : IsPoolText i.pool_text file.pool
+  pub this : HasClass file.pool i.this
+  pub super : (i.super ≡ 0) ⊎ HasClass file.pool i.super
+  pub interfaces : AllByRecursion (HasClass file.pool) i.interfaces
+  pub fields : AllByRecursion (IsField file.pool) i.fields
+  pub methods : AllZip (IsMethod file.pool) i.methods file.methods
   pub distinct : AreDistinct file.methods
-  pub attributes : AllByRecursion (λ a. HasText i.pool a.name) i.attributes
-  pub pool_is : file.pool ≡ i.pool
+  pub attributes : AllByRecursion (λ a. HasText file.pool a.name) i.attributes
 
 -- the bytes are the class file
 pub record IsClass (bytes : List ℕ) (file : ClassFile) : Type 0 where

@@ -2,7 +2,6 @@
 use Rattle.std.specs.Prelude.{ℕ, ◌<◌, ◌^◌, List, ◌++◌, length}
 use Rattle.std.specs.List.{flat_map, AllByRecursion}
 use Rattle.std.specs.Int.{w16, w32, to_be_bytes}
-use Rattle.pv_pool.specs.declared.entry.Entry.{Entry}
 
 abbrev pub u2 : ℕ → List ℕ
 u2 n = to_be_bytes w16 n
@@ -84,12 +83,11 @@ pub record FitsCode (c : CodeItems) : Type 0 where
   pub handlers : IsTable FitsHandler c.handlers
   pub attributes : IsTable FitsAttribute c.attributes
 
--- a class file (JVMS 4.1); its constant pool has this text and these entries
+-- a class file (JVMS 4.1); its constant pool has this text
 pub record Items : Type 0 where
   pub minor : ℕ
   pub major : ℕ
   pub pool_text : List ℕ
-  pub pool : List Entry
   pub flags : ℕ
   pub this : ℕ
   pub super : ℕ

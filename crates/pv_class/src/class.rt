@@ -125,11 +125,7 @@ fn class_end_at<'a>(
 }
 
 /// What stands behind the constant pool.
-fn tail_at<'a>(
-    alloc: Global,
-    pool: &Pool,
-    bytes: &'a [u8],
-) -> Result<(Methods, &'a [u8]), Stop>
+fn tail_at<'a>(alloc: Global, pool: &Pool, bytes: &'a [u8]) -> Result<(Methods, &'a [u8]), Stop>
     ensures read { Gives (λ x. (x.0, x.1.now)) result (read (tail pool.now) bytes.now) }
     ensures end { IfOk result (λ x. x.1.now ≡ []) }
 {
@@ -166,3 +162,6 @@ pub fn read_class(alloc: Global, bytes: &[u8]) -> Result<ClassFile, ClassFault>
         Err(stop) => Err(stop.in_file(bytes.len())),
     }
 }
+
+#[cfg(test)]
+mod tests;

@@ -19,11 +19,7 @@ const LONGEST_CODE: u32 = 65535;
 /// A Code up to its exception table (JVMS 4.7.3), in an attribute that begins where `start` bytes are
 /// left.
 #[tactic(auto, unfolding(crate::specs::Reading::read, crate::specs::Grammars::bind, crate::specs::ClassGrammar::code_front))]
-fn code_front_at(
-    room: Room,
-    start: usize,
-    bytes: &[u8],
-) -> Result<((u16, u16, &[u8]), &[u8]), Stop>
+fn code_front_at(room: Room, start: usize, bytes: &[u8]) -> Result<((u16, u16, &[u8]), &[u8]), Stop>
     ensures { Gives (λ x. ((x.0.0, x.0.1, x.0.2.now), x.1.now)) result (read (code_front room start) bytes.now) }
 {
     let (max_stack, rest) = u16_at(room, bytes)?;

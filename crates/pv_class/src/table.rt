@@ -6,7 +6,7 @@ ghost use Rattle.pv_class.specs.ClassGrammar.{skipped, handler, interface};
 ghost use Rattle.pv_class.specs.Reading.{Gives, read, entry_of};
 
 use crate::fault::Stop;
-use crate::items::{contents_at, class_index_at, text_index_at, u16_at};
+use crate::items::{class_index_at, contents_at, text_index_at, u16_at};
 use crate::room::Room;
 use pv_pool::Pool;
 

@@ -1,4 +1,4 @@
-use Rattle.std.proofs.Common.{◌≡◌, ◌∙◌, Err, Bool, true, false, sym, length, is_some, rules}
+use Rattle.std.proofs.Common.{◌≡◌, Err, true, false, is_some, rules}
 use Rattle.pv_class.specs.ClassGrammar.{is_code}
 use Rattle.pv_class.proofs.Grammars.{gives_err}
 use Rattle.pv_class.proofs.MethodAttributes.{name_fails, other_fails, other_reads, second_fails, code_fails, code_reads}

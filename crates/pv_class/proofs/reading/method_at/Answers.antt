@@ -1,7 +1,4 @@
-use Rattle.std.proofs.Common.{◌≡◌, ◌∙◌, Err, Bool, true, false, sym, ap, rules}
-use Rattle.pv_class.specs.declared.signature.Signature.{Signature}
-use Rattle.pv_class.specs.Checks.{new}
-use Rattle.pv_class.specs.Deciding.{passes}
+use Rattle.std.proofs.Common.{◌≡◌, Err, true, false, rules}
 use Rattle.pv_class.specs.ClassGrammar.{signature_of}
 use Rattle.pv_class.proofs.Grammars.{gives_err}
 use Rattle.pv_class.proofs.MethodReads.{put_as, member_fails, duplicate, count_fails, code_fails, method_reads}

@@ -1,6 +1,5 @@
-use Rattle.std.proofs.Common.{◌≡◌, ◌∙◌, [], ◌∷◌, ◌++◌, Err, List, ℕ, refl, sym, ap, subst, rules}
-use Rattle.pv_class.specs.declared.file.Method.{Method}
-use Rattle.pv_class.specs.ClassGrammar.{signature, signatures, methods}
+use Rattle.std.proofs.Common.{◌≡◌, ◌∙◌, [], ◌∷◌, ◌++◌, Err, List, refl, sym, ap, rules}
+use Rattle.pv_class.specs.ClassGrammar.{signature, signatures}
 use Rattle.pv_class.proofs.Grammars.{fails_as, gives_err}
 use Rattle.pv_class.proofs.MethodReads.{signatures_more, methods_begin, methods_more, methods_fail, methods_end, fails_seen, reads_seen}
 use Rattle.pv_class.proofs.reading.methods_at.Goals as goal
@@ -19,9 +18,10 @@ returns-in_err-method c =
 pub loop-preserved : goal.loop-preserved
 loop-preserved c =
     let read = reads_seen c.args.pool.now c.loop.seen (signatures c.loop.methods.items) c.loop.rest.now c.in_ok-method.after.now c.in_ok-method.method c.loop.invariant.1 c.in_ok-method.ensures.read in
-    rw c.in_ok-push.ensures.items
-    (c.loop.invariant.0 ∙ methods_more c.args.pool.now c.args.count c.loop.counter c.loop.methods.items c.in_ok-method.method c.loop.rest.now c.in_ok-method.after.now c.loop-test.true read,
-    c.in_ok-method.ensures.seen ∙ ap (λ (ss : List _). ss ++ signature c.in_ok-method.method ∷ []) c.loop.invariant.1 ∙ sym (signatures_more c.loop.methods.items c.in_ok-method.method))
+    rw c.in_ok-push.ensures.items (
+      c.loop.invariant.0 ∙ methods_more c.args.pool.now c.args.count c.loop.counter c.loop.methods.items c.in_ok-method.method c.loop.rest.now c.in_ok-method.after.now c.loop-test.true read,
+      c.in_ok-method.ensures.seen ∙ ap (λ (ss : List _). ss ++ signature c.in_ok-method.method ∷ []) c.loop.invariant.1 ∙ sym (signatures_more c.loop.methods.items c.in_ok-method.method),
+    )
 
 pub returns : goal.returns
 returns c = rw c.from.ensures (c.loop.invariant.0 ∙ methods_end c.args.pool.now c.args.count c.loop.counter c.loop.methods.items c.loop.rest.now c.loop-test.false)

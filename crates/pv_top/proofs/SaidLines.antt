@@ -18,7 +18,7 @@ use Rattle.pv_top.specs.Lines.{hex_digit, shown, shown_byte, cause_text, side_wo
 use Rattle.pv_top.specs.Report.{lines_of}
 use Rattle.pv_top.specs.Run.{IsLineOf, EndsWith}
 use Rattle.pv_top.proofs.WholeLines.{IsWhole, no_line_of_nothing, first_or_later}
-use Rattle.pv_top.proofs.Decimals.{whole_decimal, last_digit}
+use Rattle.pv_top.proofs.Decimals.{last_digit}
 
 pub whole_append : (a b : List ℕ) → IsWhole a → IsWhole b → IsWhole (a ++ b)
 whole_append [] b p q = q

@@ -1,4 +1,4 @@
-use Rattle.std.proofs.Common.{List, ℕ, inl, inr, Ok, Err, subst}
+use Rattle.std.proofs.Common.{List, inl, inr, Ok, Err, subst}
 use Rattle.std.specs.Prelude.{IfOk}
 use Rattle.pv_class.specs.declared.file.Method.{Method}
 use Rattle.pv_top.specs.Judging.{ReadsFetched, Compares}

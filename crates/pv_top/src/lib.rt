@@ -4,6 +4,10 @@
 //! words are a command (`Words`), which methods are converted by now and what their root is
 //! (`Built`, `Roots`), what the lines of a report are (`Verdicts`, `Lines`, `Report`), and what
 //! `run` answers and leaves (`Run`).
+//!
+//! `main` uses the clauses of `run`: each whole line `.. equivalent` that the sink took is true
+//! (`equivalent`), what each answer says of the words, of the files and of the outside (`answered`,
+//! `bad_words`), and what was asked of the outside (`asked`, `none_asked`, `held`).
 #![tactic(auto)]
 
 mod built;

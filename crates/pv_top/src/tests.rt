@@ -467,13 +467,44 @@ fn says_a_line_for_each_method(rt: HostRuntime) -> Result<(), Fail> {
     let same_name = int_method(b"f", b"(I)I", b"\x1a\xac");
     let instance = Sample { flags: 0x01, ..one };
     let other = int_method(b"g", b"()I", b"\x05\xac");
+    let gone = Sample {
+        code: None,
+        ..other
+    };
     let none = class(rt.alloc(), &[])?;
     let some = class(rt.alloc(), &[other, one, native, same_name])?;
     let changed = class(rt.alloc(), &[native, same_name, instance])?;
+    let native_partner = class(rt.alloc(), &[one, gone])?;
     let all = b"g ()I equivalent\nf ()I equivalent\nn ()V nocode first\nf (I)I equivalent\n";
     let few = b"g ()I missing\nf ()I missing\nn ()V nocode first\nf (I)I equivalent\n";
+    let two = b"g ()I nocode second\nf ()I equivalent\nn ()V missing\nf (I)I missing\n";
     expect_said(&rt, &none, &none, b"", Status::AllEquivalent)?;
     expect_said(&rt, &none, &some, b"", Status::AllEquivalent)?;
     expect_said(&rt, &some, &some, all, Status::Others)?;
-    expect_said(&rt, &some, &changed, few, Status::Others)
+    expect_said(&rt, &some, &changed, few, Status::Others)?;
+    expect_said(&rt, &some, &native_partner, two, Status::Others)
+}
+
+// A class P that implements Q, with a field K with a ConstantValue, a method `f (I)I` whose Code has a
+// LineNumberTable and a StackMapTable, a native method `K (I)I`, a SourceFile and InnerClasses.
+const WHOLE_CLASS: [&[u8]; 6] = [
+    b"\xCA\xFE\xBA\xBE\x00\x00\x00\x34",
+    b"\x00\x16\x01\x00\x01P\x07\x00\x01\x01\x00\x10java/lang/Object\x07\x00\x03\x01\x00\x01Q\x07\x00\x05\x01\x00\x01K\x01\x00\x01I\x01\x00\x0DConstantValue\x03\x00\x00\x00\x07\x01\x00\x01f\x01\x00\x04(I)I\x01\x00\x04Code\x01\x00\x0FLineNumberTable\x01\x00\x0DStackMapTable\x01\x00\x0ASourceFile\x01\x00\x06P.java\x01\x00\x0CInnerClasses\x01\x00\x03P$C\x07\x00\x13\x01\x00\x01C",
+    // flags, class, superclass, interfaces, and the field
+    b"\x00\x20\x00\x02\x00\x04\x00\x01\x00\x06\x00\x01\x00\x18\x00\x07\x00\x08\x00\x01\x00\x09\x00\x00\x00\x02\x00\x0A",
+    // f, whose code is iload_0, ifle 6, iload_0, ireturn, bipush 7, ireturn
+    b"\x00\x02\x00\x08\x00\x0B\x00\x0C\x00\x01\x00\x0D\x00\x00\x00\x2A\x00\x01\x00\x01\x00\x00\x00\x09\x1A\x9E\x00\x05\x1A\xAC\x10\x07\xAC\x00\x00\x00\x02\x00\x0E\x00\x00\x00\x06\x00\x01\x00\x00\x00\x01\x00\x0F\x00\x00\x00\x03\x00\x01\x06",
+    b"\x01\x08\x00\x07\x00\x0C\x00\x00",
+    b"\x00\x02\x00\x10\x00\x00\x00\x02\x00\x11\x00\x12\x00\x00\x00\x0A\x00\x01\x00\x14\x00\x02\x00\x15\x00\x00",
+];
+
+// A class with all that a compiler writes.
+#[test]
+fn reads_a_whole_class(rt: HostRuntime) -> Result<(), Fail> {
+    let mut bytes = Vec::new(rt.alloc());
+    for part in WHOLE_CLASS {
+        bytes.extend_from_slice(part)?;
+    }
+    let said = b"f (I)I refused first not-built at 0\nK (I)I nocode first\n";
+    expect_said(&rt, &bytes, &bytes, said, Status::Others)
 }

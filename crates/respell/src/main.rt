@@ -7,6 +7,8 @@
 
 mod checking;
 mod spelling;
+#[cfg(test)]
+mod tests;
 
 use checking::{Counts, check_file};
 use std::process::ExitCode;

@@ -384,19 +384,40 @@ fn fills_a_sink_that_is_too_small(rt: HostRuntime) -> Result<(), Fail> {
     Ok(())
 }
 
+// Bytes with one of them changed.
+fn changed<R: AllocGlobal + Abort>(
+    rt: &R,
+    bytes: &[u8],
+    place: usize,
+    byte: u8,
+) -> Result<Vec<u8>, AllocError> {
+    let mut changed = bytes.to_vec(rt.alloc())?;
+    assert!(rt; place < changed.len());
+    changed[place] = byte;
+    Ok(changed)
+}
+
+// The first of the bytes.
+fn front<R: AllocGlobal + Abort>(
+    rt: &R,
+    bytes: &[u8],
+    length: usize,
+) -> Result<Vec<u8>, AllocError> {
+    assert!(rt; length <= bytes.len());
+    bytes[..length].to_vec(rt.alloc())
+}
+
 // Files without a reading.
 #[test]
 fn says_which_file_has_no_reading(rt: HostRuntime) -> Result<(), Fail> {
     let good = class(rt.alloc(), &[constant()])?;
     let empty = Vec::new(rt.alloc());
     let long = vec![in rt.alloc(); 0; 4194305]?;
-    let mut old = good.to_vec(rt.alloc())?;
-    old[7] = 44;
-    let mut short_code = good.to_vec(rt.alloc())?;
-    short_code[81] = 13;
+    let old = changed(&rt, &good, 7, 44)?;
+    let short_code = changed(&rt, &good, 81, 13)?;
     let mut more = good.to_vec(rt.alloc())?;
     more.push(0)?;
-    let cut = good[..97].to_vec(rt.alloc())?;
+    let cut = front(&rt, &good, 97)?;
     let rows: [(&Vec<u8>, &Vec<u8>, &[u8]); 9] = [
         (&empty, &good, b"bad class first truncated at 0\n"),
         (&good, &empty, b"bad class second truncated at 0\n"),
@@ -428,7 +449,7 @@ fn says_where_a_file_is_cut(rt: HostRuntime) -> Result<(), Fail> {
         let place = ITEMS.iter().filter(|item| **item <= n).max();
         let place = place.copied().unwrap_or(0);
         let said = format!(in rt.alloc(); "bad class first truncated at {place}\n")?;
-        let cut = good[..n].to_vec(rt.alloc())?;
+        let cut = front(&rt, &good, n)?;
         expect_said(&rt, &cut, &good, said.as_bytes(), Status::BadClass)?;
     }
     Ok(())
@@ -440,8 +461,7 @@ fn says_one_line_of_a_changed_class(rt: HostRuntime) -> Result<(), Fail> {
     let good = class(rt.alloc(), &[constant()])?;
     for place in 0..98 {
         for byte in [0, 255] {
-            let mut changed = good.to_vec(rt.alloc())?;
-            changed[place] = byte;
+            let changed = changed(&rt, &good, place, byte)?;
             let mut files = files(rt.alloc(), &changed, &good, &[])?;
             let mut out = MemSink::new(rt.alloc(), 1000)?;
             let words = ["validate", "A", "B"];

@@ -1,7 +1,7 @@
 -- Worked examples: two methods of two ints, of which the first returns their sum, and the second the sum the other way round.
 use Rattle.std.proofs.Common.{◌≡◌, ℕ, true, false, List, [], ◌∷◌, ◌++◌, slice_get, Some, zero, suc, refl, sym, ◌∙◌, true≢false, eqb, lit<}
 use Rattle.std.specs.List.{Contains, list_any}
-use Rattle.pv_value.specs.declared.operation.ScalarOp.TheVariants.{Iadd}
+use Rattle.pv_value.specs.declared.int_op.IntOp.TheVariants.{Iadd}
 use Rattle.pv_graph.specs.declared.node.Op.TheVariants as op
 use Rattle.pv_graph.specs.declared.node.OpSort.TheVariants.{I}
 use Rattle.pv_graph.specs.declared.node.Node.{Node}

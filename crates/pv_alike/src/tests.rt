@@ -1,6 +1,6 @@
 use crate::{Least, least};
 use pv_graph::{Graph, GraphFault, NodeId, Op, OpSort};
-use pv_value::ScalarOp;
+use pv_value::IntOp;
 use std::alloc::Global;
 use std::process::Abort;
 use std::test::Fail;
@@ -45,10 +45,10 @@ fn two_sums(alloc: Global) -> Result<Graph, GraphFault> {
     add(&mut graph, alloc, Op::Clear, &[])?;
     add(&mut graph, alloc, Op::Param(0, OpSort::I), &[])?;
     add(&mut graph, alloc, Op::Param(1, OpSort::I), &[])?;
-    add(&mut graph, alloc, Op::Scalar(ScalarOp::Iadd), &[2, 3])?;
+    add(&mut graph, alloc, Op::Scalar(IntOp::Iadd), &[2, 3])?;
     add(&mut graph, alloc, Op::Heap0, &[])?;
     add(&mut graph, alloc, Op::Root, &[0, 1, 4, 5])?;
-    add(&mut graph, alloc, Op::Scalar(ScalarOp::Iadd), &[3, 2])?;
+    add(&mut graph, alloc, Op::Scalar(IntOp::Iadd), &[3, 2])?;
     add(&mut graph, alloc, Op::Root, &[0, 1, 7, 5])?;
     Ok(graph)
 }
@@ -61,12 +61,12 @@ fn sums_both_ways(rt: HostRuntime) -> Result<(), Fail> {
     assert_node(&rt, &l, 0, Op::Root, &[1, 2, 3, 6]);
     assert_node(&rt, &l, 1, Op::Unit, &[]);
     assert_node(&rt, &l, 2, Op::Clear, &[]);
-    assert_node(&rt, &l, 3, Op::Scalar(ScalarOp::Iadd), &[4, 5]);
+    assert_node(&rt, &l, 3, Op::Scalar(IntOp::Iadd), &[4, 5]);
     assert_node(&rt, &l, 4, Op::Param(0, OpSort::I), &[]);
     assert_node(&rt, &l, 5, Op::Param(1, OpSort::I), &[]);
     assert_node(&rt, &l, 6, Op::Heap0, &[]);
     assert_node(&rt, &l, 7, Op::Root, &[1, 2, 8, 6]);
-    assert_node(&rt, &l, 8, Op::Scalar(ScalarOp::Iadd), &[5, 4]);
+    assert_node(&rt, &l, 8, Op::Scalar(IntOp::Iadd), &[5, 4]);
     Ok(())
 }
 
@@ -75,7 +75,7 @@ fn one_root_twice(rt: HostRuntime) -> Result<(), Fail> {
     let graph = two_sums(rt.alloc())?;
     let l = least_of(&rt, rt.alloc(), &graph, 8, 8)?;
     assert_eq!(rt; (l.len(), l.first(), l.second()), (7, 0, 0));
-    assert_node(&rt, &l, 3, Op::Scalar(ScalarOp::Iadd), &[4, 5]);
+    assert_node(&rt, &l, 3, Op::Scalar(IntOp::Iadd), &[4, 5]);
     assert_node(&rt, &l, 4, Op::Param(1, OpSort::I), &[]);
     Ok(())
 }
@@ -86,7 +86,7 @@ fn unreached_nodes_left_out(rt: HostRuntime) -> Result<(), Fail> {
     let l = least_of(&rt, rt.alloc(), &graph, 3, 4)?;
     assert_eq!(rt; (l.len(), l.first(), l.second()), (3, 0, 1));
     assert_node(&rt, &l, 0, Op::Param(1, OpSort::I), &[]);
-    assert_node(&rt, &l, 1, Op::Scalar(ScalarOp::Iadd), &[2, 0]);
+    assert_node(&rt, &l, 1, Op::Scalar(IntOp::Iadd), &[2, 0]);
     assert_node(&rt, &l, 2, Op::Param(0, OpSort::I), &[]);
     Ok(())
 }

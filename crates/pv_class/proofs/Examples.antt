@@ -7,8 +7,8 @@ use Rattle.pv_value.specs.declared.descriptor.Descriptor.{Descriptor}
 use Rattle.pv_value.specs.declared.number.Num.TheVariants as num
 use Rattle.pv_value.specs.declared.outcome.Input.{Input}
 use Rattle.pv_value.specs.declared.outcome.Outcome.TheVariants.{Returned}
-use Rattle.pv_value.specs.declared.operation.ScalarOp.TheVariants.{Iadd, Isub}
-use Rattle.pv_value.specs.ScalarLaws.{scalar_exact}
+use Rattle.pv_value.specs.declared.int_op.IntOp.TheVariants.{Iadd, Isub}
+use Rattle.pv_value.specs.IntOps.{scalar_exact}
 use Rattle.pv_value.specs.Descriptors.{IsMethodType}
 use Rattle.pv_value.specs.Worlds.{empty_world}
 use Rattle.pv_pool.specs.declared.entry.Entry.{Entry}

@@ -1,6 +1,6 @@
 -- What instructions do (JVMS 6.5).
 use Rattle.std.specs.Prelude.{ℕ, ◌-◌, pos, ◌-ℤ◌, nat_le, ◌==◌, ◌&&◌, if◌then◌else◌}
-use Rattle.pv_value.specs.declared.operation.ScalarOp.TheVariants.{Iadd, Isub, Imul}
+use Rattle.pv_value.specs.declared.int_op.IntOp.TheVariants.{Iadd, Isub, Imul}
 use Rattle.pv_class.specs.declared.instruction.Insn.{Insn}
 use Rattle.pv_class.specs.declared.instruction.Insn.TheVariants as insn
 use Rattle.pv_class.specs.declared.instruction.Action.{Action}

@@ -12,8 +12,8 @@ use Rattle.pv_value.specs.declared.outcome.Input.{Input}
 use Rattle.pv_value.specs.declared.outcome.Outcome.{Outcome}
 use Rattle.pv_value.specs.declared.outcome.Outcome.TheVariants.{Returned}
 use Rattle.pv_value.specs.declared.heap.Heap.{Heap}
-use Rattle.pv_value.specs.declared.operation.ScalarOp.{ScalarOp}
-use Rattle.pv_value.specs.Scalar.{scalar_of}
+use Rattle.pv_value.specs.declared.int_op.IntOp.{IntOp}
+use Rattle.pv_value.specs.IntOps.{scalar_of}
 use Rattle.pv_value.specs.Descriptors.{IsMethodType}
 use Rattle.pv_value.specs.Inputs.{Fits}
 use Rattle.pv_value.specs.Worlds.{IsWorld}
@@ -104,7 +104,7 @@ loaded s (Some (Some (num.Int n))) = next s (num.Int n ∷ s.stack)
 loaded s local = running s
 
 -- the second operand lies on top
-abbrev pub computed : State → ScalarOp → List Num → Now
+abbrev pub computed : State → IntOp → List Num → Now
 computed s op (num.Int b ∷ num.Int a ∷ stack) = next s (num.Int (scalar_of op a b) ∷ stack)
 computed s op stack = running s
 

@@ -5,7 +5,7 @@ ghost use Rattle.pv_class.specs.declared.instruction.Insn.{Insn};
 ghost use Rattle.std.specs.Int.{w8, w16};
 ghost use Rattle.pv_class.specs.Instructions.{IsCode, Begins, BeginsSigned, HasNoNumber};
 
-use pv_value::{Memory, ScalarOp};
+use pv_value::{IntOp, Memory};
 use std::alloc::Global;
 use std::marker::Model;
 
@@ -30,7 +30,7 @@ pub enum Action {
     /// Pushes the int in a local.
     Load(u16),
     /// Takes two ints from the operand stack, and pushes what the operation gives of them.
-    Scalar(ScalarOp),
+    Scalar(IntOp),
     /// Ends the method with the int on top of the operand stack.
     ReturnInt,
     /// Something that isn't built yet.
@@ -48,9 +48,9 @@ impl Insn {
             Insn::Plain(0) => Action::Nop,
             Insn::Plain(opcode @ 2..=8) => Action::Push(i32::from(opcode) - 3),
             Insn::Plain(opcode @ 26..=29) => Action::Load(u16::from(opcode) - 26),
-            Insn::Plain(96) => Action::Scalar(ScalarOp::Iadd),
-            Insn::Plain(100) => Action::Scalar(ScalarOp::Isub),
-            Insn::Plain(104) => Action::Scalar(ScalarOp::Imul),
+            Insn::Plain(96) => Action::Scalar(IntOp::Iadd),
+            Insn::Plain(100) => Action::Scalar(IntOp::Isub),
+            Insn::Plain(104) => Action::Scalar(IntOp::Imul),
             Insn::Plain(172) => Action::ReturnInt,
             Insn::Plain(_) => Action::Unknown,
             Insn::Local(_, local) => Action::Load(local),

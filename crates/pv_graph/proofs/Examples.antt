@@ -7,7 +7,7 @@ use Rattle.pv_value.specs.declared.outcome.Input.{Input}
 use Rattle.pv_value.specs.declared.outcome.Val.TheVariants as val
 use Rattle.pv_value.specs.declared.number.Num.{Num}
 use Rattle.pv_value.specs.declared.number.Num.TheVariants as num
-use Rattle.pv_value.specs.declared.operation.ScalarOp.TheVariants.{Iadd, Isub, Imul}
+use Rattle.pv_value.specs.declared.int_op.IntOp.TheVariants.{Iadd, Isub, Imul}
 use Rattle.pv_value.specs.declared.outcome.Outcome.TheVariants.{Returned}
 use Rattle.pv_graph.specs.declared.node.Op.{Op}
 use Rattle.pv_graph.specs.declared.node.Op.TheVariants as op

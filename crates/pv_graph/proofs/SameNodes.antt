@@ -10,9 +10,9 @@ use Rattle.std.proofs.lemmas.List.Quantifiers.{position-Some}
 use Rattle.std.proofs.lemmas.List.Sums.{fails_before_first}
 use Rattle.indexmap.specs.IndexMap.{insert_entry}
 use denote.Enum.Bare.{same_true}
-use Rattle.pv_value.specs.contracts.operation.ScalarOp.{the_type as a_scalar}
-use Rattle.pv_value.specs.contracts.operation.ScalarOpPartialEq.TheImpl.{eq-value as scalar_eq}
-use Rattle.pv_value.specs.declared.operation.ScalarOp.{ScalarOp}
+use Rattle.pv_value.specs.contracts.int_op.IntOp.{the_type as a_scalar}
+use Rattle.pv_value.specs.contracts.int_op.IntOpPartialEq.TheImpl.{eq-value as scalar_eq}
+use Rattle.pv_value.specs.declared.int_op.IntOp.{IntOp}
 use Rattle.pv_graph.specs.contracts.node.OpSort.{the_type as a_sort}
 use Rattle.pv_graph.specs.contracts.node.OpSortPartialEq.TheImpl.{eq-value as sort_eq}
 use Rattle.pv_graph.specs.contracts.node.NodePartialEq.TheImpl.{eq-value as node_eq}
@@ -31,7 +31,7 @@ and_parts false b e = absurd (cc)
 same_sorts : (s t : OpSort) → sort_eq.it s t ≡ true → s ≡ t
 same_sorts s t e = same_true a_sort tt s t e
 
-same_scalars : (a b : ScalarOp) → scalar_eq.it a b ≡ true → a ≡ b
+same_scalars : (a b : IntOp) → scalar_eq.it a b ≡ true → a ≡ b
 same_scalars a b e = same_true a_scalar tt a b e
 
 same_ops : (a b : Op) → op_eq.it a b ≡ true → a ≡ b

@@ -10,8 +10,8 @@ use Rattle.pv_value.specs.declared.outcome.Fault.{Fault}
 use Rattle.pv_value.specs.declared.outcome.Fault.TheVariants as fault
 use Rattle.pv_value.specs.declared.outcome.Outcome.TheVariants.{Returned, Threw}
 use Rattle.pv_value.specs.declared.heap.Heap.{Heap}
-use Rattle.pv_value.specs.declared.operation.ScalarOp.{ScalarOp}
-use Rattle.pv_value.specs.Scalar.{scalar_of}
+use Rattle.pv_value.specs.declared.int_op.IntOp.{IntOp}
+use Rattle.pv_value.specs.IntOps.{scalar_of}
 use Rattle.pv_graph.specs.declared.node.Op.{Op}
 use Rattle.pv_graph.specs.declared.node.Op.TheVariants as op
 use Rattle.pv_graph.specs.declared.node.OpSort.{OpSort}
@@ -49,7 +49,7 @@ abbrev pub param_of : List Num → ℕ → OpSort → Num
 param_of args j s = number_of s (slice_get args j)
 
 -- the value of a scalar operation over two ints
-abbrev pub scalar_value : ScalarOp → List Val → Option Val
+abbrev pub scalar_value : IntOp → List Val → Option Val
 scalar_value o (val.Num (num.Int a) ∷ val.Num (num.Int b) ∷ []) = Some (val.Num (num.Int (scalar_of o a b)))
 scalar_value o vs = None
 

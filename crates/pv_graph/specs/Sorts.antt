@@ -1,8 +1,8 @@
 -- The sorts of operations over kids.
 use Rattle.std.specs.Prelude.{◌≡◌, ℕ, List, [], ◌∷◌, Option, Some, None, slice_get, length}
 use Rattle.std.specs.List.{AllZip}
-use Rattle.pv_value.specs.declared.operation.ScalarOp.{ScalarOp}
-use Rattle.pv_value.specs.declared.operation.ScalarOp.TheVariants.{Iadd, Isub, Imul}
+use Rattle.pv_value.specs.declared.int_op.IntOp.{IntOp}
+use Rattle.pv_value.specs.declared.int_op.IntOp.TheVariants.{Iadd, Isub, Imul}
 use Rattle.pv_graph.specs.declared.node.Op.{Op}
 use Rattle.pv_graph.specs.declared.node.Op.TheVariants.{Int, Long, Null, Param, Heap0, Unit, Clear, Scalar, Root}
 use Rattle.pv_graph.specs.declared.node.OpSort.{OpSort}
@@ -30,7 +30,7 @@ over_ints (I ∷ I ∷ []) = Some I
 over_ints sorts = None
 
 -- what each scalar operation takes and gives
-abbrev pub scalar_sort : ScalarOp → List OpSort → Option OpSort
+abbrev pub scalar_sort : IntOp → List OpSort → Option OpSort
 scalar_sort Iadd sorts = over_ints sorts
 scalar_sort Isub sorts = over_ints sorts
 scalar_sort Imul sorts = over_ints sorts

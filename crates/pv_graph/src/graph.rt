@@ -10,7 +10,7 @@ ghost use Rattle.std.specs.Map.{keys_of, values_of};
 use crate::fault::GraphFault;
 use crate::node::{Kids, Node, NodeId, Op, OpSort};
 use indexmap::IndexMap;
-use pv_value::ScalarOp;
+use pv_value::IntOp;
 use std::alloc::{AllocError, Global};
 use std::marker::Model;
 
@@ -55,13 +55,11 @@ fn sort_of_param(sort: OpSort) -> Option<OpSort>
 }
 
 // The sort of a scalar operation over operands of these sorts.
-fn sort_of_scalar(op: ScalarOp, kids: &[OpSort]) -> Option<OpSort>
+fn sort_of_scalar(op: IntOp, kids: &[OpSort]) -> Option<OpSort>
     ensures { result ≡ scalar_sort op kids.now }
 {
     match (op, kids) {
-        (ScalarOp::Iadd | ScalarOp::Isub | ScalarOp::Imul, [OpSort::I, OpSort::I]) => {
-            Some(OpSort::I)
-        }
+        (IntOp::Iadd | IntOp::Isub | IntOp::Imul, [OpSort::I, OpSort::I]) => { Some(OpSort::I) }
         _ => None,
     }
 }

@@ -6,7 +6,7 @@ ghost use Rattle.std.specs.Cmp.Rules.{comparing, hashing};
 ghost use Rattle.std.specs.Hash as fed;
 ghost use Rattle.std.proofs.Common.{rules};
 
-use pv_value::{Memory, ScalarOp};
+use pv_value::{IntOp, Memory};
 use std::alloc::Global;
 use std::hash::{Hash, Hasher};
 use std::marker::Model;
@@ -27,7 +27,7 @@ pub enum Op {
     Heap0,
     Unit,
     Clear,
-    Scalar(ScalarOp),
+    Scalar(IntOp),
     Root,
 }
 

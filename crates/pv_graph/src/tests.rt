@@ -1,5 +1,5 @@
 use crate::{Graph, GraphFault, NodeId, Op, OpSort};
-use pv_value::ScalarOp;
+use pv_value::IntOp;
 use std::alloc::Global;
 
 // A call with kids that the graph has; a kid that it lacks counts as of the wrong sort.
@@ -91,24 +91,24 @@ fn sums_of_arguments(rt: HostRuntime) -> Result<(), GraphFault> {
     assert_eq!(rt; add(&mut graph, alloc, Op::Param(1, OpSort::I), &[])?, 1);
     assert_eq!(rt; add(&mut graph, alloc, Op::Param(1, OpSort::L), &[])?, 2);
     assert_eq!(rt;
-        add(&mut graph, alloc, Op::Scalar(ScalarOp::Iadd), &[0, 1])?,
+        add(&mut graph, alloc, Op::Scalar(IntOp::Iadd), &[0, 1])?,
         3
     );
     assert_eq!(rt;
-        add(&mut graph, alloc, Op::Scalar(ScalarOp::Imul), &[0, 1])?,
+        add(&mut graph, alloc, Op::Scalar(IntOp::Imul), &[0, 1])?,
         4
     );
     assert_eq!(rt;
-        add(&mut graph, alloc, Op::Scalar(ScalarOp::Iadd), &[1, 0])?,
+        add(&mut graph, alloc, Op::Scalar(IntOp::Iadd), &[1, 0])?,
         5
     );
     assert_eq!(rt; add(&mut graph, alloc, Op::Param(1, OpSort::I), &[])?, 1);
     assert_eq!(rt;
-        add(&mut graph, alloc, Op::Scalar(ScalarOp::Iadd), &[0, 1])?,
+        add(&mut graph, alloc, Op::Scalar(IntOp::Iadd), &[0, 1])?,
         3
     );
     assert_eq!(rt;
-        add(&mut graph, alloc, Op::Scalar(ScalarOp::Isub), &[3, 4])?,
+        add(&mut graph, alloc, Op::Scalar(IntOp::Isub), &[3, 4])?,
         6
     );
     assert_eq!(rt; graph.len(), 7);
@@ -124,7 +124,7 @@ fn wrong_operands(rt: HostRuntime) -> Result<(), GraphFault> {
     let refused: [&[NodeId]; 5] = [&[], &[0], &[0, 1], &[1, 1], &[0, 0, 0]];
     for kids in refused {
         assert_eq!(rt;
-            add(&mut graph, alloc, Op::Scalar(ScalarOp::Isub), kids),
+            add(&mut graph, alloc, Op::Scalar(IntOp::Isub), kids),
             Err(GraphFault::Sort)
         );
     }

@@ -9,7 +9,7 @@ use crate::narrow::narrowed;
 use crate::program::Program;
 use crate::state::{Now, State};
 use pv_class::Action;
-use pv_value::{JType, Memory, Num, Outcome, ScalarOp, scalar};
+use pv_value::{JType, Memory, Num, Outcome, IntOp};
 
 /// What an action does.
 pub(crate) fn perform(p: &Program, state: State, action: Action) -> Result<Now, Memory>
@@ -56,12 +56,12 @@ fn load(state: State, local: u16) -> Result<Now, Memory>
 }
 
 // Takes two ints from the operand stack, puts what an operation gives of them there, and goes on.
-fn compute(mut state: State, op: ScalarOp) -> Result<Now, Memory>
+fn compute(mut state: State, op: IntOp) -> Result<Now, Memory>
     requires { state.at < usize.MAX }
     ensures { IfOk result (λ now. now_of now ≡ computed state op state.stack) }
 {
     match state.stack.take_ints() {
-        Some((a, b)) => push(state, scalar(op, i64::from(a), i64::from(b)) as i32),
+        Some((a, b)) => push(state, op.value(a, b)),
         None => Ok(Now::Running(state)),
     }
 }

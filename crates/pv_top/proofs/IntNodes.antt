@@ -2,8 +2,8 @@
 use Rattle.std.proofs.Common.{◌≡◌, ℕ, ◌<◌, List, [], ◌∷◌, length, Some, refl, ap, ◌∙◌, arith}
 use Rattle.std.specs.Prelude.{slice_get}
 use Rattle.std.proofs.lemmas.Option.{slice_get_within}
-use Rattle.pv_value.specs.declared.operation.ScalarOp.{ScalarOp}
-use Rattle.pv_value.specs.declared.operation.ScalarOp.TheVariants.{Iadd, Isub, Imul}
+use Rattle.pv_value.specs.declared.int_op.IntOp.{IntOp}
+use Rattle.pv_value.specs.declared.int_op.IntOp.TheVariants.{Iadd, Isub, Imul}
 use Rattle.pv_graph.specs.declared.node.Op.{Op}
 use Rattle.pv_graph.specs.declared.node.Op.TheVariants as op
 use Rattle.pv_graph.specs.declared.node.OpSort.{OpSort}
@@ -81,12 +81,12 @@ leaf_has g all n o s are there is = sort_of g all n o [] s are there (leaf_over 
 pub leaf_fits : (g : List Node) (o : Op) (s : OpSort) → IsGraph g → IsLeaf o s → FitsOver g o []
 leaf_fits g o s graph is = record { all = graph.sorted.0; sorts = graph.sorted.1; sort_ = s; has = record { sorts = []; kids_have = tt; over = is } }
 
-over_ints_is : (o : ScalarOp) → sort_over (op.Scalar o) (sort.I ∷ sort.I ∷ []) ≡ Some sort.I
+over_ints_is : (o : IntOp) → sort_over (op.Scalar o) (sort.I ∷ sort.I ∷ []) ≡ Some sort.I
 over_ints_is Iadd = refl
 over_ints_is Isub = refl
 over_ints_is Imul = refl
 
-pub computed_fits : (g : List Node) (o : ScalarOp) (a b : ℕ) → IsGraph g → IsInt g a → IsInt g b → FitsOver g (op.Scalar o) (a ∷ b ∷ [])
+pub computed_fits : (g : List Node) (o : IntOp) (a b : ℕ) → IsGraph g → IsInt g a → IsInt g b → FitsOver g (op.Scalar o) (a ∷ b ∷ [])
 computed_fits g o a b graph p q =
     let all = graph.sorted.0 in
     let are = graph.sorted.1 in

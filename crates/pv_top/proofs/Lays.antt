@@ -5,7 +5,7 @@ use Rattle.std.proofs.lemmas.List.{take_all, take_more, take-append-drop}
 use Rattle.std.proofs.lemmas.Option.{slice_get-get_or, slice_get_within, same_Some}
 use Rattle.pv_value.specs.declared.memory.Memory.{Memory}
 use Rattle.pv_class.specs.declared.instruction.Insn.{Insn}
-use Rattle.pv_value.specs.declared.operation.ScalarOp.{ScalarOp}
+use Rattle.pv_value.specs.declared.int_op.IntOp.{IntOp}
 use Rattle.pv_class.specs.declared.instruction.Action.TheVariants.{Nop, Push, Load, Scalar, ReturnInt}
 use Rattle.pv_class.specs.Actions.{action}
 use Rattle.pv_graph.specs.declared.node.Op.{Op}
@@ -43,7 +43,7 @@ two_of g a b ns [] have = absurd have
 two_of g a b ns (u ∷ []) have = absurd have.1
 two_of g a b ns (u ∷ t ∷ rest) have = (t, u, rest, refl, have.1.0, have.0, have.1.1)
 
-pub lays_scalar : (params : ℕ) (o : ScalarOp) (old new : List Node) (ns : List ℕ) (a b n : ℕ) → Grows old new → AreInts old (b ∷ a ∷ ns) → HasOver new n (op.Scalar o) (a ∷ b ∷ []) → LaysNodes params (Scalar o) old new (b ∷ a ∷ ns) (n ∷ ns) true
+pub lays_scalar : (params : ℕ) (o : IntOp) (old new : List Node) (ns : List ℕ) (a b n : ℕ) → Grows old new → AreInts old (b ∷ a ∷ ns) → HasOver new n (op.Scalar o) (a ∷ b ∷ []) → LaysNodes params (Scalar o) old new (b ∷ a ∷ ns) (n ∷ ns) true
 lays_scalar params o old new ns a b n grows ints there = record {
   trees = λ s have.
       let two = two_of old a b ns s have in
@@ -56,14 +56,14 @@ lays_scalar params o old new ns a b n grows ints there = record {
 }
 
 -- no operand, and one
-pub lays_on_none : (params : ℕ) (o : ScalarOp) (g : List Node) → LaysNodes params (Scalar o) g g [] [] false
+pub lays_on_none : (params : ℕ) (o : IntOp) (g : List Node) → LaysNodes params (Scalar o) g g [] [] false
 lays_on_none params o g = record { trees = λ s have t lays. none_of s t have lays; ints = tt }
   where
     none_of : (s t : List Tree) → HaveTrees g [] s → Lays params (Scalar o) s t → ⊥
     none_of [] t have (a, b, rest, e, is) = absurd (cc e)
     none_of (x ∷ s) t have lays = absurd have
 
-pub lays_on_one : (params : ℕ) (o : ScalarOp) (g : List Node) (n : ℕ) → LaysNodes params (Scalar o) g g (n ∷ []) [] false
+pub lays_on_one : (params : ℕ) (o : IntOp) (g : List Node) (n : ℕ) → LaysNodes params (Scalar o) g g (n ∷ []) [] false
 lays_on_one params o g n = record { trees = λ s have t lays. one_of s t have lays; ints = tt }
   where
     one_of : (s t : List Tree) → HaveTrees g (n ∷ []) s → Lays params (Scalar o) s t → ⊥
@@ -72,11 +72,11 @@ lays_on_one params o g n = record { trees = λ s have t lays. one_of s t have la
     one_of (x ∷ y ∷ s) t have lays = absurd have.1
 
 -- an operation on the operand stack reads no parameter
-anywhere_on : (params : ℕ) (o : ScalarOp) (old new : List Node) (ns ms : List ℕ) (on : Bool) → LaysNodes 0 (Scalar o) old new ns ms on → LaysNodes params (Scalar o) old new ns ms on
+anywhere_on : (params : ℕ) (o : IntOp) (old new : List Node) (ns ms : List ℕ) (on : Bool) → LaysNodes 0 (Scalar o) old new ns ms on → LaysNodes params (Scalar o) old new ns ms on
 anywhere_on params o old new ns ms true h = record { trees = λ s have. h.trees s have; ints = h.ints }
 anywhere_on params o old new ns ms false h = record { trees = λ s have. h.trees s have; ints = h.ints }
 
-pub scalar_anywhere : (params : ℕ) (o : ScalarOp) (old new : List Node) (ns ms : List ℕ) (r : Result Bool Memory) → IfOk r (λ on. LaysNodes 0 (Scalar o) old new ns ms on) → IfOk r (λ on. LaysNodes params (Scalar o) old new ns ms on)
+pub scalar_anywhere : (params : ℕ) (o : IntOp) (old new : List Node) (ns ms : List ℕ) (r : Result Bool Memory) → IfOk r (λ on. LaysNodes 0 (Scalar o) old new ns ms on) → IfOk r (λ on. LaysNodes params (Scalar o) old new ns ms on)
 scalar_anywhere params o old new ns ms (Ok on) h = anywhere_on params o old new ns ms on h
 scalar_anywhere params o old new ns ms (Err e) h = tt
 

@@ -7,13 +7,13 @@ use Rattle.pv_value.specs.declared.number.Num.{Num}
 use Rattle.pv_value.specs.declared.number.Num.TheVariants as num
 use Rattle.pv_value.specs.declared.descriptor.JType.{JType}
 use Rattle.pv_value.specs.declared.descriptor.JType.TheVariants as type
-use Rattle.pv_value.specs.declared.operation.ScalarOp.{ScalarOp}
+use Rattle.pv_value.specs.declared.int_op.IntOp.{IntOp}
 use Rattle.pv_value.specs.declared.world.World.{World}
 use Rattle.pv_value.specs.declared.outcome.Input.{Input}
 use Rattle.pv_value.specs.declared.outcome.Val.TheVariants as val
 use Rattle.pv_value.specs.declared.outcome.Outcome.TheVariants.{Returned}
 use Rattle.pv_value.specs.Inputs.{IsOfType, Fits}
-use Rattle.pv_value.specs.Scalar.{scalar_of}
+use Rattle.pv_value.specs.IntOps.{scalar_of}
 use Rattle.pv_class.specs.declared.instruction.Insn.{Insn}
 use Rattle.pv_class.specs.declared.instruction.Action.{Action}
 use Rattle.pv_class.specs.declared.instruction.Action.TheVariants.{Nop, Push, Load, Scalar, ReturnInt, Unknown}
@@ -76,7 +76,7 @@ gives_param : (w : World) (x : Input) (k : ℕ) (n : ℤ) → slice_get x.args k
 unfolding tree_value
 gives_param w x k n e = ap (λ (o : Option Num). Some (val.Num (number_of sort.I o))) e
 
-gives_scalar : (w : World) (x : Input) (o : ScalarOp) (a b : Tree) (n m : ℤ) → Gives w x a n → Gives w x b m → Gives w x (over (op.Scalar o) (first a (first b none))) (scalar_of o n m)
+gives_scalar : (w : World) (x : Input) (o : IntOp) (a b : Tree) (n m : ℤ) → Gives w x a n → Gives w x b m → Gives w x (over (op.Scalar o) (first a (first b none))) (scalar_of o n m)
 unfolding tree_value
 gives_scalar w x o a b n m p q = rw (p, q) refl
 

@@ -10,7 +10,7 @@ use crate::nodes::{computed, leaf};
 use crate::operands::Operands;
 use pv_class::{Action, Insn};
 use pv_graph::{Graph, NodeId, Op, OpSort};
-use pv_value::{Memory, ScalarOp};
+use pv_value::{Memory, IntOp};
 use std::alloc::Global;
 
 /// The node of what the instructions return, `None` where the last of them, and no other, isn't one
@@ -85,7 +85,7 @@ fn lay_leaf(alloc: Global, op: Op, operands: &mut Operands, g: &mut Graph) -> Re
 // Puts the node of an operation in the place of its two operands, of which the second is on top.
 fn lay_scalar(
     alloc: Global,
-    op: ScalarOp,
+    op: IntOp,
     operands: &mut Operands,
     g: &mut Graph,
 ) -> Result<bool, Memory>

@@ -5,7 +5,7 @@ ghost use Rattle.pv_graph.specs.Nodes.{IsGraph};
 ghost use Rattle.pv_top.specs.Conversion.{Grows, HasOver, IsLeaf, IsInt, IsRootOver};
 
 use pv_graph::{Graph, GraphFault, NodeId, Op, OpSort};
-use pv_value::{Memory, ScalarOp};
+use pv_value::{Memory, IntOp};
 use std::alloc::Global;
 
 /// The node of an operation without kids, of this sort.
@@ -25,7 +25,7 @@ pub fn leaf(alloc: Global, op: Op, sort: OpSort, g: &mut Graph) -> Result<NodeId
 /// The node of an operation over two ints.
 pub fn computed(
     alloc: Global,
-    op: ScalarOp,
+    op: IntOp,
     first: NodeId,
     second: NodeId,
     g: &mut Graph,

@@ -1,10 +1,15 @@
 pub mod Order
+pub mod CallOrder
 pub mod Heaps
 pub mod Numbers
 pub mod Descriptors
 pub mod Reading
+pub mod Spelled
 pub mod Once
 pub mod Inputs
 pub mod Worlds
-pub mod Scalar
-pub mod ScalarLaws
+pub mod Narrowing
+pub mod Operations
+pub mod OperationLaws
+pub mod IntOps
+pub mod Laws

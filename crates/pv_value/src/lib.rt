@@ -5,12 +5,11 @@
 //! finite map from locations to numbers other than 0 (`Heaps`), a world is its five tables
 //! (`Worlds`), the arguments of an input fit a descriptor (`Inputs`), and descriptors are read by
 //! the grammar of JVMS 4.3 (`Descriptors`), by which a text is a descriptor of at most one type
-//! (`Once`). `Reading` is private to this crate. The layers above see a name as its bytes, a list
+//! (`Once`), which functions find too (`Spelled`). `Reading` is private to this crate. The layers above see a name as its bytes, a list
 //! of numbers or types as a list, a heap as its map and a world as its tables.
 //!
-//! `scalar` gives the value of an operation on numbers: the low bits of the exact value, in two's
-//! complement (`Scalar`). It is an operand again, and exact where the exact value is in the range
-//! (`ScalarLaws`).
+//! `Operations` has the operations on numbers, and their laws are in `OperationLaws`; `Narrowing`
+//! says how the heap keeps a number of a type. `laws` has the laws as contracts.
 //!
 //! `read_field_type` and `read_descriptor` find the type of each text that the grammar has, and
 //! find none in any other, in a stack that doesn't grow with the text. The grammar sets no limit on
@@ -19,20 +18,21 @@
 
 mod descriptor;
 mod heap;
+mod int_op;
+pub mod laws;
 mod memory;
 mod name;
 mod number;
 mod operation;
 mod outcome;
-#[cfg(test)]
-mod tests;
 mod world;
 
 pub use descriptor::{Descriptor, JType, JTypes, read_descriptor, read_field_type};
+pub use int_op::IntOp;
 pub use heap::{Heap, Kind, Loc};
 pub use memory::Memory;
 pub use name::{Name, Sym};
 pub use number::{Num, Nums};
-pub use operation::{ScalarOp, scalar};
+pub use operation::ScalarOp;
 pub use outcome::{Fault, Input, Outcome, Val};
-pub use world::{Booleans, Call, Calls, Homes, Lengths, Literals, World};
+pub use world::{Booleans, Call, CallKey, Calls, Homes, Lengths, Literals, World};

@@ -18,8 +18,10 @@
 
 mod descriptor;
 mod heap;
+mod int;
 mod int_op;
 pub mod laws;
+mod long;
 mod memory;
 mod name;
 mod number;
@@ -28,8 +30,8 @@ mod outcome;
 mod world;
 
 pub use descriptor::{Descriptor, JType, JTypes, read_descriptor, read_field_type};
-pub use int_op::IntOp;
 pub use heap::{Heap, Kind, Loc};
+pub use int_op::IntOp;
 pub use memory::Memory;
 pub use name::{Name, Sym};
 pub use number::{Num, Nums};

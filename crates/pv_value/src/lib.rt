@@ -27,6 +27,7 @@ mod name;
 mod number;
 mod operation;
 mod outcome;
+mod tables;
 mod world;
 
 pub use descriptor::{Descriptor, JType, JTypes, read_descriptor, read_field_type};
@@ -37,4 +38,5 @@ pub use name::{Name, Sym};
 pub use number::{Num, Nums};
 pub use operation::ScalarOp;
 pub use outcome::{Fault, Input, Outcome, Val};
-pub use world::{Booleans, Call, CallKey, Calls, Homes, Lengths, Literals, World};
+pub use tables::{Booleans, Homes, Lengths, Literals};
+pub use world::{Call, CallKey, Calls, World};

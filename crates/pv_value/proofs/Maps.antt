@@ -3,7 +3,8 @@ use Rattle.std.proofs.Common.{◌≡◌, List, [], ◌∷◌, ◌∙◌, refl, a
 use Rattle.std.specs.Prelude.{◌⊎◌, T, ◌&&◌, ◌||◌, is_some, not}
 use Rattle.std.specs.Cmp.{IsTotalOrder, eq_by_cmp_equiv}
 use Rattle.std.specs.Map.{lookup, keys_of}
-use Rattle.std.specs.Ordering.{eq_by_cmp, is_eq}
+use Rattle.std.specs.Ordering.{eq_by_cmp, is_eq, is_lt}
+use Rattle.std.specs.FinMap.Entries.{below_all}
 use Rattle.std.specs.List.{AllByRecursion, list_any}
 use Rattle.std.specs.List.Sorted.{IsStrictlySortedBy}
 use Rattle.std.specs.declared.cmp.Ordering.{Ordering as Order}
@@ -32,6 +33,31 @@ module _ {K X : Type 0} (R : K → K → Order) (o : IsTotalOrder R) (exact : Cm
   taken es fs k h = same_map o exact _ _ (λ q.
       get_is fs q ∙ h q ∙ ap (λ b. cond b None (lookup (is_at (R q)) es)) ((eq_by_cmp_equiv o).symm k q)
       ∙ sym (get-remove o (from_entries es) k q ∙ ap (cond (is_at (R q) k) None) (get_is es q)))
+
+both : (a b : Bool) → T a → T b → T (a && b)
+both true b p q = q
+both false b p q = p
+
+less : (r : Order) → r ≡ Less → T (is_lt r)
+less Less e = tt
+less Equal e = absurd (cc)
+less Greater e = absurd (cc)
+
+module _ {K X : Type 0} (R : K → K → Order) where
+  rising : (k : K) (es : List (K × X)) → AllByRecursion (λ y. R k y ≡ Less) (keys_of es) → T (below_all R k es)
+  rising k [] h = tt
+  rising k (e ∷ es) h = both (is_lt (R k e.0)) (below_all R k es) (less (R k e.0) h.0) (rising k es h.1)
+
+  sorted_too : (es : List (K × X)) → IsStrictlySortedBy R (keys_of es) → T (is_sorted R es)
+  unfolding IsStrictlySortedBy
+  sorted_too [] h = tt
+  sorted_too (e ∷ es) h = both (below_all R e.0 es) (is_sorted R es) (rising e.0 es h.0) (sorted_too es h.1)
+
+-- the map of entries in order has these entries
+pub entries_again : {K X : Type 0} (R : K → K → Order) → IsTotalOrder R → CmpEqualImpliesEq R → (es : List (K × X)) → IsStrictlySortedBy R (keys_of es) → entries (from_entries {R = R} es) ≡ es
+entries_again R o exact es h =
+    let sorted = sorted_too R es h in
+    ap entries (same_map o exact (from_entries es) (from_sorted es) (λ q. get-from_entries o es q ∙ sym (get-from_sorted R es q sorted))) ∙ entries-from_sorted R es sorted
 
 either_or : (a b : Bool) → cond a true b ≡ (a || b)
 either_or true b = refl

@@ -1,4 +1,6 @@
 pub mod Order
+pub mod HeapTables
+pub mod HeapOrder
 pub mod CallOrder
 pub mod Heaps
 pub mod Numbers

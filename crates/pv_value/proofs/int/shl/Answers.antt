@@ -11,7 +11,7 @@ returns c =
     let count = c.args.count in
     let fits : FitsSigned w32 c.wrapping_shl.result = search rules in
     let k : c.cast_unsigned.result % 32 ≡ int_distance count =
-        ap (λ (n : ℕ). n % 32) (c.cast_unsigned.ensures ∙ ap (cast_unsigned w32) (to_z-of_z w32 count c.ranges.count)) ∙ int_count count c.ranges.count in
+    ap (λ (n : ℕ). n % 32) (c.cast_unsigned.ensures ∙ ap (cast_unsigned w32) (to_z-of_z w32 count c.ranges.count)) ∙ int_count count c.ranges.count in
     to_z-of_z w32 c.wrapping_shl.result fits ∙ c.wrapping_shl.ensures
     ∙ ap (λ (z : ℤ). int_shl w32 z (c.cast_unsigned.result % 32)) (to_z-of_z w32 a c.ranges.a)
     ∙ ap (int_shl w32 a) k ∙ shl_is w32 a (int_distance count) c.ranges.a (int_room count)

@@ -11,7 +11,7 @@ returns c =
     let count = c.args.count in
     let fits : FitsSigned w64 c.wrapping_shl.result = search rules in
     let k : c.cast_unsigned.result % 64 ≡ long_distance count =
-        ap (λ (n : ℕ). n % 64) (c.cast_unsigned.ensures ∙ ap (cast_unsigned w32) (to_z-of_z w32 count c.ranges.count)) ∙ long_count count c.ranges.count in
+    ap (λ (n : ℕ). n % 64) (c.cast_unsigned.ensures ∙ ap (cast_unsigned w32) (to_z-of_z w32 count c.ranges.count)) ∙ long_count count c.ranges.count in
     to_z-of_z w64 c.wrapping_shl.result fits ∙ c.wrapping_shl.ensures
     ∙ ap (λ (z : ℤ). int_shl w64 z (c.cast_unsigned.result % 64)) (to_z-of_z w64 a c.ranges.a)
     ∙ ap (int_shl w64 a) k ∙ shl_is w64 a (long_distance count) c.ranges.a (long_room count)

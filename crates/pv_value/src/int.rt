@@ -128,14 +128,14 @@ pub(crate) fn to_short(a: i32) -> i32
 }
 
 /// The low 8 bits, with their sign.
-fn low_byte(n: i32) -> i8
+pub(crate) fn low_byte(n: i32) -> i8
     ensures { result ≡ int_wrap w8 n }
 {
     (n.rem_euclid(0x100) as u8).cast_signed()
 }
 
 /// The low 16 bits, with their sign.
-fn low_short(n: i32) -> i16
+pub(crate) fn low_short(n: i32) -> i16
     ensures { result ≡ int_wrap w16 n }
 {
     (n.rem_euclid(0x1_0000) as u16).cast_signed()

@@ -24,6 +24,7 @@ pub mod laws;
 mod long;
 mod memory;
 mod name;
+mod narrowing;
 mod number;
 mod operation;
 mod outcome;

@@ -1,16 +1,16 @@
 -- What Rust's operations give, as the definitions say it.
-use Rattle.std.proofs.Common.{◌≡◌, ◌≢◌, ℕ, zero, suc, ◌+◌, ◌-◌, ◌*◌, ◌/◌, ◌%◌, ◌^◌, ◌<◌, ◌≤◌, ℤ, pos, negsuc, neg_ℤ, ◌+ℤ◌, ◌*ℤ◌, FitsSigned, refl, sym, ap, ◌∙◌, arith}
-use Rattle.std.specs.Prelude.{unsigned_abs, int_div, int_rem}
+use Rattle.std.proofs.Common.{◌≡◌, ◌≢◌, ℕ, zero, suc, ◌/◌, ◌%◌, ◌^◌, ◌<◌, ◌≤◌, ℤ, pos, negsuc, neg_ℤ, ◌*ℤ◌, FitsSigned, refl, sym, ap, ◌∙◌, arith}
+use Rattle.std.specs.Prelude.{unsigned_abs, int_div}
 use Rattle.std.specs.Ordering.{int_eq}
 use mir.Val.{bits}
-use Rattle.std.specs.Int.{Width, w32, w64, cast_unsigned, cast_signed, int_wrap, int_rem_euclid, int_shl, int_wrapping_div}
+use Rattle.std.specs.Int.{Width, w32, w64, cast_unsigned, cast_signed, int_wrap, int_shl, int_wrapping_div}
 use Rattle.std.proofs.lemmas.Bool.{cond-false, false_from_ne_true}
 use Rattle.std.proofs.lemmas.Bool.Decides.{Decides-int_eq}
 use Rattle.std.proofs.lemmas.Int.{to_z-of_z, wrapping_mul-bits, int_wrap-mul_right, int_rem_euclid_is, ints}
 use Rattle.std.proofs.Math.Nat.{mod-eq_of_lt, div-le_self, mod-lt}
 use Rattle.std.proofs.Math.Facts.{Fits-of_z}
 use Rattle.std.proofs.Math.Pow.{pow-lt}
-use Rattle.pv_value.specs.Operations.{quotient, remainder, int_distance, long_distance}
+use Rattle.pv_value.specs.Operations.{quotient, int_distance, long_distance}
 
 -- a number that is below 2^bits, its sign left out, cut to the bits
 pub cut_is : (w : Width) (z : ℤ) → unsigned_abs z < 2 ^ bits w → cast_signed w (cast_unsigned w z) ≡ int_wrap w z

@@ -1,5 +1,5 @@
 -- Operands that were read from longs, and values that were written as longs.
-use Rattle.std.proofs.Common.{◌≡◌, ◌<◌, ℤ, pos, FitsSigned, to_z, of_z, w32, w64, ap, sym, subst, ◌∙◌, arith}
+use Rattle.std.proofs.Common.{◌≡◌, ◌<◌, ℤ, FitsSigned, to_z, of_z, w32, w64, ap, sym, ◌∙◌, arith}
 use Rattle.std.specs.Int.{int_wrap}
 use Rattle.std.proofs.lemmas.Int.{to_z-of_z, int_wrap_fits}
 use lib.Signed.{mag}

@@ -1,9 +1,9 @@
 -- The last of the entries for a call is the one that the table of calls has.
-use Rattle.std.proofs.Common.{◌≡◌, List, [], ◌∷◌, Bool, true, false, cond, Option, Some, None, refl, ◌∙◌}
+use Rattle.std.proofs.Common.{◌≡◌, List, [], ◌∷◌, Bool, true, false, cond, Option, Some, refl, ◌∙◌}
 use Rattle.std.specs.Prelude.{map, find, option_map}
 use Rattle.std.specs.Ordering.{is_eq}
 use Rattle.std.specs.FinMap as maps
-use Rattle.std.specs.FinMap.{FinMap, from_entries, get, get-from_entries}
+use Rattle.std.specs.FinMap.{from_entries, get, get-from_entries}
 use Rattle.pv_value.specs.declared.world.Call.{Call}
 use Rattle.pv_value.specs.declared.world.CallKey.{CallKey}
 use Rattle.pv_value.specs.declared.outcome.Outcome.{Outcome}

@@ -1,16 +1,16 @@
 -- Finite maps that lists of entries make, in any total order that tells all keys apart.
-use Rattle.std.proofs.Common.{◌≡◌, List, [], ◌∷◌, ◌∙◌, refl, ap, sym, cond, Option, Some, None, Bool, true, false, Ordering, inl, inr}
-use Rattle.std.specs.Prelude.{◌⊎◌, T, ◌&&◌, ◌||◌, is_some, not}
+use Rattle.std.proofs.Common.{◌≡◌, List, [], ◌∷◌, ◌∙◌, refl, ap, sym, cond, Some, None, Bool, true, false}
+use Rattle.std.specs.Prelude.{T, ◌&&◌, ◌||◌}
 use Rattle.std.specs.Cmp.{IsTotalOrder, eq_by_cmp_equiv}
 use Rattle.std.specs.Map.{lookup, keys_of}
-use Rattle.std.specs.Ordering.{eq_by_cmp, is_eq, is_lt}
+use Rattle.std.specs.Ordering.{is_lt}
 use Rattle.std.specs.FinMap.Entries.{below_all}
 use Rattle.std.specs.List.{AllByRecursion, list_any}
 use Rattle.std.specs.List.Sorted.{IsStrictlySortedBy}
 use Rattle.std.specs.declared.cmp.Ordering.{Ordering as Order}
 use Rattle.std.specs.declared.cmp.Ordering.TheVariants.{Less, Equal, Greater}
 use Rattle.std.proofs.lemmas.Map.Lookups.{CmpEqualImpliesEq}
-use Rattle.std.specs.FinMap.{FinMap, get, insert, remove, entries, from_entries, from_sorted, find, is_sorted, get-from_entries, get-from_sorted, entries-from_sorted, get-insert, get-remove, same_map}
+use Rattle.std.specs.FinMap.{get, insert, remove, entries, from_entries, from_sorted, find, is_sorted, get-from_entries, get-from_sorted, entries-from_sorted, get-insert, get-remove, same_map}
 use Rattle.std.specs.FinSet as set
 use Rattle.std.specs.BTreeMap.{is_at}
 

@@ -1,6 +1,6 @@
-use Rattle.std.proofs.Common.{◌≡◌, subst, sym, ◌∙◌, to_z, of_z, w64}
+use Rattle.std.proofs.Common.{subst, sym, ◌∙◌, w64}
 use Rattle.std.proofs.lemmas.Int.{to_z-of_z}
-use Rattle.pv_value.specs.Operations.{gives, scalar_of, IsOfWord}
+use Rattle.pv_value.specs.Operations.{gives, IsOfWord}
 use Rattle.pv_value.specs.OperationLaws.{scalar_fits}
 use Rattle.pv_value.proofs.operation.scalar.Goals as goal
 

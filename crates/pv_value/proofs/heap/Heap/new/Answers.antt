@@ -1,6 +1,5 @@
 use Rattle.std.proofs.Common.{ap, sym, subst}
-use Rattle.std.specs.FinMap.{FinMap, from_entries}
-use Rattle.pv_value.specs.Order.{loc_cmp}
+use Rattle.std.specs.FinMap.{from_entries}
 use Rattle.pv_value.specs.Heaps.{IsHeap}
 use Rattle.pv_value.proofs.Writes.{IsHeap-empty}
 use Rattle.pv_value.proofs.heap.Heap.new.Goals as goal

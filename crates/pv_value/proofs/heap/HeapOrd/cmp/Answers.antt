@@ -1,5 +1,5 @@
 use Rattle.std.proofs.Common.{ap, sym, ◌∙◌, ℤ, List}
-use Rattle.std.specs.FinMap.{FinMap, entries}
+use Rattle.std.specs.FinMap.{entries}
 use Rattle.std.specs.Cmp.Lexicographic.{slice_cmp}
 use Rattle.pv_value.specs.declared.heap.Loc.{Loc}
 use Rattle.pv_value.specs.Order.{loc_cmp}

@@ -1,19 +1,26 @@
 //! Values of the virtual machine: names, numbers and the operations on them, heaps, worlds, inputs
 //! and descriptors.
 //!
-//! This is the lowest layer and stands on nothing. `specs/` holds what the values mean: a heap is a
-//! finite map from locations to numbers other than 0 (`Heaps`), a world is its five tables
-//! (`Worlds`), the arguments of an input fit a descriptor (`Inputs`), and descriptors are read by
-//! the grammar of JVMS 4.3 (`Descriptors`), by which a text is a descriptor of at most one type
-//! (`Once`), which functions find too (`Spelled`). `Reading` is private to this crate. The layers above see a name as its bytes, a list
-//! of numbers or types as a list, a heap as its map and a world as its tables.
+//! This is the lowest layer and stands on nothing. `specs/` holds what the values mean:
 //!
-//! `Operations` has the operations on numbers, and their laws are in `OperationLaws`; `Narrowing`
-//! says how the heap keeps a number of a type. `laws` has the laws as contracts.
+//! - `Operations`: the 33 operations on ints and longs, what each takes and gives, and its value
+//!   (JVMS 6.5). `scalar` meets it.
+//! - `Heaps`: a heap is a finite map from locations to numbers other than 0. `Heap` is seen as that
+//!   map, and `Heap::law_ranges` says that its numbers are in the ranges of their types.
+//! - `Worlds`: a world is five tables. `World` has a call for each reader and each change.
+//! - `Narrowing`: how the heap keeps a value of a type, and what is read as a type. `JType::narrow`,
+//!   `Num::as_type`, `Heap::read_as`, `Heap::write_as` and the places of `World` meet it.
+//! - `Inputs`: what fits a descriptor.
+//! - `Descriptors`: the grammar of JVMS 4.3, by which a text is a descriptor of at most one type
+//!   (`Once`), which the functions of `Spelled` find too. `read_field_type` and `read_descriptor`
+//!   find the type of each text that the grammar has, and find none in any other, in a stack that
+//!   doesn't grow with the text. The grammar sets no limit on the dimensions of an array or the
+//!   number of parameters: that is the caller's.
 //!
-//! `read_field_type` and `read_descriptor` find the type of each text that the grammar has, and
-//! find none in any other, in a stack that doesn't grow with the text. The grammar sets no limit on
-//! the dimensions of an array or the number of parameters: that is the caller's.
+//! `laws` has the laws of these definitions as contracts. `Reading`, `HeapOrder` and `HeapTables`
+//! are for the proofs of this crate. The layers above see a name as its bytes, a list of numbers or
+//! types as a list, a heap as its map and a world as its tables. `IntOp` is what the layers above
+//! have of operations so far.
 #![tactic(auto)]
 
 mod descriptor;

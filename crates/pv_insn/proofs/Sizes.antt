@@ -1,11 +1,11 @@
--- The operands of an instruction have as many bytes as the table of opcodes says of its format.
-use Rattle.std.proofs.Common.{◌≡◌, ℕ, ◌+◌, List, length, ap, ◌∙◌, arith}
+-- The operands of an instruction have as many bytes as the table of opcodes says of its format, after wide too.
+use Rattle.std.proofs.Common.{◌≡◌, ℕ, ◌+◌, List, length, Option, Some, None, ap, ◌∙◌, arith}
 use Rattle.std.proofs.lemmas.List.{length-append}
 use Rattle.std.specs.Int.{Width, byte_len, cast_unsigned}
 use Rattle.std.specs.Prelude.{ℤ}
-use Rattle.pv_insn.specs.Opcodes.{Format, nothing, byte, short, local, increment, byte_index, index, offset, wide_offset, table, pairs, wide_instruction, size_of}
+use Rattle.pv_insn.specs.Opcodes.{Format, nothing, byte, short, local, increment, byte_index, index, offset, wide_offset, table, pairs, wide_instruction, size_of, wide_size_of}
 use Rattle.pv_insn.specs.Forms.{taken, skipped}
-use Rattle.pv_insn.specs.Pieces.{Piece, IsUnsigned, IsSigned, IsIncrement, Operands}
+use Rattle.pv_insn.specs.Pieces.{Piece, unknown, IsUnsigned, IsSigned, IsIncrement, Operands, Widened}
 use Rattle.pv_insn.proofs.Formats.{IsWidth, width8, width16, width32}
 
 unsigned_size : (w : Width) → IsWidth w → (n : ℕ) (bytes : List ℕ) → IsUnsigned w n bytes → length bytes ≡ byte_len w
@@ -45,3 +45,18 @@ taken_size at op table piece bytes one is = absurd one
 taken_size at op pairs piece bytes one is = absurd one
 taken_size at op wide_instruction piece bytes one is = absurd one
 taken_size at op format piece bytes one is = is.0
+
+-- ---- after wide
+
+-- this many bytes, or wide may not stand there
+abbrev HasWideSize : Option ℕ → Piece → List ℕ → Type 0
+HasWideSize (Some n) piece bytes = length bytes ≡ n
+HasWideSize None piece bytes = piece ≡ unknown
+
+pub wide_taken_size : (op : ℕ) (format : Format) (piece : Piece) (bytes : List ℕ) → Widened op (Some (taken format)) piece bytes → HasWideSize (wide_size_of format) piece bytes
+wide_taken_size op local piece bytes is = unsigned_size _ width16 is.number bytes is.spelled
+wide_taken_size op increment piece bytes is = increment_size _ width16 piece bytes is
+wide_taken_size op format piece bytes is = is.0
+
+pub wide_skipped_size : (op : ℕ) (piece : Piece) (bytes : List ℕ) → Widened op (Some (skipped local)) piece bytes → HasWideSize (wide_size_of local) piece bytes
+wide_skipped_size op piece bytes is = is.0

@@ -1,5 +1,5 @@
 -- The opcodes (JVMS 6.5, 7): what follows each of them, and which are accepted.
-use Rattle.std.specs.Prelude.{ℕ, List, [], ◌∷◌, Bool, false, nat_le, ◌&&◌, ◌||◌, if◌then◌else◌}
+use Rattle.std.specs.Prelude.{ℕ, List, [], ◌∷◌, Bool, false, Option, Some, None, nat_le, ◌&&◌, ◌||◌, if◌then◌else◌}
 
 -- what follows an opcode
 pub data Format : Type 0 where
@@ -42,6 +42,12 @@ size_of offset = 2
 size_of wide_offset = 4
 size_of element_type = 1
 size_of format = 0
+
+-- the bytes that follow after wide, where wide may stand before the opcode
+abbrev pub wide_size_of : Format → Option ℕ
+wide_size_of local = Some 2
+wide_size_of increment = Some 4
+wide_size_of format = None
 
 -- ---- sets of opcodes
 

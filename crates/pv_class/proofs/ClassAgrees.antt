@@ -10,7 +10,7 @@ use Rattle.pv_class.specs.Items.{u2, u4, Items, file_text}
 use Rattle.pv_class.specs.ClassFiles.{Describes, IsClass}
 use Rattle.pv_class.proofs.ClassTexts.{IsHead, head_texts, TailItems, tail_text, IsTail, untested, untested_texts, tail_untested, tail_tested}
 
--- the head, the pool and what stands behind it are taken
+-- the head, the pool and what stands after it are taken
 pub record TakesAll (bytes : List ℕ) (file : ClassFile) : Type 0 where
   pub rest : List ℕ
   pub head_is : Takes head bytes tt rest
@@ -70,8 +70,8 @@ takes_class bytes file c =
     let i = c.items in
     let d = c.describes in
     let front = head_text i.minor i.major in
-    let behind = tail_text (tail_items i) in
-    let rest = i.pool_text ++ behind in
+    let later = tail_text (tail_items i) in
+    let rest = i.pool_text ++ later in
     let spelled : bytes ≡ front ++ rest = c.spelled ∙ file_parts (u4 0xCAFEBABE) (u2 i.minor) (u2 i.major) rest in
     let begins : IsHead front tt = record { minor = i.minor; major = i.major; text = refl; minor_fits = d.fits.minor; major_fits = d.fits.major; old = d.old; young = d.young } in
     let head_taken : Takes head (front ++ rest) tt rest = head_texts.again front tt rest begins (omega arith) in
@@ -79,22 +79,22 @@ takes_class bytes file c =
     let after = 8 + length i.pool_text in
     let stands : drop 8 bytes ≡ rest = ap (λ (u : List ℕ). drop 8 u) spelled ∙ drop_at front rest 8 refl in
     let long : length (front ++ i.pool_text) ≡ after = length-append front i.pool_text in
-    let last : drop after bytes ≡ behind = ap (λ (u : List ℕ). drop after u) (spelled ∙ sym (append_assoc front i.pool_text behind)) ∙ drop_at (front ++ i.pool_text) behind after long in
-    let read : Takes (untested file.pool) (behind ++ []) file.methods [] = (untested_texts file.pool).again behind file.methods [] (described i file d) (omega arith) in
-    let tested : Takes (tail file.pool) (behind ++ []) file.methods [] = tail_tested file.pool (behind ++ []) file.methods read in
+    let last : drop after bytes ≡ later = ap (λ (u : List ℕ). drop after u) (spelled ∙ sym (append_assoc front i.pool_text later)) ∙ drop_at (front ++ i.pool_text) later after long in
+    let read : Takes (untested file.pool) (later ++ []) file.methods [] = (untested_texts file.pool).again later file.methods [] (described i file d) (omega arith) in
+    let tested : Takes (tail file.pool) (later ++ []) file.methods [] = tail_tested file.pool (later ++ []) file.methods read in
     let P : List ℕ → Type 0 = λ u. Takes (tail file.pool) u file.methods [] in
     record {
       rest = rest;
       head_is = subst Q (sym spelled) head_taken;
       after = after;
-      pool_is = record { text = i.pool_text; rest = behind; stands = stands; is = d.pool; behind = refl };
-      tail_is = subst P (append-nil behind ∙ sym last) tested;
+      pool_is = record { text = i.pool_text; rest = later; stands = stands; is = d.pool; behind = refl };
+      tail_is = subst P (append-nil later ∙ sym last) tested;
     }
 
 -- ---- what is taken is a class file
 
-describes : (file : ClassFile) (front text behind : List ℕ) (h : IsHead front tt) → IsPoolText text file.pool → (t : IsTail file.pool behind file.methods) → Describes (all_items h.minor h.major text t.items) file
-describes file front text behind h pool t = record {
+describes : (file : ClassFile) (front text later : List ℕ) (h : IsHead front tt) → IsPoolText text file.pool → (t : IsTail file.pool later file.methods) → Describes (all_items h.minor h.major text t.items) file
+describes file front text later h pool t = record {
   fits = record { minor = h.minor_fits; major = h.major_fits; flags = t.flags; this = t.this.0; super = t.super.0; interfaces = t.interfaces; fields = t.fields; methods = t.methods; attributes = t.attributes };
   old = h.old;
   young = h.young;
@@ -109,9 +109,9 @@ describes file front text behind h pool t = record {
 }
 
 -- three parts of the bytes, and where the last begins
-parts_behind : (bytes front text behind : List ℕ) (after : ℕ) → bytes ≡ front ++ (text ++ behind) → length front ≡ 8 → after ≡ 8 + length text → drop after bytes ≡ behind
-parts_behind bytes front text behind after e len at =
-    ap (λ (u : List ℕ). drop after u) (e ∙ sym (append_assoc front text behind)) ∙ drop_at (front ++ text) behind after (length-append front text ∙ omega arith)
+parts_after : (bytes front text later : List ℕ) (after : ℕ) → bytes ≡ front ++ (text ++ later) → length front ≡ 8 → after ≡ 8 + length text → drop after bytes ≡ later
+parts_after bytes front text later after e len at =
+    ap (λ (u : List ℕ). drop after u) (e ∙ sym (append_assoc front text later)) ∙ drop_at (front ++ text) later after (length-append front text ∙ omega arith)
 
 pub class_taken : (bytes : List ℕ) (file : ClassFile) → IsBytes bytes → length bytes ≤ 4194304 → TakesAll bytes file → IsClass bytes file
 class_taken bytes file fits small t =
@@ -120,13 +120,13 @@ class_taken bytes file fits small t =
     let front = p.0 in
     let pool = t.pool_is in
     let len : length front ≡ 8 = ap length h.text in
-    let behind_head : t.rest ≡ pool.text ++ pool.rest = sym (drop_at front t.rest 8 len) ∙ ap (λ (u : List ℕ). drop 8 u) (sym p.1) ∙ pool.stands in
-    let parts : bytes ≡ front ++ (pool.text ++ pool.rest) = p.1 ∙ ap (λ (u : List ℕ). front ++ u) behind_head in
-    let last : drop t.after bytes ≡ pool.rest = parts_behind bytes front pool.text pool.rest t.after parts len pool.behind in
+    let after_head : t.rest ≡ pool.text ++ pool.rest = sym (drop_at front t.rest 8 len) ∙ ap (λ (u : List ℕ). drop 8 u) (sym p.1) ∙ pool.stands in
+    let parts : bytes ≡ front ++ (pool.text ++ pool.rest) = p.1 ∙ ap (λ (u : List ℕ). front ++ u) after_head in
+    let last : drop t.after bytes ≡ pool.rest = parts_after bytes front pool.text pool.rest t.after parts len pool.behind in
     let fits_last : IsBytes pool.rest = bytes_behind (pool.text ++ pool.rest) pool.text pool.rest refl (bytes_behind bytes front (pool.text ++ pool.rest) parts fits) in
     let P : List ℕ → Type 0 = λ u. Takes (tail file.pool) u file.methods [] in
     let q = (untested_texts file.pool).takes pool.rest file.methods [] fits_last (tail_untested file.pool pool.rest file.methods [] (subst P last t.tail_is)) in
-    let behind : pool.rest ≡ tail_text q.2.items = q.1 ∙ append-nil q.0 ∙ q.2.text in
+    let later : pool.rest ≡ tail_text q.2.items = q.1 ∙ append-nil q.0 ∙ q.2.text in
     let spelled : bytes ≡ file_text (all_items h.minor h.major pool.text q.2.items) =
-    parts ∙ ap (λ (u : List ℕ). front ++ (pool.text ++ u)) behind ∙ ap (λ (u : List ℕ). u ++ (pool.text ++ tail_text q.2.items)) h.text ∙ sym (file_parts (u4 0xCAFEBABE) (u2 h.minor) (u2 h.major) (pool.text ++ tail_text q.2.items)) in
+    parts ∙ ap (λ (u : List ℕ). front ++ (pool.text ++ u)) later ∙ ap (λ (u : List ℕ). u ++ (pool.text ++ tail_text q.2.items)) h.text ∙ sym (file_parts (u4 0xCAFEBABE) (u2 h.minor) (u2 h.major) (pool.text ++ tail_text q.2.items)) in
     record { items = all_items h.minor h.major pool.text q.2.items; spelled = spelled; small = small; describes = describes file front pool.text q.0 h pool.is q.2 }

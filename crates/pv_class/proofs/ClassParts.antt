@@ -3,7 +3,7 @@ use Rattle.std.proofs.Common.{◌≡◌, ℕ, List, length, eqb, Result, Ok, Err
 use Rattle.std.proofs.lemmas.Bool.{eq-eqb, ne_eqb}
 use Rattle.pv_pool.specs.declared.entry.Entry.{Entry}
 use Rattle.pv_class.specs.declared.file.Method.{Method}
-use Rattle.pv_class.specs.declared.fault.ClassCause.TheVariants as cause
+use Rattle.pv_class.specs.declared.fault.Cause.TheVariants as cause
 use Rattle.pv_class.specs.declared.fault.Failure.{Failure}
 use Rattle.pv_class.specs.declared.fault.Stop.{Stop}
 use Rattle.pv_class.specs.Checks.{holds, class, class_or_none}
@@ -27,15 +27,15 @@ fields_read pool bytes rest more n e h = read_then (u2 in_file) (λ n. bind (tim
 
 -- ---- the front
 
-abbrev behind_this : List Entry → Grammar (Unit {0})
-behind_this pool = bind (index in_file (class_or_none pool)) (λ super. give tt)
+abbrev after_this : List Entry → Grammar (Unit {0})
+after_this pool = bind (index in_file (class_or_none pool)) (λ super. give tt)
 
-abbrev behind_flags : List Entry → Grammar (Unit {0})
-behind_flags pool = bind (index in_file (class pool)) (λ this. behind_this pool)
+abbrev after_flags : List Entry → Grammar (Unit {0})
+after_flags pool = bind (index in_file (class pool)) (λ this. after_this pool)
 
-read_this : (pool : List Entry) (bytes rest more : List ℕ) (flags this : ℕ) → read (u2 in_file) bytes ≡ Ok (flags, rest) → read (index in_file (class pool)) rest ≡ Ok (this, more) → read (class_front pool) bytes ≡ read (behind_this pool) more
+read_this : (pool : List Entry) (bytes rest more : List ℕ) (flags this : ℕ) → read (u2 in_file) bytes ≡ Ok (flags, rest) → read (index in_file (class pool)) rest ≡ Ok (this, more) → read (class_front pool) bytes ≡ read (after_this pool) more
 unfolding class_front
-read_this pool bytes rest more flags this e f = read_then (u2 in_file) (λ flags. behind_flags pool) bytes flags rest e ∙ read_then (index in_file (class pool)) (λ this. behind_this pool) rest this more f
+read_this pool bytes rest more flags this e f = read_then (u2 in_file) (λ flags. after_flags pool) bytes flags rest e ∙ read_then (index in_file (class pool)) (λ this. after_this pool) rest this more f
 
 pub super_fails : (pool : List Entry) (bytes rest more : List ℕ) (flags this : ℕ) (s : Stop) → read (u2 in_file) bytes ≡ Ok (flags, rest) → read (index in_file (class pool)) rest ≡ Ok (this, more) → Fails s (read (index in_file (class_or_none pool)) more) → Fails s (read (class_front pool) bytes)
 super_fails pool bytes rest more flags this s e f h = fails_as s _ _ (read_this pool bytes rest more flags this e f) (fails_first (index in_file (class_or_none pool)) (λ super. give tt) more s h)
@@ -45,16 +45,16 @@ super_fails pool bytes rest more flags this s e f h = fails_as s _ _ (read_this 
 abbrev ended : List Method → Grammar (List Method)
 ended ms = here λ left. check (holds (eqb left 0)) (failure cause.Trailing left) (give ms)
 
-abbrev behind_methods : List Entry → List Method → Grammar (List Method)
-behind_methods pool ms = bind (table in_file (skipped in_file pool)) (λ attributes. ended ms)
+abbrev after_methods : List Entry → List Method → Grammar (List Method)
+after_methods pool ms = bind (table in_file (skipped in_file pool)) (λ attributes. ended ms)
 
 pub methods_fail : (pool : List Entry) (bytes : List ℕ) (s : Stop) → Fails s (read (all_methods pool) bytes) → Fails s (read (class_end pool) bytes)
 unfolding class_end
-methods_fail pool bytes s h = fails_first (all_methods pool) (λ ms. behind_methods pool ms) bytes s h
+methods_fail pool bytes s h = fails_first (all_methods pool) (λ ms. after_methods pool ms) bytes s h
 
-read_methods : (pool : List Entry) (bytes rest : List ℕ) (ms : List Method) → read (all_methods pool) bytes ≡ Ok (ms, rest) → read (class_end pool) bytes ≡ read (behind_methods pool ms) rest
+read_methods : (pool : List Entry) (bytes rest : List ℕ) (ms : List Method) → read (all_methods pool) bytes ≡ Ok (ms, rest) → read (class_end pool) bytes ≡ read (after_methods pool ms) rest
 unfolding class_end
-read_methods pool bytes rest ms e = read_then (all_methods pool) (λ ms. behind_methods pool ms) bytes ms rest e
+read_methods pool bytes rest ms e = read_then (all_methods pool) (λ ms. after_methods pool ms) bytes ms rest e
 
 pub attributes_fail : (pool : List Entry) (bytes rest : List ℕ) (ms : List Method) (s : Stop) → read (all_methods pool) bytes ≡ Ok (ms, rest) → Fails s (read (table in_file (skipped in_file pool)) rest) → Fails s (read (class_end pool) bytes)
 attributes_fail pool bytes rest ms s e h = fails_as s _ _ (read_methods pool bytes rest ms e) (fails_first (table in_file (skipped in_file pool)) (λ attributes. ended ms) rest s h)
@@ -72,25 +72,25 @@ ends pool bytes rest more ms n e f none = read_attributes pool bytes rest more m
 
 -- ---- all of it
 
-abbrev behind_interfaces : List Entry → Grammar (List Method)
-behind_interfaces pool = bind (table in_file (field pool)) (λ fields. class_end pool)
+abbrev after_interfaces : List Entry → Grammar (List Method)
+after_interfaces pool = bind (table in_file (field pool)) (λ fields. class_end pool)
 
-abbrev behind_front : List Entry → Grammar (List Method)
-behind_front pool = bind (table in_file (interface in_file pool)) (λ interfaces. behind_interfaces pool)
+abbrev after_front : List Entry → Grammar (List Method)
+after_front pool = bind (table in_file (interface in_file pool)) (λ interfaces. after_interfaces pool)
 
 pub front_fails : (pool : List Entry) (bytes : List ℕ) (s : Stop) → Fails s (read (class_front pool) bytes) → Fails s (read (tail pool) bytes)
 unfolding tail
-front_fails pool bytes s h = fails_first (class_front pool) (λ front. behind_front pool) bytes s h
+front_fails pool bytes s h = fails_first (class_front pool) (λ front. after_front pool) bytes s h
 
-read_front : (pool : List Entry) (bytes rest : List ℕ) → read (class_front pool) bytes ≡ Ok (tt, rest) → read (tail pool) bytes ≡ read (behind_front pool) rest
+read_front : (pool : List Entry) (bytes rest : List ℕ) → read (class_front pool) bytes ≡ Ok (tt, rest) → read (tail pool) bytes ≡ read (after_front pool) rest
 unfolding tail
-read_front pool bytes rest e = read_then (class_front pool) (λ front. behind_front pool) bytes tt rest e
+read_front pool bytes rest e = read_then (class_front pool) (λ front. after_front pool) bytes tt rest e
 
 pub interfaces_fail : (pool : List Entry) (bytes rest : List ℕ) (s : Stop) → read (class_front pool) bytes ≡ Ok (tt, rest) → Fails s (read (table in_file (interface in_file pool)) rest) → Fails s (read (tail pool) bytes)
-interfaces_fail pool bytes rest s e h = fails_as s _ _ (read_front pool bytes rest e) (fails_first (table in_file (interface in_file pool)) (λ interfaces. behind_interfaces pool) rest s h)
+interfaces_fail pool bytes rest s e h = fails_as s _ _ (read_front pool bytes rest e) (fails_first (table in_file (interface in_file pool)) (λ interfaces. after_interfaces pool) rest s h)
 
-read_interfaces : (pool : List Entry) (bytes rest more : List ℕ) (n : ℕ) → read (class_front pool) bytes ≡ Ok (tt, rest) → read (table in_file (interface in_file pool)) rest ≡ Ok (n, more) → read (tail pool) bytes ≡ read (behind_interfaces pool) more
-read_interfaces pool bytes rest more n e f = read_front pool bytes rest e ∙ read_then (table in_file (interface in_file pool)) (λ interfaces. behind_interfaces pool) rest n more f
+read_interfaces : (pool : List Entry) (bytes rest more : List ℕ) (n : ℕ) → read (class_front pool) bytes ≡ Ok (tt, rest) → read (table in_file (interface in_file pool)) rest ≡ Ok (n, more) → read (tail pool) bytes ≡ read (after_interfaces pool) more
+read_interfaces pool bytes rest more n e f = read_front pool bytes rest e ∙ read_then (table in_file (interface in_file pool)) (λ interfaces. after_interfaces pool) rest n more f
 
 pub class_fields_fail : (pool : List Entry) (bytes rest more : List ℕ) (n : ℕ) (s : Stop) → read (class_front pool) bytes ≡ Ok (tt, rest) → read (table in_file (interface in_file pool)) rest ≡ Ok (n, more) → Fails s (read (table in_file (field pool)) more) → Fails s (read (tail pool) bytes)
 class_fields_fail pool bytes rest more n s e f h = fails_as s _ _ (read_interfaces pool bytes rest more n e f) (fails_first (table in_file (field pool)) (λ fields. class_end pool) more s h)

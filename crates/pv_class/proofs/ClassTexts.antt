@@ -1,4 +1,4 @@
--- The texts of what stands before the constant pool of a class file, and behind it.
+-- The texts of what stands before the constant pool of a class file, and after it.
 use Rattle.std.proofs.Common.{◌≡◌, ℕ, ◌≤◌, Bool, true, ◌&&◌, eqb, leb, List, [], ◌++◌, length, refl, sym, ap, subst, ◌∙◌, append_assoc, arith}
 use Rattle.std.specs.List.{AllByRecursion, AllZip}
 use Rattle.std.proofs.lemmas.Bool.{and_parts, and_from, eq-eqb, eqb-true, leb-true, le-leb}
@@ -7,7 +7,7 @@ use Rattle.pv_pool.specs.declared.entry.Entry.{Entry}
 use Rattle.pv_pool.specs.Pools.{HasText, HasClass}
 use Rattle.pv_pool.proofs.Formats.{Then, Done}
 use Rattle.pv_class.specs.declared.file.Method.{Method}
-use Rattle.pv_class.specs.declared.fault.ClassCause.TheVariants as cause
+use Rattle.pv_class.specs.declared.fault.Cause.TheVariants as cause
 use Rattle.pv_class.specs.Checks.{holds, class, class_or_none}
 use Rattle.pv_class.specs.Grammars.{Grammar, give, here, check, bind, Takes, failure}
 use Rattle.pv_class.specs.Grammars as grammar
@@ -106,7 +106,7 @@ front_texts pool =
       ),
     ))
 
--- ---- behind the pool
+-- ---- after the pool
 
 pub record TailItems : Type 0 where
   pub flags : ℕ
@@ -136,7 +136,7 @@ pub record IsTail (pool : List Entry) (t : List ℕ) (all : List Method) : Type 
   pub attributes : IsTable FitsAttribute items.attributes
   pub are_attributes : AllByRecursion (λ a. HasText pool a.name) items.attributes
 
--- without the test that nothing stands behind
+-- without the test that nothing stands after
 abbrev pub untested_end : List Entry → Grammar (List Method)
 untested_end pool = bind (all_methods pool) (λ ms. bind (grammar.table in_file (skipped in_file pool)) (λ attributes. give ms))
 
@@ -161,7 +161,7 @@ Parts pool = Then (Unit {0}) (List Method) (IsClassFront pool) (λ _. E1 pool)
 tail_parts : (a b c d : List ℕ) → (a ++ (b ++ c)) ++ d ≡ a ++ (b ++ (c ++ d))
 tail_parts a b c d = simp append_assoc
 
--- a part with its text, and what stands behind
+-- a part with its text, and what stands after
 beside : {t front back a b : List ℕ} → t ≡ front ++ back → front ≡ a → back ≡ b → t ≡ a ++ b
 beside {back = back} {a = a} e f g = e ∙ ap (λ (u : List ℕ). u ++ back) f ∙ ap (λ (u : List ℕ). a ++ u) g
 
@@ -176,11 +176,11 @@ to_tail pool t all s =
     let fields = both_of FitsMember (IsField pool) fs.fits.0 fs.fits.4 in
     let attributes = both_of FitsAttribute (λ a. HasText pool a.name) attrs.fits.0 attrs.fits.4 in
     let items : TailItems = record { flags = f.flags; this = f.this; super = f.super; interfaces = is.fits.0; fields = fs.fits.0; methods = ms.fits.members; attributes = attrs.fits.0 } in
-    let behind = beside is.parts is.fits.2 (beside fs.parts fs.fits.2 (beside ms.parts ms.fits.text (ended attrs.front attrs.parts attrs.others.0 ∙ attrs.fits.2))) in
+    let later = beside is.parts is.fits.2 (beside fs.parts fs.fits.2 (beside ms.parts ms.fits.text (ended attrs.front attrs.parts attrs.others.0 ∙ attrs.fits.2))) in
     let rest = table u2 items.interfaces ++ (table member_text items.fields ++ (table member_text items.methods ++ table attribute_text items.attributes)) in
-    let told : IsTail pool t ms.first = record {
+    let whole : IsTail pool t ms.first = record {
       items = items;
-      text = beside s.parts f.text behind ∙ tail_parts (u2 f.flags) (u2 f.this) (u2 f.super) rest;
+      text = beside s.parts f.text later ∙ tail_parts (u2 f.flags) (u2 f.this) (u2 f.super) rest;
       flags = f.flags_fit;
       this = f.this_is;
       super = f.super_is;
@@ -194,7 +194,7 @@ to_tail pool t all s =
       attributes = (attrs.fits.3, attributes.0);
       are_attributes = attributes.1;
     } in
-    subst (λ (ys : List Method). IsTail pool t ys) (sym attrs.others.1) told
+    subst (λ (ys : List Method). IsTail pool t ys) (sym attrs.others.1) whole
 
 of_tail : (pool : List Entry) (t : List ℕ) (all : List Method) → IsTail pool t all → Parts pool t all
 of_tail pool t all s =
@@ -254,17 +254,17 @@ unfolding class_end
 end_tested pool bytes all h =
     then_as (all_methods pool) (given_end pool) (tested_end pool) bytes all [] (λ ms mid. then_as (grammar.table in_file (skipped in_file pool)) (λ _. give ms) (λ _. ending ms) mid all [] (λ _ last. given_ending ms last all)) h
 
--- what stands behind the class and its superclass, by its end
-abbrev behind_fields : List Entry → Grammar (List Method) → Grammar (List Method)
-behind_fields pool end = bind (grammar.table in_file (field pool)) (λ fields. end)
+-- what stands after the class and its superclass, by its end
+abbrev after_fields : List Entry → Grammar (List Method) → Grammar (List Method)
+after_fields pool end = bind (grammar.table in_file (field pool)) (λ fields. end)
 
-abbrev behind_front : List Entry → Grammar (List Method) → Grammar (List Method)
-behind_front pool end = bind (grammar.table in_file (interface in_file pool)) (λ interfaces. behind_fields pool end)
+abbrev after_front : List Entry → Grammar (List Method) → Grammar (List Method)
+after_front pool end = bind (grammar.table in_file (interface in_file pool)) (λ interfaces. after_fields pool end)
 
-end_as : (pool : List Entry) (e f : Grammar (List Method)) (all : List Method) (rest : List ℕ) → ((mid : List ℕ) → Takes e mid all rest → Takes f mid all rest) → (bytes : List ℕ) → Takes (bind (class_front pool) (λ _. behind_front pool e)) bytes all rest → Takes (bind (class_front pool) (λ _. behind_front pool f)) bytes all rest
+end_as : (pool : List Entry) (e f : Grammar (List Method)) (all : List Method) (rest : List ℕ) → ((mid : List ℕ) → Takes e mid all rest → Takes f mid all rest) → (bytes : List ℕ) → Takes (bind (class_front pool) (λ _. after_front pool e)) bytes all rest → Takes (bind (class_front pool) (λ _. after_front pool f)) bytes all rest
 end_as pool e f all rest change bytes h =
-    then_as (class_front pool) (λ _. behind_front pool e) (λ _. behind_front pool f) bytes all rest
-    (λ _ mid. then_as (grammar.table in_file (interface in_file pool)) (λ _. behind_fields pool e) (λ _. behind_fields pool f) mid all rest
+    then_as (class_front pool) (λ _. after_front pool e) (λ _. after_front pool f) bytes all rest
+    (λ _ mid. then_as (grammar.table in_file (interface in_file pool)) (λ _. after_fields pool e) (λ _. after_fields pool f) mid all rest
     (λ _ more. then_as (grammar.table in_file (field pool)) (λ _. e) (λ _. f) more all rest (λ _ last. change last)))
     h
 

@@ -1,4 +1,4 @@
--- The texts of Code attributes behind their names.
+-- The texts of Code attributes after their names.
 use Rattle.std.proofs.Common.{◌≡◌, ℕ, ◌+◌, ◌-◌, ◌<◌, ◌≤◌, Bool, true, ◌&&◌, eqb, leb, cond, List, [], ◌++◌, length, Some, refl, sym, ap, subst, ◌∙◌, append_assoc, arith}
 use Rattle.std.proofs.lemmas.Bool.{and_parts, and_from, eq-eqb, eqb-true, leb-true, le-leb}
 use Rattle.std.proofs.lemmas.List.{length-append, append-nil}
@@ -8,7 +8,7 @@ use Rattle.std.specs.Int.{w32}
 use Rattle.pv_pool.proofs.Formats.{IsBytes, bytes_behind, Then, Done, wide32}
 use Rattle.pv_class.specs.declared.room.Room.{Room}
 use Rattle.pv_class.specs.declared.file.Code.{Code}
-use Rattle.pv_class.specs.declared.fault.ClassCause.TheVariants as cause
+use Rattle.pv_class.specs.declared.fault.Cause.TheVariants as cause
 use Rattle.pv_class.specs.Checks.{holds}
 use Rattle.pv_class.specs.Grammars.{Grammar, give, here, check, bind, Takes, failure}
 use Rattle.pv_class.specs.Grammars as grammar
@@ -86,14 +86,14 @@ code_of front handlers = record { max_stack = front.0; max_locals = front.1; byt
 abbrev given : Front → ℕ → ℕ → Grammar Code
 given front handlers attributes = give (code_of front handlers)
 
-abbrev behind_handlers : List Entry → Room → Front → ℕ → Grammar Code
-behind_handlers pool room front handlers = bind (grammar.table room (skipped room pool)) (given front handlers)
+abbrev after_handlers : List Entry → Room → Front → ℕ → Grammar Code
+after_handlers pool room front handlers = bind (grammar.table room (skipped room pool)) (given front handlers)
 
-abbrev behind_front : List Entry → Room → Front → Grammar Code
-behind_front pool room front = bind (grammar.table room (handler room)) (behind_handlers pool room front)
+abbrev after_front : List Entry → Room → Front → Grammar Code
+after_front pool room front = bind (grammar.table room (handler room)) (after_handlers pool room front)
 
 abbrev body : List Entry → Room → ℕ → Grammar Code
-body pool room start = bind (code_front room start) (behind_front pool room)
+body pool room start = bind (code_front room start) (after_front pool room)
 
 contents_parts : (a b c d e f : List ℕ) → (a ++ (b ++ (c ++ d))) ++ (e ++ f) ≡ a ++ (b ++ (c ++ (d ++ (e ++ f))))
 contents_parts a b c d e f = simp append_assoc
@@ -115,10 +115,10 @@ to_holds pool t c s =
     let last = s.others.others.others in
     let both = both_of FitsAttribute (λ a. HasText pool a.name) attrs.0 attrs.4 in
     let items : CodeItems = record { max_stack = x.0; max_locals = x.1; code = x.2; handlers = hs.0; attributes = attrs.0 } in
-    let behind : s.back ≡ table handler_text hs.0 ++ table attribute_text attrs.0 =
+    let later : s.back ≡ table handler_text hs.0 ++ table attribute_text attrs.0 =
     s.others.parts ∙ ap (λ (u : List ℕ). u ++ s.others.back) hs.2 ∙ ap (λ (u : List ℕ). table handler_text hs.0 ++ u) (ended s.others.others.front s.others.others.parts last.0 ∙ attrs.2) in
     let spelled : t ≡ code_text items =
-    s.parts ∙ ap (λ (u : List ℕ). u ++ s.back) s.fits.text ∙ ap (λ (u : List ℕ). front_text x ++ u) behind ∙ contents_parts (u2 x.0) (u2 x.1) (u4 (length x.2)) x.2 (table handler_text hs.0) (table attribute_text attrs.0) in (
+    s.parts ∙ ap (λ (u : List ℕ). u ++ s.back) s.fits.text ∙ ap (λ (u : List ℕ). front_text x ++ u) later ∙ contents_parts (u2 x.0) (u2 x.1) (u4 (length x.2)) x.2 (table handler_text hs.0) (table attribute_text attrs.0) in (
       items,
       record {
         spelled = spelled;
@@ -183,30 +183,30 @@ body_taken pool room start size left bytes c rest h =
     let d = then_takes (grammar.table room (skipped room pool)) (tested start size left a.0 b.0) b.1 c rest b.3 in
     let end = d.3 in
     let last : Takes (given a.0 b.0 d.0) d.1 c rest = end.1 in
-    let behind = takes_then (grammar.table room (skipped room pool)) (given a.0 b.0) b.1 d.0 d.1 c rest d.2 last in (
-      takes_then (code_front room start) (behind_front pool room) bytes a.0 a.1 c rest a.2 (takes_then (grammar.table room (handler room)) (behind_handlers pool room a.0) a.1 b.0 b.1 c rest b.2 behind),
+    let later = takes_then (grammar.table room (skipped room pool)) (given a.0 b.0) b.1 d.0 d.1 c rest d.2 last in (
+      takes_then (code_front room start) (after_front pool room) bytes a.0 a.1 c rest a.2 (takes_then (grammar.table room (handler room)) (after_handlers pool room a.0) a.1 b.0 b.1 c rest b.2 later),
       ap (λ (u : List ℕ). length u + size) end.1.1 ∙ eqb-true (length d.1 + size) left end.0,
     )
 
 contents_taken : (pool : List Entry) (room : Room) (start size left : ℕ) (bytes : List ℕ) (c : Code) (rest : List ℕ) → Takes (body pool room start) bytes c rest → length rest + size ≡ left → Takes (code_contents pool room start size left) bytes c rest
 unfolding Takes code_contents
 contents_taken pool room start size left bytes c rest h e =
-    let a = then_takes (code_front room start) (behind_front pool room) bytes c rest h in
-    let b = then_takes (grammar.table room (handler room)) (behind_handlers pool room a.0) a.1 c rest a.3 in
+    let a = then_takes (code_front room start) (after_front pool room) bytes c rest h in
+    let b = then_takes (grammar.table room (handler room)) (after_handlers pool room a.0) a.1 c rest a.3 in
     let d = then_takes (grammar.table room (skipped room pool)) (given a.0 b.0) b.1 c rest b.3 in
     let ends : eqb (length d.1 + size) left ≡ true = eq-eqb (length d.1 + size) left (ap (λ (u : List ℕ). length u + size) (sym d.3.1) ∙ e) in
     let last : Takes (tested start size left a.0 b.0 d.0) d.1 c rest = (ends, d.3) in
-    let behind = takes_then (grammar.table room (skipped room pool)) (tested start size left a.0 b.0) b.1 d.0 d.1 c rest d.2 last in
-    takes_then (code_front room start) (tested_front pool room start size left) bytes a.0 a.1 c rest a.2 (takes_then (grammar.table room (handler room)) (tested_handlers pool room start size left a.0) a.1 b.0 b.1 c rest b.2 behind)
+    let later = takes_then (grammar.table room (skipped room pool)) (tested start size left a.0 b.0) b.1 d.0 d.1 c rest d.2 last in
+    takes_then (code_front room start) (tested_front pool room start size left) bytes a.0 a.1 c rest a.2 (takes_then (grammar.table room (handler room)) (tested_handlers pool room start size left a.0) a.1 b.0 b.1 c rest b.2 later)
 
--- ---- a Code behind its name
+-- ---- a Code after its name
 
 -- contents of some length, which hold this code
 abbrev pub IsCodeText : List Entry → List ℕ → Code → Type 0
 IsCodeText pool t c = (contents : List ℕ) × (t ≡ contents_text contents) × Short contents × (items : CodeItems) × HoldsCode pool contents items c
 
-in_code_behind : (start size left : ℕ) → size ≤ left → (in_code start size left).behind ≡ left - size
-in_code_behind start size left le = ap (λ (b : Bool). (cond b (record { behind = left - size; code = Some start }) in_file).behind) (le-leb size left le)
+in_code_after : (start size left : ℕ) → size ≤ left → (in_code start size left).after ≡ left - size
+in_code_after start size left le = ap (λ (b : Bool). (cond b (record { after = left - size; code = Some start }) in_file).after) (le-leb size left le)
 
 abbrev sized : List Entry → ℕ → ℕ → Grammar Code
 sized pool start size = here λ left. code_contents pool (in_code start size left) start size left
@@ -234,7 +234,7 @@ code_again pool start t c rest s =
     let left = length more in
     let len : length more ≡ size + length rest = length-append contents rest in
     let room = in_code start size left in
-    let enough : room.behind ≤ length rest = omega (arith, in_code_behind start size left (omega arith)) in
+    let enough : room.after ≤ length rest = omega (arith, in_code_after start size left (omega arith)) in
     let first : Takes (grammar.u4 in_file) (u4 size ++ more) size more = (number_texts in_file w32 wide32).again (u4 size) size more (refl, s.2) (omega arith) in
     let e : t ++ rest ≡ u4 size ++ more = ap (λ (u : List ℕ). u ++ rest) s.1 ∙ append_assoc (u4 size) contents rest in
     let P : List ℕ → Type 0 = λ u. Takes (grammar.u4 in_file) u size more in

@@ -4,7 +4,7 @@ use Rattle.std.proofs.lemmas.Bool.{eq-eqb, ne_eqb}
 use Rattle.pv_pool.specs.declared.entry.Entry.{Entry}
 use Rattle.pv_class.specs.declared.room.Room.{Room}
 use Rattle.pv_class.specs.declared.file.Code.{Code}
-use Rattle.pv_class.specs.declared.fault.ClassCause.TheVariants as cause
+use Rattle.pv_class.specs.declared.fault.Cause.TheVariants as cause
 use Rattle.pv_class.specs.declared.fault.Stop.{Stop}
 use Rattle.pv_class.specs.Checks.{holds}
 use Rattle.pv_class.specs.Grammars.{Grammar, give, here, check, bind, table, failure}
@@ -22,28 +22,28 @@ code_of front handlers = record { max_stack = front.0; max_locals = front.1; byt
 abbrev ended : ℕ → ℕ → ℕ → Front → ℕ → Grammar Code
 ended start size left front handlers = here λ end. check (holds (eqb (end + size) left)) (failure cause.Code start) (give (code_of front handlers))
 
-abbrev behind_handlers : List Entry → Room → ℕ → ℕ → ℕ → Front → ℕ → Grammar Code
-behind_handlers pool room start size left front handlers = bind (table room (skipped room pool)) (λ attributes. ended start size left front handlers)
+abbrev after_handlers : List Entry → Room → ℕ → ℕ → ℕ → Front → ℕ → Grammar Code
+after_handlers pool room start size left front handlers = bind (table room (skipped room pool)) (λ attributes. ended start size left front handlers)
 
-abbrev behind_front : List Entry → Room → ℕ → ℕ → ℕ → Front → Grammar Code
-behind_front pool room start size left front = bind (table room (handler room)) (λ handlers. behind_handlers pool room start size left front handlers)
+abbrev after_front : List Entry → Room → ℕ → ℕ → ℕ → Front → Grammar Code
+after_front pool room start size left front = bind (table room (handler room)) (λ handlers. after_handlers pool room start size left front handlers)
 
 pub front_fails : (pool : List Entry) (room : Room) (start size left : ℕ) (bytes : List ℕ) (s : Stop) → Fails s (read (code_front room start) bytes) → Fails s (read (code_contents pool room start size left) bytes)
 unfolding code_contents
-front_fails pool room start size left bytes s h = fails_first (code_front room start) (behind_front pool room start size left) bytes s h
+front_fails pool room start size left bytes s h = fails_first (code_front room start) (after_front pool room start size left) bytes s h
 
-read_front : (pool : List Entry) (room : Room) (start size left : ℕ) (bytes rest : List ℕ) (front : Front) → read (code_front room start) bytes ≡ Ok (front, rest) → read (code_contents pool room start size left) bytes ≡ read (behind_front pool room start size left front) rest
+read_front : (pool : List Entry) (room : Room) (start size left : ℕ) (bytes rest : List ℕ) (front : Front) → read (code_front room start) bytes ≡ Ok (front, rest) → read (code_contents pool room start size left) bytes ≡ read (after_front pool room start size left front) rest
 unfolding code_contents
-read_front pool room start size left bytes rest front e = read_then (code_front room start) (behind_front pool room start size left) bytes front rest e
+read_front pool room start size left bytes rest front e = read_then (code_front room start) (after_front pool room start size left) bytes front rest e
 
 pub handlers_fail : (pool : List Entry) (room : Room) (start size left : ℕ) (bytes rest : List ℕ) (front : Front) (s : Stop) → read (code_front room start) bytes ≡ Ok (front, rest) → Fails s (read (table room (handler room)) rest) → Fails s (read (code_contents pool room start size left) bytes)
 handlers_fail pool room start size left bytes rest front s e h =
-    fails_as s _ _ (read_front pool room start size left bytes rest front e) (fails_first (table room (handler room)) (behind_handlers pool room start size left front) rest s h)
+    fails_as s _ _ (read_front pool room start size left bytes rest front e) (fails_first (table room (handler room)) (after_handlers pool room start size left front) rest s h)
 
 read_handlers : (pool : List Entry) (room : Room) (start size left : ℕ) (bytes rest more : List ℕ) (front : Front) (handlers : ℕ) → read (code_front room start) bytes ≡ Ok (front, rest) → read (table room (handler room)) rest ≡ Ok (handlers, more)
-    → read (code_contents pool room start size left) bytes ≡ read (behind_handlers pool room start size left front handlers) more
+    → read (code_contents pool room start size left) bytes ≡ read (after_handlers pool room start size left front handlers) more
 read_handlers pool room start size left bytes rest more front handlers e f =
-    read_front pool room start size left bytes rest front e ∙ read_then (table room (handler room)) (behind_handlers pool room start size left front) rest handlers more f
+    read_front pool room start size left bytes rest front e ∙ read_then (table room (handler room)) (after_handlers pool room start size left front) rest handlers more f
 
 pub attributes_fail : (pool : List Entry) (room : Room) (start size left : ℕ) (bytes rest more : List ℕ) (front : Front) (handlers : ℕ) (s : Stop) → read (code_front room start) bytes ≡ Ok (front, rest) → read (table room (handler room)) rest ≡ Ok (handlers, more)
     → Fails s (read (table room (skipped room pool)) more) → Fails s (read (code_contents pool room start size left) bytes)

@@ -20,7 +20,7 @@ use Rattle.pv_pool.specs.Pools.{entry_under, HasText, HasClass}
 use Rattle.pv_pool.specs.Readers.{◌>>=◌, text_under, text_of}
 use Rattle.pv_class.specs.declared.signature.Signature.{Signature}
 use Rattle.pv_class.specs.Checks.{Check, Passes, holds, utf8, class, class_or_none, field_type, method_type, new}
-use Rattle.pv_class.specs.Deciding.{is_class, is_whole, is_field_type, behind_first, behind_params, is_result, is_method_type, alike, passes}
+use Rattle.pv_class.specs.Deciding.{is_class, is_whole, is_field_type, after_first, after_params, is_result, is_method_type, alike, passes}
 
 -- ---- descriptors
 
@@ -33,25 +33,25 @@ pub field_decides : (text : List ℕ) → (is_field_type text ≡ true) ↔ ((t 
 field_decides text = whole_field text (field_at text) refl
 
 -- parameters that are found stand there
-first_takes : (n : ℕ) (text rest : List ℕ) (found : Option (JType × List ℕ)) → ((behind : List ℕ) → behind_params n behind ≡ Some rest → (ts : List JType) × ReadsParams behind ts rest) → field_at text ≡ found → behind_first (behind_params n) found ≡ Some rest
+first_takes : (n : ℕ) (text rest : List ℕ) (found : Option (JType × List ℕ)) → ((later : List ℕ) → after_params n later ≡ Some rest → (ts : List JType) × ReadsParams later ts rest) → field_at text ≡ found → after_first (after_params n) found ≡ Some rest
     → (ts : List JType) × ReadsParams text ts rest
 unfolding ReadsParams
 first_takes n text rest None others is h = absurd cc
-first_takes n text rest (Some (t, behind)) others is h = let o = others behind h in (t ∷ o.0, (behind, is, o.1))
+first_takes n text rest (Some (t, later)) others is h = let o = others later h in (t ∷ o.0, (later, is, o.1))
 
-behind_takes : (n : ℕ) (text rest : List ℕ) → behind_params n text ≡ Some rest → (ts : List JType) × ReadsParams text ts rest
-unfolding behind_params ReadsParams
-behind_takes zero text rest e = absurd cc
-behind_takes (suc n) [] rest e = absurd cc
-behind_takes (suc n) (b ∷ text) rest e =
+after_takes : (n : ℕ) (text rest : List ℕ) → after_params n text ≡ Some rest → (ts : List JType) × ReadsParams text ts rest
+unfolding after_params ReadsParams
+after_takes zero text rest e = absurd cc
+after_takes (suc n) [] rest e = absurd cc
+after_takes (suc n) (b ∷ text) rest e =
     elim (cases_eq b 41) [
       | inl is ↦ let found = rw (eq-eqb b 41 is) at e in ([], cc (is, found))
-      | inr ne ↦ first_takes n (b ∷ text) rest (field_at (b ∷ text)) (λ behind h. behind_takes n behind rest h) refl (rw (ne_eqb b 41 ne) at e)
+      | inr ne ↦ first_takes n (b ∷ text) rest (field_at (b ∷ text)) (λ later h. after_takes n later rest h) refl (rw (ne_eqb b 41 ne) at e)
     ]
 
 -- and those that stand there are found
-close_again : (n : ℕ) (text rest : List ℕ) → length text ≤ n → text ≡ 41 ∷ rest → behind_params n text ≡ Some rest
-unfolding behind_params
+close_again : (n : ℕ) (text rest : List ℕ) → length text ≤ n → text ≡ 41 ∷ rest → after_params n text ≡ Some rest
+unfolding after_params
 close_again n [] rest le e = absurd cc
 close_again zero (b ∷ text) rest le e = absurd (omega arith)
 close_again (suc n) (b ∷ text) rest le e =
@@ -63,21 +63,21 @@ nothing_read : field_at [] ≡ None
 unfolding field_at
 nothing_read = refl
 
-first_again : (n : ℕ) (text rest behind : List ℕ) (t : JType) → length text ≤ n → field_at text ≡ Some (t, behind) → ((m : ℕ) → length behind ≤ m → behind_params m behind ≡ Some rest) → behind_params n text ≡ Some rest
-unfolding behind_params
-first_again n [] rest behind t le e others = absurd (let nothing = nothing_read in cc)
-first_again zero (b ∷ text) rest behind t le e others = absurd (omega arith)
-first_again (suc n) (b ∷ text) rest behind t le e others =
-    let shorter = is_shorter (b ∷ text) behind t (sym e) in
+first_again : (n : ℕ) (text rest later : List ℕ) (t : JType) → length text ≤ n → field_at text ≡ Some (t, later) → ((m : ℕ) → length later ≤ m → after_params m later ≡ Some rest) → after_params n text ≡ Some rest
+unfolding after_params
+first_again n [] rest later t le e others = absurd (let nothing = nothing_read in cc)
+first_again zero (b ∷ text) rest later t le e others = absurd (omega arith)
+first_again (suc n) (b ∷ text) rest later t le e others =
+    let shorter = is_shorter (b ∷ text) later t (sym e) in
     elim (cases_eq b 41) [
-      | inl is ↦ absurd (let nothing = no_bracket text in let both : field_at (41 ∷ text) ≡ Some (t, behind) = subst (λ (c : ℕ). field_at (c ∷ text) ≡ Some (t, behind)) is e in cc)
+      | inl is ↦ absurd (let nothing = no_bracket text in let both : field_at (41 ∷ text) ≡ Some (t, later) = subst (λ (c : ℕ). field_at (c ∷ text) ≡ Some (t, later)) is e in cc)
       | inr ne ↦ rw (ne_eqb b 41 ne, e) (others n (omega arith))
     ]
 
-behind_again : (n : ℕ) (text rest : List ℕ) (ts : List JType) → length text ≤ n → ReadsParams text ts rest → behind_params n text ≡ Some rest
+after_again : (n : ℕ) (text rest : List ℕ) (ts : List JType) → length text ≤ n → ReadsParams text ts rest → after_params n text ≡ Some rest
 unfolding ReadsParams
-behind_again n text rest [] le h = close_again n text rest le h
-behind_again n text rest (t ∷ ts) le h = first_again n text rest h.0 t le h.1 (λ m le'. behind_again m h.0 rest ts le' h.2)
+after_again n text rest [] le h = close_again n text rest le h
+after_again n text rest (t ∷ ts) le h = first_again n text rest h.0 t le h.1 (λ m le'. after_again m h.0 rest ts le' h.2)
 
 -- a test of two
 or_true : (a b : Bool) → (a || b) ≡ true → (a ≡ true) ⊎ (b ≡ true)
@@ -107,10 +107,10 @@ result_decides text =
     of_result None is = or_left (bytes_eq text (86 ∷ [])) (is_field_type text) ((bytes_eq-Decides text (86 ∷ [])).1 is)
     of_result (Some t) is = or_right (bytes_eq text (86 ∷ [])) (is_field_type text) ((field_decides text).1 (t, is))
 
-method_reads : (body : List ℕ) (found : Option (List ℕ)) → behind_params (length body) body ≡ found → is_result found ≡ true → (d : Descriptor) × IsMethodType (40 ∷ body) d
+method_reads : (body : List ℕ) (found : Option (List ℕ)) → after_params (length body) body ≡ found → is_result found ≡ true → (d : Descriptor) × IsMethodType (40 ∷ body) d
 method_reads body None e ok = absurd cc
 method_reads body (Some last) e ok =
-    let ts = behind_takes (length body) body last e in
+    let ts = after_takes (length body) body last e in
     let r = (result_decides last).0 ok in
     let d : Descriptor = record { params = ts.0; result = r.0 } in
     (d, method_takes (40 ∷ body) d (record { body = body; last = last; opened = refl; params = ts.1; result = r.1 }))
@@ -119,16 +119,16 @@ pub method_decides : (text : List ℕ) → (is_method_type text ≡ true) ↔ ((
 method_decides [] = (λ ok. absurd (true≢false (sym ok)), λ h. absurd (let m = method_again [] h.0 h.1 in let e = m.opened in cc))
 method_decides (b ∷ body) = (
   λ ok.
-      let both = and_parts (eqb b 40) (is_result (behind_params (length body) body)) ok in
-      let d = method_reads body (behind_params (length body) body) refl both.1 in
+      let both = and_parts (eqb b 40) (is_result (after_params (length body) body)) ok in
+      let d = method_reads body (after_params (length body) body) refl both.1 in
       (d.0, subst (λ (c : ℕ). IsMethodType (c ∷ body) d.0) (sym (eqb-true b 40 both.0)) d.1),
   λ h.
       let m = method_again (b ∷ body) h.0 h.1 in
       let first : b ≡ 40 = cc (m.opened) in
       let same : m.body ≡ body = cc (m.opened) in
       let params = subst (λ (x : List ℕ). ReadsParams x h.0.params m.last) same m.params in
-      let found = behind_again (length body) body m.last h.0.params (omega arith) params in
-      and_from (eqb b 40) (is_result (behind_params (length body) body)) (eq-eqb b 40 first) (ap is_result found ∙ (result_decides m.last).1 (h.0.result, m.result)),
+      let found = after_again (length body) body m.last h.0.params (omega arith) params in
+      and_from (eqb b 40) (is_result (after_params (length body) body)) (eq-eqb b 40 first) (ap is_result found ∙ (result_decides m.last).1 (h.0.result, m.result)),
 )
 
 -- ---- indices and signatures
@@ -204,10 +204,10 @@ true_or_false : (b : Bool) → (b ≡ true → ⊥) → false ≡ b
 true_or_false true never = absurd (never refl)
 true_or_false false never = refl
 
-pub told_field : (text : List ℕ) (found : Option JType) → MatchOption found ((t : JType) → IsFieldType text t → ⊥) (λ t. IsFieldType text t) → is_some found ≡ is_field_type text
-told_field text (Some t) h = sym ((field_decides text).1 (t, h))
-told_field text None h = true_or_false (is_field_type text) (λ e. let t = (field_decides text).0 e in h t.0 t.1)
+pub found_field : (text : List ℕ) (found : Option JType) → MatchOption found ((t : JType) → IsFieldType text t → ⊥) (λ t. IsFieldType text t) → is_some found ≡ is_field_type text
+found_field text (Some t) h = sym ((field_decides text).1 (t, h))
+found_field text None h = true_or_false (is_field_type text) (λ e. let t = (field_decides text).0 e in h t.0 t.1)
 
-pub told_method : (text : List ℕ) (found : Option Descriptor) → MatchOption found ((d : Descriptor) → IsMethodType text d → ⊥) (λ d. IsMethodType text d) → is_some found ≡ is_method_type text
-told_method text (Some d) h = sym ((method_decides text).1 (d, h))
-told_method text None h = true_or_false (is_method_type text) (λ e. let d = (method_decides text).0 e in h d.0 d.1)
+pub found_method : (text : List ℕ) (found : Option Descriptor) → MatchOption found ((d : Descriptor) → IsMethodType text d → ⊥) (λ d. IsMethodType text d) → is_some found ≡ is_method_type text
+found_method text (Some d) h = sym ((method_decides text).1 (d, h))
+found_method text None h = true_or_false (is_method_type text) (λ e. let d = (method_decides text).0 e in h d.0 d.1)

@@ -1,4 +1,4 @@
--- Each method is new behind those before it where no two are the same.
+-- Each method is new after those before it where no two are the same.
 use Rattle.std.proofs.Common.{◌≡◌, ◌⊎◌, inl, inr, ℕ, zero, suc, ◌<◌, List, [], ◌∷◌, ◌++◌, length, get_or, Some, refl, sym, ap, subst, ◌∙◌, append_assoc, arith, slice_get}
 use Rattle.std.specs.List.{Contains}
 use Rattle.std.proofs.lemmas.List.{append-nil}
@@ -9,7 +9,7 @@ use Rattle.pv_class.specs.ClassGrammar.{signature, signatures}
 use Rattle.pv_class.specs.ClassFiles.{AreDistinct}
 use Rattle.pv_class.proofs.Deciding.{same_signature}
 
--- each of the methods is new behind these
+-- each of the methods is new after these
 abbrev pub Fresh : List Method → List Method → Type 0
 Fresh so_far [] = Unit {0}
 Fresh so_far (m ∷ ms) = (Contains (signatures so_far) (signature m) → ⊥) × Fresh (so_far ++ m ∷ []) ms
@@ -64,13 +64,13 @@ one_more xs y distinct new i j m n ei ej names descs = by_places (at_or_last xs 
     by_places (inr a) (inl b) = absurd (new (has_signature xs j n (signature y) b (sym same ∙ ap signature a.1)))
     by_places (inr a) (inr b) = a.0 ∙ sym b.0
 
-fresh_behind : (so_far ms : List Method) → AreDistinct so_far → Fresh so_far ms → AreDistinct (so_far ++ ms)
-fresh_behind so_far [] distinct fresh = subst AreDistinct (sym (append-nil so_far)) distinct
-fresh_behind so_far (m ∷ ms) distinct fresh = subst AreDistinct (append_assoc so_far (m ∷ []) ms) (fresh_behind (so_far ++ m ∷ []) ms (one_more so_far m distinct fresh.0) fresh.1)
+fresh_after : (so_far ms : List Method) → AreDistinct so_far → Fresh so_far ms → AreDistinct (so_far ++ ms)
+fresh_after so_far [] distinct fresh = subst AreDistinct (sym (append-nil so_far)) distinct
+fresh_after so_far (m ∷ ms) distinct fresh = subst AreDistinct (append_assoc so_far (m ∷ []) ms) (fresh_after (so_far ++ m ∷ []) ms (one_more so_far m distinct fresh.0) fresh.1)
 
-distinct_behind : (so_far ms : List Method) → AreDistinct (so_far ++ ms) → Fresh so_far ms
-distinct_behind so_far [] distinct = tt
-distinct_behind so_far (m ∷ ms) distinct = (
+distinct_after : (so_far ms : List Method) → AreDistinct (so_far ++ ms) → Fresh so_far ms
+distinct_after so_far [] distinct = tt
+distinct_after so_far (m ∷ ms) distinct = (
   λ there.
       let h = there_at so_far (signature m) there.0 there.1 there.2 in
       let name = ap (λ (s : Signature). s.name) h.3 in
@@ -78,11 +78,11 @@ distinct_behind so_far (m ∷ ms) distinct = (
       let same = distinct h.0 (length so_far) h.1 m (at_left so_far (m ∷ ms) h.0 h.1 h.2) (at_length so_far m ms) name desc in
       let within = slice_get_within so_far h.0 h.1 h.2 in
       absurd (omega arith),
-  distinct_behind (so_far ++ m ∷ []) ms (subst AreDistinct (sym (append_assoc so_far (m ∷ []) ms)) distinct),
+  distinct_after (so_far ++ m ∷ []) ms (subst AreDistinct (sym (append_assoc so_far (m ∷ []) ms)) distinct),
 )
 
 pub fresh_distinct : (ms : List Method) → Fresh [] ms → AreDistinct ms
-fresh_distinct ms fresh = fresh_behind [] ms (λ i j m n ei ej names descs. absurd cc) fresh
+fresh_distinct ms fresh = fresh_after [] ms (λ i j m n ei ej names descs. absurd cc) fresh
 
 pub distinct_fresh : (ms : List Method) → AreDistinct ms → Fresh [] ms
-distinct_fresh ms distinct = distinct_behind [] ms distinct
+distinct_fresh ms distinct = distinct_after [] ms distinct

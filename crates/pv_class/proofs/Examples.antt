@@ -17,10 +17,10 @@ use Rattle.pv_pool.specs.Pools.{spelling}
 use Rattle.pv_class.specs.declared.instruction.Insn.{Insn}
 use Rattle.pv_class.specs.declared.instruction.Insn.TheVariants.{Plain}
 use Rattle.pv_class.specs.declared.file.Method.{Method}
-use Rattle.pv_class.specs.declared.fault.ClassCause.TheVariants as cause
+use Rattle.pv_class.specs.declared.fault.Cause.TheVariants as cause
 use Rattle.pv_class.specs.Grammars.{failure, bind, times}
 use Rattle.pv_class.specs.ClassGrammar as grammar
-use Rattle.pv_class.specs.Deciding.{behind_params}
+use Rattle.pv_class.specs.Deciding.{after_params}
 use Rattle.pv_value.specs.Reading.{field_at}
 use Rattle.pv_class.specs.Reading.{read}
 use Rattle.pv_class.specs.Items.{Items, CodeItems, code_text, file_text}
@@ -68,16 +68,16 @@ abbrev method : Method
 method = record { flags = 9; name = codes "f"; desc = codes "()I"; code = Some (code_of code) }
 
 tail_reads : read (grammar.tail pool) (drop 56 bytes) ≡ Ok (method ∷ [], [])
-unfolding read bind times grammar.tail grammar.class_front grammar.class_end grammar.index grammar.interface grammar.field grammar.member grammar.method grammar.attributes grammar.attribute grammar.code grammar.code_contents grammar.code_front grammar.skipped grammar.handler grammar.contents grammar.methods grammar.all_methods behind_params field_at
+unfolding read bind times grammar.tail grammar.class_front grammar.class_end grammar.index grammar.interface grammar.field grammar.member grammar.method grammar.attributes grammar.attribute grammar.code grammar.code_contents grammar.code_front grammar.skipped grammar.handler grammar.contents grammar.methods grammar.all_methods after_params field_at
 tail_reads = refl
 
--- the first 7 bytes are cut in the major version, and a byte behind the class is one too many
+-- the first 7 bytes are cut in the major version, and a byte after the class is one too many
 head_cut : read grammar.head (take 7 bytes) ≡ Err (failure cause.Truncated 1)
 unfolding read bind grammar.head
 head_cut = refl
 
 one_too_many : read (grammar.tail pool) (drop 56 bytes ++ 0 ∷ []) ≡ Err (failure cause.Trailing 1)
-unfolding read bind times grammar.tail grammar.class_front grammar.class_end grammar.index grammar.interface grammar.field grammar.member grammar.method grammar.attributes grammar.attribute grammar.code grammar.code_contents grammar.code_front grammar.skipped grammar.handler grammar.contents grammar.methods grammar.all_methods behind_params field_at
+unfolding read bind times grammar.tail grammar.class_front grammar.class_end grammar.index grammar.interface grammar.field grammar.member grammar.method grammar.attributes grammar.attribute grammar.code grammar.code_contents grammar.code_front grammar.skipped grammar.handler grammar.contents grammar.methods grammar.all_methods after_params field_at
 one_too_many = refl
 
 -- its code spells iconst_1 and ireturn

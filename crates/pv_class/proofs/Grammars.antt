@@ -23,7 +23,7 @@ read_then {A = A} (give y) k bytes x rest e =
     ap (λ (p : A × List ℕ). read (k p.0) p.1) same
 read_then (here f) k bytes x rest e = read_then (f (length bytes)) k bytes x rest e
 read_then (item room n f) k bytes x rest e =
-    item_then (ltb (length bytes) (n + room.behind)) (short room (length bytes)) (short room (length bytes)) (read (f (take n bytes)) (drop n bytes)) (read (bind (f (take n bytes)) k) (drop n bytes)) x rest (read (k x) rest) e
+    item_then (ltb (length bytes) (n + room.after)) (short room (length bytes)) (short room (length bytes)) (read (f (take n bytes)) (drop n bytes)) (read (bind (f (take n bytes)) k) (drop n bytes)) x rest (read (k x) rest) e
     (λ h. read_then (f (take n bytes)) k (drop n bytes) x rest h)
 read_then (check c s g) k bytes x rest e = check_then (passes c) s (read g bytes) (read (bind g k) bytes) x rest (read (k x) rest) e (λ h. read_then g k bytes x rest h)
 
@@ -41,14 +41,14 @@ unfolding read bind
 read_fails (give y) k bytes e h = absurd cc
 read_fails (here f) k bytes e h = read_fails (f (length bytes)) k bytes e h
 read_fails (item room n f) k bytes e h =
-    item_fails (ltb (length bytes) (n + room.behind)) (short room (length bytes)) e (read (f (take n bytes)) (drop n bytes)) (read (bind (f (take n bytes)) k) (drop n bytes)) h (λ i. read_fails (f (take n bytes)) k (drop n bytes) e i)
+    item_fails (ltb (length bytes) (n + room.after)) (short room (length bytes)) e (read (f (take n bytes)) (drop n bytes)) (read (bind (f (take n bytes)) k) (drop n bytes)) h (λ i. read_fails (f (take n bytes)) k (drop n bytes) e i)
 read_fails (check c s g) k bytes e h = check_fails (passes c) s e (read g bytes) (read (bind g k) bytes) h (λ i. read_fails g k bytes e i)
 
 pub read_give : {A : Type 0} (x : A) (bytes : List ℕ) → read (give x) bytes ≡ Ok (x, bytes)
 unfolding read
 read_give x bytes = refl
 
--- where the first part fails, or the second behind it, the whole does
+-- where the first part fails, or the second after it, the whole does
 pub fails_first : {A B : Type 0} (g : Grammar A) (k : A → Grammar B) (bytes : List ℕ) (s : Stop) → Fails s (read g bytes) → Fails s (read (bind g k) bytes)
 fails_first g k bytes (Failed e) h = read_fails g k bytes e h
 fails_first g k bytes Memory h = tt
@@ -60,7 +60,7 @@ fails_as {B = B} s q q' e h = subst (λ (x : Result B Failure). Fails s x) (sym 
 pub gives_err : {Y B : Type 0} (view : Y → B) (r : Result Y Stop) (s : Stop) (q : Result B Failure) → r ≡ Err s → Fails s q → Gives view r q
 gives_err {Y = Y} view r s q e h = subst (λ (x : Result Y Stop). Gives view x q) (sym e) h
 
--- ---- so many of them
+-- ---- n of them
 
 times_next : {A : Type 0} (n i : ℕ) (g : Grammar A) → i < n → times (n - i) g ≡ bind g (λ x. times (n - (i + 1)) g)
 unfolding times

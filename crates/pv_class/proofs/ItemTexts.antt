@@ -13,7 +13,7 @@ use Rattle.pv_class.specs.declared.room.Room.{Room}
 use Rattle.pv_class.specs.declared.member.Member as front
 use Rattle.pv_class.specs.declared.member.Kind.{Kind}
 use Rattle.pv_class.specs.declared.member.Kind.TheVariants as kind
-use Rattle.pv_class.specs.declared.fault.ClassCause.TheVariants as cause
+use Rattle.pv_class.specs.declared.fault.Cause.TheVariants as cause
 use Rattle.pv_class.specs.Checks.{Check, Passes, utf8, class}
 use Rattle.pv_class.specs.Grammars.{Grammar, bind, failure}
 use Rattle.pv_class.specs.Grammars as grammar
@@ -40,8 +40,8 @@ text_there pool i h = ap (λ (o : Option Entry). o >>= text_of) h.1
 pub text_found : (pool : List Entry) (i : ℕ) → HasText pool i → text_under pool i ≡ Some (text_at pool i)
 text_found pool i h = let e = text_there pool i h in e ∙ ap (λ (o : Option (List ℕ)). Some (or_nothing o)) (sym e)
 
-pub text_told : (pool : List Entry) (i : ℕ) (text : List ℕ) → text_under pool i ≡ Some text → text_at pool i ≡ text
-text_told pool i text e = ap or_nothing e
+pub text_read : (pool : List Entry) (i : ℕ) (text : List ℕ) → text_under pool i ≡ Some text → text_at pool i ≡ text
+text_read pool i text e = ap or_nothing e
 
 entry_is : (o : Option Entry) (text : List ℕ) → (o >>= text_of) ≡ Some text → o ≡ Some (Utf8 text)
 entry_is (Some (Utf8 t)) text e = cc
@@ -60,7 +60,7 @@ index_texts : (room : Room) (kind : ℕ → Check) → IsTexts (index room kind)
 unfolding index
 index_texts room kind =
     let T : ℕ → List ℕ → ℕ → Type 0 = λ i t x. Passes (kind i) × Done i t x in
-    same_texts (here_texts (λ left. with_u2 room T (λ i. check_texts (kind i) (failure cause.PoolReference left) (give_texts i))))
+    same_texts (here_texts (λ left. with_u2 room T (λ i. check_texts (kind i) (failure cause.Reference left) (give_texts i))))
     (λ t x s.
     let P : ℕ → Type 0 = λ i. (t ≡ u2 i) × IsIndex kind i in
     subst P (sym s.4.1.1) (ended (u2 s.0) s.2 s.4.1.0, (s.3, s.4.0)))
@@ -186,7 +186,7 @@ member_texts k pool =
       ),
     ))
 
--- the attributes behind the front of a member
+-- the attributes after the front of a member
 abbrev pub with_attributes : front.Member → List Attribute → Member
 with_attributes m attributes = record { flags = m.flags; name = m.name; desc = m.desc; attributes = attributes }
 
@@ -202,8 +202,8 @@ member_parts a b c d = simp append_assoc
 abbrev pub IsPlainField : List Entry → Member → Type 0
 IsPlainField pool m = FitsMember m × IsField pool m
 
-field_told : (pool : List Entry) (m : Member) → IsField pool m → (t : JType) × IsFieldType (text_at pool m.desc) t
-field_told pool m is = subst (λ (desc : List ℕ). (t : JType) × IsFieldType desc t) (sym (text_told pool m.desc is.desc is.desc_is)) is.typed
+field_typed : (pool : List Entry) (m : Member) → IsField pool m → (t : JType) × IsFieldType (text_at pool m.desc) t
+field_typed pool m is = subst (λ (desc : List ℕ). (t : JType) × IsFieldType desc t) (sym (text_read pool m.desc is.desc is.desc_is)) is.typed
 
 pub field_texts : (pool : List Entry) → IsTexts (field pool) in_file (One member_text (IsPlainField pool))
 unfolding field
@@ -229,7 +229,7 @@ field_texts pool =
     let f = s.2.0 in
     let is = s.2.1 in
     let has : HasText pool m.desc = text_is pool m.desc is.desc is.desc_is in
-    let front : IsFront kind.Field pool (front_text (front_of m)) (front_of m) = record { text = refl; flags = f.flags; name = (f.name, is.name); desc = (f.desc, has); typed = field_told pool m is } in
+    let front : IsFront kind.Field pool (front_text (front_of m)) (front_of m) = record { text = refl; flags = f.flags; name = (f.name, is.name); desc = (f.desc, has); typed = field_typed pool m is } in
     let text = s.1 ∙ sym (member_parts (u2 m.flags) (u2 m.name) (u2 m.desc) (table attribute_text m.attributes)) in
     record {
       first = front_of m;

@@ -2,11 +2,11 @@
 use Rattle.std.proofs.Common.{◌≡◌, ℕ, suc, ◌+◌, ◌-◌, ◌<◌, ◌≤◌, List, length, Bool, true, false, Option, Some, None, is_some, Ok, Err, sym, ap, subst, ◌∙◌, true≢false, arith}
 use Rattle.pv_pool.specs.declared.entry.Entry.{Entry}
 use Rattle.pv_class.specs.declared.file.Code.{Code}
-use Rattle.pv_class.specs.declared.fault.ClassCause.TheVariants as cause
+use Rattle.pv_class.specs.declared.fault.Cause.TheVariants as cause
 use Rattle.pv_class.specs.declared.fault.Stop.{Stop}
 use Rattle.pv_class.specs.Checks.{utf8}
 use Rattle.pv_class.specs.Grammars.{Grammar, give, bind, failure}
-use Rattle.pv_class.specs.ClassGrammar.{in_file, index, contents, code, is_code, attribute_behind, attribute, attributes}
+use Rattle.pv_class.specs.ClassGrammar.{in_file, index, contents, code, is_code, attribute_named, attribute, attributes}
 use Rattle.pv_class.specs.Reading.{read, Fails}
 use Rattle.pv_class.proofs.Grammars.{read_then, read_give, fails_first, fails_as}
 
@@ -14,12 +14,12 @@ use Rattle.pv_class.proofs.Grammars.{read_then, read_give, fails_first, fails_as
 
 pub name_fails : (pool : List Entry) (so_far : Option Code) (bytes : List ℕ) (s : Stop) → Fails s (read (index in_file (utf8 pool)) bytes) → Fails s (read (attribute pool so_far) bytes)
 unfolding attribute read
-name_fails pool so_far bytes s h = fails_first (index in_file (utf8 pool)) (λ name. attribute_behind pool so_far (length bytes) (is_code pool name)) bytes s h
+name_fails pool so_far bytes s h = fails_first (index in_file (utf8 pool)) (λ name. attribute_named pool so_far (length bytes) (is_code pool name)) bytes s h
 
-read_name : (pool : List Entry) (so_far : Option Code) (bytes rest : List ℕ) (name : ℕ) (b : Bool) → read (index in_file (utf8 pool)) bytes ≡ Ok (name, rest) → is_code pool name ≡ b → read (attribute pool so_far) bytes ≡ read (attribute_behind pool so_far (length bytes) b) rest
+read_name : (pool : List Entry) (so_far : Option Code) (bytes rest : List ℕ) (name : ℕ) (b : Bool) → read (index in_file (utf8 pool)) bytes ≡ Ok (name, rest) → is_code pool name ≡ b → read (attribute pool so_far) bytes ≡ read (attribute_named pool so_far (length bytes) b) rest
 unfolding attribute read
 read_name pool so_far bytes rest name b e is =
-    read_then (index in_file (utf8 pool)) (λ n. attribute_behind pool so_far (length bytes) (is_code pool n)) bytes name rest e ∙ ap (λ (c : Bool). read (attribute_behind pool so_far (length bytes) c) rest) is
+    read_then (index in_file (utf8 pool)) (λ n. attribute_named pool so_far (length bytes) (is_code pool n)) bytes name rest e ∙ ap (λ (c : Bool). read (attribute_named pool so_far (length bytes) c) rest) is
 
 pub other_fails : (pool : List Entry) (so_far : Option Code) (bytes rest : List ℕ) (name : ℕ) (s : Stop) → read (index in_file (utf8 pool)) bytes ≡ Ok (name, rest) → is_code pool name ≡ false → Fails s (read (contents in_file) rest) → Fails s (read (attribute pool so_far) bytes)
 other_fails pool so_far bytes rest name s e is h = fails_as s _ _ (read_name pool so_far bytes rest name false e is) (fails_first (contents in_file) (λ skipped. give so_far) rest s h)
@@ -46,7 +46,7 @@ pub code_reads : (pool : List Entry) (so_far : Option Code) (bytes rest more : L
     → read (attribute pool so_far) bytes ≡ Ok (Some c, more)
 code_reads pool so_far bytes rest more name c e is some h = read_first pool so_far bytes rest name e is some ∙ read_then (code pool (length bytes)) (λ c. give (Some c)) rest c more h ∙ read_give (Some c) more
 
--- ---- so many of them
+-- ---- n of them
 
 attributes_next : (pool : List Entry) (n i : ℕ) (so_far : Option Code) → i < n → attributes pool (n - i) so_far ≡ bind (attribute pool so_far) (λ now. attributes pool (n - (i + 1)) now)
 unfolding attributes

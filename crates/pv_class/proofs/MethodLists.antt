@@ -12,29 +12,29 @@ use Rattle.pv_class.specs.declared.member.Kind.TheVariants as kind
 use Rattle.pv_class.specs.declared.file.Code.{Code}
 use Rattle.pv_class.specs.declared.file.Method.{Method}
 use Rattle.pv_class.specs.declared.signature.Signature.{Signature}
-use Rattle.pv_class.specs.declared.fault.ClassCause.TheVariants as cause
+use Rattle.pv_class.specs.declared.fault.Cause.TheVariants as cause
 use Rattle.pv_class.specs.Checks.{Passes, new}
 use Rattle.pv_class.specs.Grammars.{failure}
 use Rattle.pv_class.specs.ClassGrammar.{in_file, text_at, signature_of, method_of, signature, signatures, method, methods, all_methods}
 use Rattle.pv_class.specs.Items.{u2, IsU2, table, IsTable, attribute_text, FitsAttribute, Member, member_text, FitsMember}
 use Rattle.pv_class.specs.ClassFiles.{IsMethod, AreDistinct}
 use Rattle.pv_class.proofs.Takings.{IsTexts, same_texts, then_texts, check_texts, here_texts, give_texts, Follow, with_u2, joined, ended}
-use Rattle.pv_class.proofs.ItemTexts.{both_of, of_both, text_found, text_told, text_is, IsFront, member_texts, with_attributes, front_of, front_text, member_parts}
+use Rattle.pv_class.proofs.ItemTexts.{both_of, of_both, text_found, text_read, text_is, IsFront, member_texts, with_attributes, front_of, front_text, member_parts}
 use Rattle.pv_class.proofs.MethodTexts.{KeepAll, kept_texts, code_among, among_threads}
 use Rattle.pv_class.proofs.Deciding.{same_signature}
 use Rattle.pv_class.proofs.Distinct.{Fresh, fresh_distinct, distinct_fresh}
 
 -- ---- a method
 
--- a method that is new behind others with these signatures
+-- a method that is new after others with these signatures
 abbrev IsNew : List Entry → List Signature → List ℕ → Method → Type 0
 IsNew pool seen t method = (m : Member) × (t ≡ member_text m) × FitsMember m × IsMethod pool m method × (Contains seen (signature method) → ⊥)
 
-abbrev Behind : List Entry → front.Member → List ℕ → Method → Type 0
-Behind pool m = Follow u2 IsU2 (λ n. Then (Option Code) Method (KeepAll pool None n) (λ code. Done (method_of pool m code)))
+abbrev AfterFront : List Entry → front.Member → List ℕ → Method → Type 0
+AfterFront pool m = Follow u2 IsU2 (λ n. Then (Option Code) Method (KeepAll pool None n) (λ code. Done (method_of pool m code)))
 
 abbrev Parts : List Entry → List Signature → List ℕ → Method → Type 0
-Parts pool seen = Then front.Member Method (IsFront kind.Method pool) (λ m t y. Passes (new seen (signature_of pool m)) × Behind pool m t y)
+Parts pool seen = Then front.Member Method (IsFront kind.Method pool) (λ m t y. Passes (new seen (signature_of pool m)) × AfterFront pool m t y)
 
 to_new : (pool : List Entry) (seen : List Signature) (t : List ℕ) (y : Method) → Parts pool seen t y → IsNew pool seen t y
 to_new pool seen t y s =
@@ -47,12 +47,12 @@ to_new pool seen t y s =
     let both = both_of FitsAttribute (λ a. HasText pool a.name) attrs k.fits.3 in
     let all = with_attributes m attrs in
     let made = method_of pool m k.first in
-    let behind : s.back ≡ table attribute_text attrs = joined (u2 b.0) b.2 (ended k.front k.parts k.others.0 ∙ k.fits.2) ∙ ap (λ (n : ℕ). u2 n ++ flat_map attribute_text attrs) (sym len) in
-    let text : t ≡ member_text all = s.parts ∙ ap (λ (u : List ℕ). u ++ s.back) f.text ∙ ap (λ (u : List ℕ). front_text m ++ u) behind ∙ member_parts (u2 m.flags) (u2 m.name) (u2 m.desc) (table attribute_text attrs) in
+    let later : s.back ≡ table attribute_text attrs = joined (u2 b.0) b.2 (ended k.front k.parts k.others.0 ∙ k.fits.2) ∙ ap (λ (n : ℕ). u2 n ++ flat_map attribute_text attrs) (sym len) in
+    let text : t ≡ member_text all = s.parts ∙ ap (λ (u : List ℕ). u ++ s.back) f.text ∙ ap (λ (u : List ℕ). front_text m ++ u) later ∙ member_parts (u2 m.flags) (u2 m.name) (u2 m.desc) (table attribute_text attrs) in
     let fits : FitsMember all = record { flags = f.flags; name = f.name.0; desc = f.desc.0; attributes = (subst IsU2 (sym len) b.3, both.0) } in
     let is : IsMethod pool all made = record { flags = refl; name = text_found pool m.name f.name.1; desc = text_found pool m.desc f.desc.1; typed = f.typed; attributes = both.1; code = code_among pool attrs k.first k.fits.4 } in
-    let told : IsNew pool seen t made = (all, text, fits, is, s.others.0) in
-    subst (λ (x : Method). IsNew pool seen t x) (sym k.others.1) told
+    let whole : IsNew pool seen t made = (all, text, fits, is, s.others.0) in
+    subst (λ (x : Method). IsNew pool seen t x) (sym k.others.1) whole
 
 method_is : (y : Method) (flags : ℕ) (name desc : List ℕ) → y.flags ≡ flags → name ≡ y.name → desc ≡ y.desc → y ≡ record { flags = flags; name = name; desc = desc; code = y.code }
 method_is y flags name desc e1 e2 e3 = rw (← e1, e2, e3) refl
@@ -63,8 +63,8 @@ of_new pool seen t y s =
     let fits = s.2 in
     let is = s.3 in
     let m = front_of all in
-    let name : text_at pool m.name ≡ y.name = text_told pool m.name y.name is.name in
-    let desc : text_at pool m.desc ≡ y.desc = text_told pool m.desc y.desc is.desc in
+    let name : text_at pool m.name ≡ y.name = text_read pool m.name y.name is.name in
+    let desc : text_at pool m.desc ≡ y.desc = text_read pool m.desc y.desc is.desc in
     let typed = subst (λ (d : List ℕ). (t : Descriptor) × IsMethodType d t) (sym desc) is.typed in
     let begins : IsFront kind.Method pool (front_text m) m = record { text = refl; flags = fits.flags; name = (fits.name, text_is pool m.name y.name is.name); desc = (fits.desc, text_is pool m.desc y.desc is.desc); typed = typed } in
     let same : signature y ≡ signature_of pool m = sym (same_signature (signature_of pool m) (signature y) name desc) in
@@ -89,7 +89,7 @@ method_texts pool seen =
     (to_new pool seen)
     (of_new pool seen)
 
--- ---- methods behind others
+-- ---- methods after others
 
 abbrev AreNew : List Entry → ℕ → List Method → List ℕ → List Method → Type 0
 AreNew pool n so_far t all =
@@ -144,12 +144,12 @@ all_methods_texts pool =
     (λ t all s.
     let o = s.4 in
     let len = o.2 in
-    let told : AreMethods pool t o.1 = record {
+    let whole : AreMethods pool t o.1 = record {
       members = o.0;
       text = joined (u2 s.0) s.2 o.3 ∙ ap (λ (n : ℕ). u2 n ++ flat_map member_text o.0) (sym len);
       fits = (subst IsU2 (sym len) s.3, o.4);
       are = o.5;
       distinct = fresh_distinct o.1 o.6;
     } in
-    subst (λ (ms : List Method). AreMethods pool t ms) (sym o.7) told)
+    subst (λ (ms : List Method). AreMethods pool t ms) (sym o.7) whole)
     (λ t all s. (length s.members, flat_map member_text s.members, s.text, s.fits.0, (s.members, all, refl, refl, s.fits.1, s.are, distinct_fresh all s.distinct, refl)))

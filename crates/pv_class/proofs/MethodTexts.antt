@@ -8,32 +8,32 @@ use Rattle.pv_pool.specs.declared.entry.Entry.{Entry}
 use Rattle.pv_pool.specs.Readers.{text_under}
 use Rattle.pv_pool.proofs.Formats.{Then, Done}
 use Rattle.pv_class.specs.declared.file.Code.{Code}
-use Rattle.pv_class.specs.declared.fault.ClassCause.TheVariants as cause
+use Rattle.pv_class.specs.declared.fault.Cause.TheVariants as cause
 use Rattle.pv_class.specs.Checks.{utf8, holds}
 use Rattle.pv_class.specs.Grammars.{failure}
-use Rattle.pv_class.specs.ClassGrammar.{in_file, or_nothing, text_at, is_code, attribute_behind, attribute, attributes}
+use Rattle.pv_class.specs.ClassGrammar.{in_file, or_nothing, text_at, is_code, attribute_named, attribute, attributes}
 use Rattle.pv_class.specs.Items.{u2, Attribute, attribute_text, CodeItems}
 use Rattle.pv_class.specs.ClassFiles.{code_word, IsCodeAttribute, HoldsCode, OneCode, CodeAmong}
 use Rattle.pv_class.proofs.Takings.{IsTexts, same_texts, then_texts, check_texts, here_texts, give_texts, joined, ended}
-use Rattle.pv_class.proofs.ItemTexts.{contents_text, Short, contents_texts, with_index, IsAttribute, text_told}
+use Rattle.pv_class.proofs.ItemTexts.{contents_text, Short, contents_texts, with_index, IsAttribute, text_read}
 use Rattle.pv_class.proofs.CodeTexts.{code_texts}
 
 -- ---- an attribute
 
--- behind an attribute with these contents, a Code or not, the method has this code
+-- after an attribute with these contents, a Code or not, the method has this code
 abbrev pub Kept : List Entry → Option Code → Bool → List ℕ → Option Code → Type 0
 Kept pool so_far true contents now = (so_far ≡ None) × (c : Code) × (now ≡ Some c) × (items : CodeItems) × HoldsCode pool contents items c
 Kept pool so_far false contents now = now ≡ so_far
 
-abbrev Behind : List Entry → Option Code → Bool → List ℕ → Option Code → Type 0
-Behind pool so_far b t now = (contents : List ℕ) × (t ≡ contents_text contents) × Short contents × Kept pool so_far b contents now
+abbrev AfterFront : List Entry → Option Code → Bool → List ℕ → Option Code → Type 0
+AfterFront pool so_far b t now = (contents : List ℕ) × (t ≡ contents_text contents) × Short contents × Kept pool so_far b contents now
 
 none_said : (o : Option Code) → is_none o ≡ true → o ≡ None
 none_said None e = refl
 none_said (Some c) e = absurd (true≢false (sym e))
 
-behind_texts : (pool : List Entry) (so_far : Option Code) (start : ℕ) (b : Bool) → IsTexts (attribute_behind pool so_far start b) in_file (Behind pool so_far b)
-behind_texts pool so_far start true =
+after_texts : (pool : List Entry) (so_far : Option Code) (start : ℕ) (b : Bool) → IsTexts (attribute_named pool so_far start b) in_file (AfterFront pool so_far b)
+after_texts pool so_far start true =
     same_texts (check_texts (holds (is_none so_far)) (failure cause.Code start) (then_texts (code_texts pool start) (λ c. give_texts (Some c))))
     (λ t now s.
     let f = s.1.fits in
@@ -42,7 +42,7 @@ behind_texts pool so_far start true =
     (λ t now s.
     let k = s.3 in
     (ap is_none k.0, record { first = k.1; front = t; back = []; parts = sym (append-nil t); fits = (s.0, s.1, s.2, k.3, k.4); others = (refl, k.2) }))
-behind_texts pool so_far start false =
+after_texts pool so_far start false =
     same_texts (then_texts (contents_texts in_file) (λ _. give_texts so_far))
     (λ t now s. (s.fits.0, ended s.front s.parts s.others.0 ∙ s.fits.1, s.fits.2, s.others.1))
     (λ t now s. record { first = tt; front = t; back = []; parts = sym (append-nil t); fits = (s.0, s.1, s.2); others = (refl, s.3) })
@@ -53,8 +53,8 @@ Keeps pool so_far t now = (a : Attribute) × (t ≡ attribute_text a) × IsAttri
 attribute_texts : (pool : List Entry) (so_far : Option Code) → IsTexts (attribute pool so_far) in_file (Keeps pool so_far)
 unfolding attribute
 attribute_texts pool so_far =
-    let T : ℕ → List ℕ → Option Code → Type 0 = λ name. Behind pool so_far (is_code pool name) in
-    same_texts (here_texts (λ start. with_index in_file (utf8 pool) T (λ name. behind_texts pool so_far start (is_code pool name))))
+    let T : ℕ → List ℕ → Option Code → Type 0 = λ name. AfterFront pool so_far (is_code pool name) in
+    same_texts (here_texts (λ start. with_index in_file (utf8 pool) T (λ name. after_texts pool so_far start (is_code pool name))))
     (λ t now s.
     let b = s.4 in
     let a : Attribute = record { name = s.0; contents = b.0 } in
@@ -65,7 +65,7 @@ attribute_texts pool so_far =
 
 -- ---- attributes
 
--- behind these attributes the method has this code
+-- after these attributes the method has this code
 abbrev pub Threads : List Entry → Option Code → List Attribute → Option Code → Type 0
 Threads pool so_far [] last = last ≡ so_far
 Threads pool so_far (a ∷ attrs) last = (now : Option Code) × Kept pool so_far (is_code pool a.name) a.contents now × Threads pool now attrs last
@@ -103,7 +103,7 @@ code_is_named : (pool : List Entry) (a : Attribute) → is_code pool a.name ≡ 
 code_is_named pool a e = named_code (text_under pool a.name) ((bytes_eq-Decides (text_at pool a.name) code_word).0 e)
 
 named_is_code : (pool : List Entry) (a : Attribute) → IsCodeAttribute pool a → is_code pool a.name ≡ true
-named_is_code pool a named = (bytes_eq-Decides (text_at pool a.name) code_word).1 (text_told pool a.name code_word named)
+named_is_code pool a named = (bytes_eq-Decides (text_at pool a.name) code_word).1 (text_read pool a.name code_word named)
 
 no_code : (pool : List Entry) (a : Attribute) → is_code pool a.name ≡ false → ¬ IsCodeAttribute pool a
 no_code pool a e named = true≢false (sym (named_is_code pool a named) ∙ e)
@@ -118,7 +118,7 @@ others_keep pool so_far (a ∷ attrs) none =
     let kept : Kept pool so_far (is_code pool a.name) a.contents so_far = subst (λ (b : Bool). Kept pool so_far b a.contents so_far) (sym (other_is_false pool a none.0)) refl in
     (so_far, kept, others_keep pool so_far attrs none.1)
 
--- behind a Code no other comes
+-- after a Code no other comes
 abbrev NoOther : List Entry → Code → List Attribute → Option Code → Type 0
 NoOther pool c attrs last = AllByRecursion (λ a. ¬ IsCodeAttribute pool a) attrs × (last ≡ Some c)
 

@@ -36,10 +36,10 @@ takes_then (check c s g) k bytes x mid y rest h o = (h.0, takes_then g k bytes x
 
 -- ---- the texts of a grammar
 
--- what it takes are these texts, with as many bytes behind as the room asks
+-- what it takes are these texts, with as many bytes after as the room asks
 pub record IsTexts {A : Type 0} (g : Grammar A) (room : Room) (S : List ℕ → A → Type 0) : Type 0 where
   pub takes : (bytes : List ℕ) (x : A) (rest : List ℕ) → IsBytes bytes → Takes g bytes x rest → (t : List ℕ) × (bytes ≡ t ++ rest) × S t x
-  pub again : (t : List ℕ) (x : A) (rest : List ℕ) → S t x → room.behind ≤ length rest → Takes g (t ++ rest) x rest
+  pub again : (t : List ℕ) (x : A) (rest : List ℕ) → S t x → room.after ≤ length rest → Takes g (t ++ rest) x rest
 
 pub same_texts : {A : Type 0} {g : Grammar A} {room : Room} {S T : List ℕ → A → Type 0} → IsTexts g room S → ((t : List ℕ) (x : A) → S t x → T t x) → ((t : List ℕ) (x : A) → T t x → S t x) → IsTexts g room T
 same_texts f to from = record {
@@ -127,14 +127,14 @@ HasLength n t = length t ≡ n
 pub with_run : {B : Type 0} {k : List ℕ → Grammar B} (room : Room) (n : ℕ) (T : List ℕ → List ℕ → B → Type 0) → ((x : List ℕ) → IsTexts (k x) room (T x)) → IsTexts (bind (run room n) k) room (Follow itself (HasLength n) T)
 with_run room n T r = follow_texts itself (HasLength n) T (run_texts room n) r
 
--- a text, its front and what is behind that
+-- a text, its front and what is after that
 pub joined : {t : List ℕ} (a : List ℕ) {r s : List ℕ} → t ≡ a ++ r → r ≡ s → t ≡ a ++ s
 joined a e f = e ∙ ap (λ (u : List ℕ). a ++ u) f
 
 pub ended : {t : List ℕ} (a : List ℕ) {r : List ℕ} → t ≡ a ++ r → r ≡ [] → t ≡ a
 ended a e f = joined a e f ∙ append-nil a
 
--- ---- so many of them
+-- ---- n of them
 
 -- an item with this text
 abbrev pub One : {I : Type 0} → (I → List ℕ) → (I → Type 0) → List ℕ → Unit {0} → Type 0
@@ -164,8 +164,8 @@ Table {I = I} text P t n = (is : List I) × (n ≡ length is) × (t ≡ items.ta
 
 pub table_texts : {I : Type 0} {g : Grammar (Unit {0})} (room : Room) (text : I → List ℕ) (P : I → Type 0) → IsTexts g room (One text P) → IsTexts (table room g) room (Table text P)
 table_texts {I = I} room text P f =
-    let behind : (n : ℕ) → List ℕ → ℕ → Type 0 = λ n. Then (Unit {0}) ℕ (Many text P n) (λ _. Done n) in
-    same_texts (with_u2 room behind (λ n. then_texts (times_texts room text P f n) (λ _. give_texts n)))
+    let later : (n : ℕ) → List ℕ → ℕ → Type 0 = λ n. Then (Unit {0}) ℕ (Many text P n) (λ _. Done n) in
+    same_texts (with_u2 room later (λ n. then_texts (times_texts room text P f n) (λ _. give_texts n)))
     (λ t n s.
     let b = s.4 in
     let count = b.fits.1 in

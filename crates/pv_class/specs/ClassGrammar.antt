@@ -3,7 +3,7 @@ use Rattle.std.specs.Prelude.{ℕ, zero, suc, ◌+◌, ◌-◌, Bool, true, fals
 use Rattle.std.specs.Str.{bytes_eq}
 use Rattle.pv_pool.specs.declared.entry.Entry.{Entry}
 use Rattle.pv_pool.specs.Readers.{text_under}
-use Rattle.pv_class.specs.declared.fault.ClassCause.TheVariants as cause
+use Rattle.pv_class.specs.declared.fault.Cause.TheVariants as cause
 use Rattle.pv_class.specs.declared.room.Room.{Room}
 use Rattle.pv_class.specs.declared.member.Member.{Member}
 use Rattle.pv_class.specs.declared.member.Kind.{Kind}
@@ -15,15 +15,15 @@ use Rattle.pv_class.specs.Checks.{Check, holds, utf8, class, class_or_none, fiel
 use Rattle.pv_class.specs.Grammars.{failure, Grammar, give, here, check, ◌>>=◌, u2, u4, run, table}
 
 abbrev pub in_file : Room
-in_file = record { behind = 0; code = None }
+in_file = record { after = 0; code = None }
 
 -- In a Code attribute that begins where `start` bytes are left, with contents of `size` bytes where `left` are. Where the file ends before the attribute, its items are cut.
 abbrev pub in_code : ℕ → ℕ → ℕ → Room
-in_code start size left = if nat_le size left then record { behind = left - size; code = Some start } else in_file
+in_code start size left = if nat_le size left then record { after = left - size; code = Some start } else in_file
 
 -- the index of an entry of the right kind, tested where it stands
 unfoldable pub index : Room → (ℕ → Check) → Grammar ℕ
-index room kind = here λ left. u2 room >>= λ i. check (kind i) (failure cause.PoolReference left) (give i)
+index room kind = here λ left. u2 room >>= λ i. check (kind i) (failure cause.Reference left) (give i)
 
 abbrev pub or_nothing : Option (List ℕ) → List ℕ
 or_nothing (Some bytes) = bytes
@@ -81,14 +81,14 @@ code pool start = u4 in_file >>= λ size. here λ left. code_contents pool (in_c
 abbrev pub is_code : List Entry → ℕ → Bool
 is_code pool name = bytes_eq (text_at pool name) (codes "Code")
 
--- an attribute of a method behind its name; a Code is the first
-abbrev pub attribute_behind : List Entry → Option Code → ℕ → Bool → Grammar (Option Code)
-attribute_behind pool so_far start true = check (holds (is_none so_far)) (failure cause.Code start) (code pool start >>= λ c. give (Some c))
-attribute_behind pool so_far start false = contents in_file >>= λ skipped. give so_far
+-- an attribute of a method after its name; a Code is the first
+abbrev pub attribute_named : List Entry → Option Code → ℕ → Bool → Grammar (Option Code)
+attribute_named pool so_far start true = check (holds (is_none so_far)) (failure cause.Code start) (code pool start >>= λ c. give (Some c))
+attribute_named pool so_far start false = contents in_file >>= λ skipped. give so_far
 
--- an attribute of a method, behind which the method has this Code
+-- an attribute of a method, after which the method has this Code
 unfoldable pub attribute : List Entry → Option Code → Grammar (Option Code)
-attribute pool so_far = here λ start. index in_file (utf8 pool) >>= λ name. attribute_behind pool so_far start (is_code pool name)
+attribute pool so_far = here λ start. index in_file (utf8 pool) >>= λ name. attribute_named pool so_far start (is_code pool name)
 
 unfoldable pub attributes : List Entry → ℕ → Option Code → Grammar (Option Code)
 attributes pool zero so_far = give so_far
@@ -100,7 +100,7 @@ signature_of pool m = record { name = text_at pool m.name; desc = text_at pool m
 abbrev pub method_of : List Entry → Member → Option Code → Method
 method_of pool m code = record { flags = m.flags; name = text_at pool m.name; desc = text_at pool m.desc; code = code }
 
--- a method behind others with these signatures (JVMS 4.6)
+-- a method after others with these signatures (JVMS 4.6)
 unfoldable pub method : List Entry → List Signature → Grammar Method
 method pool seen = here λ left. member kind.Method pool >>= λ m.
     check (new seen (signature_of pool m)) (failure cause.Duplicate left) (u2 in_file >>= λ n. attributes pool n None >>= λ code. give (method_of pool m code))
@@ -112,7 +112,7 @@ abbrev pub signatures : List Method → List Signature
 signatures [] = []
 signatures (m ∷ ms) = signature m ∷ signatures ms
 
--- so many methods more
+-- n methods more
 unfoldable pub methods : List Entry → ℕ → List Method → Grammar (List Method)
 methods pool zero so_far = give so_far
 methods pool (suc n) so_far = method pool (signatures so_far) >>= λ m. methods pool n (so_far ++ m ∷ [])
@@ -129,10 +129,10 @@ head = here λ start. u4 in_file >>= λ magic. check (holds (magic == 0xCAFEBABE
 unfoldable pub class_front : List Entry → Grammar (Unit {0})
 class_front pool = u2 in_file >>= λ flags. index in_file (class pool) >>= λ this. index in_file (class_or_none pool) >>= λ super. give tt
 
--- the methods and the attributes, behind which nothing stands
+-- the methods and the attributes, after which nothing stands
 unfoldable pub class_end : List Entry → Grammar (List Method)
 class_end pool = all_methods pool >>= λ ms. table in_file (skipped in_file pool) >>= λ attributes. here λ left. check (holds (left == 0)) (failure cause.Trailing left) (give ms)
 
--- what stands behind the constant pool; the methods are kept
+-- what stands after the constant pool; the methods are kept
 unfoldable pub tail : List Entry → Grammar (List Method)
 tail pool = class_front pool >>= λ front. table in_file (interface in_file pool) >>= λ interfaces. table in_file (field pool) >>= λ fields. class_end pool

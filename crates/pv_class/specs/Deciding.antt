@@ -15,7 +15,7 @@ abbrev pub is_class : Option Entry → Bool
 is_class (Some (entry.Class name)) = true
 is_class e = false
 
--- a field type behind which nothing stands
+-- a field type after which nothing stands
 abbrev pub is_whole : Option (JType × List ℕ) → Bool
 is_whole (Some (t, [])) = true
 is_whole found = false
@@ -23,15 +23,15 @@ is_whole found = false
 abbrev pub is_field_type : List ℕ → Bool
 is_field_type text = is_whole (field_at text)
 
-abbrev pub behind_first : (List ℕ → Option (List ℕ)) → Option (JType × List ℕ) → Option (List ℕ)
-behind_first others (Some (t, behind)) = others behind
-behind_first others None = None
+abbrev pub after_first : (List ℕ → Option (List ℕ)) → Option (JType × List ℕ) → Option (List ℕ)
+after_first others (Some (t, rest)) = others rest
+after_first others None = None
 
--- the bytes behind fewer than n parameters and a )
-unfoldable pub behind_params : ℕ → List ℕ → Option (List ℕ)
-behind_params zero text = None
-behind_params (suc n) [] = None
-behind_params (suc n) (b ∷ rest) = if b == 41 then Some rest else behind_first (behind_params n) (field_at (b ∷ rest))
+-- the bytes after fewer than n parameters and a )
+unfoldable pub after_params : ℕ → List ℕ → Option (List ℕ)
+after_params zero text = None
+after_params (suc n) [] = None
+after_params (suc n) (b ∷ rest) = if b == 41 then Some rest else after_first (after_params n) (field_at (b ∷ rest))
 
 abbrev pub is_result : Option (List ℕ) → Bool
 is_result (Some text) = bytes_eq text (86 ∷ []) || is_field_type text
@@ -39,7 +39,7 @@ is_result None = false
 
 abbrev pub is_method_type : List ℕ → Bool
 is_method_type [] = false
-is_method_type (b ∷ body) = (b == 40) && is_result (behind_params (length body) body)
+is_method_type (b ∷ body) = (b == 40) && is_result (after_params (length body) body)
 
 abbrev pub alike : Signature → Signature → Bool
 alike s t = bytes_eq s.name t.name && bytes_eq s.desc t.desc

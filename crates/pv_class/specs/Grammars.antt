@@ -1,14 +1,14 @@
--- Grammars of items (JVMS 4.1: items follow one another without padding): what stands next is told by the items before it.
--- Bytes run from an item to the end of the file, and a place is told by how many bytes are left there.
+-- Grammars of items (JVMS 4.1: items follow one another without padding): the items before say what stands next.
+-- Bytes run from an item to the end of the file, and a place is given by how many bytes are left there.
 use Rattle.std.specs.Prelude.{◌≡◌, ◌⊎◌, ℕ, zero, suc, ◌≤◌, ◌<◌, ◌+◌, List, ◌++◌, length, Option, Some, None}
 use Rattle.std.specs.Int.{Width, w16, w32, byte_len, from_be_bytes}
-use Rattle.pv_class.specs.declared.fault.ClassCause.{ClassCause}
-use Rattle.pv_class.specs.declared.fault.ClassCause.TheVariants as cause
+use Rattle.pv_class.specs.declared.fault.Cause.{Cause}
+use Rattle.pv_class.specs.declared.fault.Cause.TheVariants as cause
 use Rattle.pv_class.specs.declared.fault.Failure.{Failure}
 use Rattle.pv_class.specs.declared.room.Room.{Room}
 use Rattle.pv_class.specs.Checks.{Check, Passes}
 
-abbrev pub failure : ClassCause → ℕ → Failure
+abbrev pub failure : Cause → ℕ → Failure
 failure cause left = record { cause = cause; left = left }
 
 -- how an item fails that doesn't fit: in the file it is cut, in the Code attribute that begins where `start` bytes are left the attribute's length is wrong
@@ -16,7 +16,7 @@ abbrev pub short_by : Option ℕ → ℕ → Failure
 short_by None left = failure cause.Truncated left
 short_by (Some start) left = failure cause.Code start
 
--- an item in a room leaves so many bytes behind it
+-- an item in a room leaves its bytes after it
 abbrev pub short : Room → ℕ → Failure
 short room left = short_by room.code left
 
@@ -25,7 +25,7 @@ pub data Grammar (A : Type 0) : Type 0 where
   give : A → Grammar A
   -- by how many bytes are left
   here : (ℕ → Grammar A) → Grammar A
-  -- an item of so many bytes, and what follows it
+  -- an item of n bytes, and what follows it
   item : Room → ℕ → (List ℕ → Grammar A) → Grammar A
   -- what was read must pass this
   check : Check → Failure → Grammar A → Grammar A
@@ -41,11 +41,11 @@ infixl 10 ◌>>=◌
 abbrev pub ◌>>=◌ : {A B : Type 0} → Grammar A → (A → Grammar B) → Grammar B
 g >>= k = bind g k
 
--- the bytes begin with what the grammar tells, which reads as x, and the rest is behind it
+-- the bytes begin with what the grammar says, which reads as x, and the rest comes after it
 unfoldable pub Takes : {A : Type 0} → Grammar A → List ℕ → A → List ℕ → Type 0
 Takes (give y) bytes x rest = (x ≡ y) × (rest ≡ bytes)
 Takes (here f) bytes x rest = Takes (f (length bytes)) bytes x rest
-Takes (item room n f) bytes x rest = (front : List ℕ) × (more : List ℕ) × (bytes ≡ front ++ more) × (length front ≡ n) × (room.behind ≤ length more) × Takes (f front) more x rest
+Takes (item room n f) bytes x rest = (front : List ℕ) × (more : List ℕ) × (bytes ≡ front ++ more) × (length front ≡ n) × (room.after ≤ length more) × Takes (f front) more x rest
 Takes (check c failure g) bytes x rest = Passes c × Takes g bytes x rest
 
 -- the first item or check that fails does so
@@ -53,7 +53,7 @@ unfoldable pub Stops : {A : Type 0} → Grammar A → List ℕ → Failure → T
 Stops (give y) bytes e = ⊥
 Stops (here f) bytes e = Stops (f (length bytes)) bytes e
 Stops (item room n f) bytes e =
-    ((length bytes < n + room.behind) × (e ≡ short room (length bytes))) ⊎ ((front : List ℕ) × (more : List ℕ) × (bytes ≡ front ++ more) × (length front ≡ n) × (room.behind ≤ length more) × Stops (f front) more e)
+    ((length bytes < n + room.after) × (e ≡ short room (length bytes))) ⊎ ((front : List ℕ) × (more : List ℕ) × (bytes ≡ front ++ more) × (length front ≡ n) × (room.after ≤ length more) × Stops (f front) more e)
 Stops (check c failure g) bytes e = ((Passes c → ⊥) × (e ≡ failure)) ⊎ (Passes c × Stops g bytes e)
 
 -- a number of this width, its high byte first
@@ -66,11 +66,11 @@ u2 room = number room w16
 abbrev pub u4 : Room → Grammar ℕ
 u4 room = number room w32
 
--- so many bytes
+-- a run of n bytes
 abbrev pub run : Room → ℕ → Grammar (List ℕ)
 run room n = item room n (λ bytes. give bytes)
 
--- so many of them
+-- n of them
 unfoldable pub times : {A : Type 0} → ℕ → Grammar A → Grammar (Unit {0})
 times zero g = give tt
 times (suc n) g = g >>= λ x. times n g

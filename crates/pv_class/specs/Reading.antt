@@ -3,7 +3,7 @@ use Rattle.std.specs.Prelude.{◌≡◌, ℕ, ◌+◌, ◌-◌, Bool, true, List
 use Rattle.pv_pool.specs.declared.entry.Entry.{Entry}
 use Rattle.pv_pool.specs.declared.fault.PoolFault.{PoolFault}
 use Rattle.pv_pool.specs.declared.fault.PoolFault.TheVariants as pool
-use Rattle.pv_class.specs.declared.fault.ClassCause.TheVariants as cause
+use Rattle.pv_class.specs.declared.fault.PoolWord.TheVariants as word
 use Rattle.pv_class.specs.declared.fault.ClassFault.{ClassFault}
 use Rattle.pv_class.specs.declared.fault.ClassFault.TheVariants as fault
 use Rattle.pv_class.specs.declared.fault.Failure.{Failure}
@@ -17,12 +17,13 @@ use Rattle.pv_class.specs.declared.table.Entries.{Entries}
 use Rattle.pv_class.specs.declared.table.Entries.TheVariants.{Attributes, Handlers, Interfaces}
 use Rattle.pv_class.specs.Grammars.{Grammar, give, here, item, check, short}
 use Rattle.pv_class.specs.ClassGrammar.{skipped, handler, interface}
+use Rattle.pv_class.specs.ClassFaults.{fault_at}
 
--- what is read, and the bytes behind it, or the failure
+-- what is read, and the bytes after it, or the failure
 unfoldable pub read : {A : Type 0} → Grammar A → List ℕ → Result (A × List ℕ) Failure
 read (give x) bytes = Ok (x, bytes)
 read (here f) bytes = read (f (length bytes)) bytes
-read (item room n f) bytes = if nat_lt (length bytes) (n + room.behind) then Err (short room (length bytes)) else read (f (take n bytes)) (drop n bytes)
+read (item room n f) bytes = if nat_lt (length bytes) (n + room.after) then Err (short room (length bytes)) else read (f (take n bytes)) (drop n bytes)
 read (check c failure g) bytes = if passes c then read g bytes else Err failure
 
 -- an entry of a table that is only tested
@@ -41,18 +42,18 @@ abbrev pub Gives : {X A : Type 0} → (X → A) → Result X Stop → Result A F
 Gives view (Ok x) result = result ≡ Ok (view x)
 Gives view (Err s) result = Fails s result
 
--- a signature is put behind the others where it is new
+-- a signature is added at the end where it is new
 abbrev pub Puts : List Signature → List Signature → Signature → Bool → Type 0
 Puts old after s is_new = (is_new ≡ passes (new old s)) × (is_new ≡ true → after ≡ old ++ s ∷ [])
 
--- as faults of a file of so many bytes
-abbrev pub fault_of : ℕ → Stop → ClassFault
-fault_of len (Failed e) = fault.Bad (record { cause = e.cause; at = len - e.left })
-fault_of len Memory = fault.Memory
+-- the fault of a file of this length
+abbrev pub fault_in : ℕ → Stop → ClassFault
+fault_in len (Failed e) = fault_at e.cause (len - e.left)
+fault_in len Memory = fault.Memory
 
 abbrev pub of_pool : PoolFault → ClassFault
-of_pool (pool.Truncated at) = fault.Bad (record { cause = cause.Truncated; at = at })
-of_pool (pool.Tag at) = fault.Bad (record { cause = cause.PoolTag; at = at })
-of_pool (pool.Utf8 at) = fault.Bad (record { cause = cause.PoolUtf8; at = at })
-of_pool (pool.Reference at) = fault.Bad (record { cause = cause.PoolReference; at = at })
+of_pool (pool.Truncated at) = fault.Truncated at
+of_pool (pool.Tag at) = fault.Pool word.Tag at
+of_pool (pool.Utf8 at) = fault.Pool word.Utf8 at
+of_pool (pool.Reference at) = fault.Pool word.Reference at
 of_pool pool.Memory = fault.Memory

@@ -3,10 +3,10 @@
 ghost use Rattle.std.specs.Prelude.{◌≡◌, [], IfOk};
 ghost use Rattle.pv_class.specs.Grammars.{table, bind};
 ghost use Rattle.pv_class.specs.ClassGrammar.{in_file, interface, field, all_methods, head, class_front, class_end, tail};
-ghost use Rattle.pv_class.specs.Reading.{Gives, read, fault_of, of_pool};
-ghost use Rattle.pv_class.specs.Answers.{Told, IsAnswer, IsOnly};
+ghost use Rattle.pv_class.specs.Reading.{Gives, read, fault_in, of_pool};
+ghost use Rattle.pv_class.specs.Answers.{Answers, Tells};
 
-use crate::fault::{Bad, ClassCause, ClassFault, Stop};
+use crate::fault::{Cause, ClassFault, PoolWord, Stop};
 use crate::file::{ClassFile, Methods};
 use crate::items::{class_index_at, super_index_at, u16_at, u32_at};
 use crate::reading::{fields_at, methods_at};
@@ -26,19 +26,16 @@ const OLDEST: u16 = 45;
 
 const NEWEST: u16 = 69;
 
-/// Where the constant pool begins, behind the magic number and the version.
+/// Where the constant pool begins, after the magic number and the version.
 const POOL: usize = 8;
 
 impl Stop {
-    /// The fault of a file of so many bytes.
+    /// The fault of a file of `len` bytes.
     fn in_file(self, len: usize) -> ClassFault
-        ensures { result ≡ fault_of len self }
+        ensures { result ≡ fault_in len self }
     {
         match self {
-            Stop::Failed(failure) => ClassFault::Bad(Bad {
-                cause: failure.cause,
-                at: len.saturating_sub(failure.left),
-            }),
+            Stop::Failed(failure) => failure.cause.at(len.saturating_sub(failure.left)),
             Stop::Memory => ClassFault::Memory,
         }
     }
@@ -48,14 +45,13 @@ impl Stop {
 fn of_pool(fault: PoolFault) -> ClassFault
     ensures { result ≡ of_pool fault }
 {
-    let (cause, at) = match fault {
-        PoolFault::Truncated(at) => (ClassCause::Truncated, at),
-        PoolFault::Tag(at) => (ClassCause::PoolTag, at),
-        PoolFault::Utf8(at) => (ClassCause::PoolUtf8, at),
-        PoolFault::Reference(at) => (ClassCause::PoolReference, at),
-        PoolFault::Memory => return ClassFault::Memory,
-    };
-    ClassFault::Bad(Bad { cause, at })
+    match fault {
+        PoolFault::Truncated(at) => ClassFault::Truncated(at),
+        PoolFault::Tag(at) => ClassFault::Pool(PoolWord::Tag, at),
+        PoolFault::Utf8(at) => ClassFault::Pool(PoolWord::Utf8, at),
+        PoolFault::Reference(at) => ClassFault::Pool(PoolWord::Reference, at),
+        PoolFault::Memory => ClassFault::Memory,
+    }
 }
 
 /// What stands before the constant pool (JVMS 4.1).
@@ -65,14 +61,14 @@ fn head_at(bytes: &[u8]) -> Result<&[u8], Stop>
 {
     let (magic, rest) = u32_at(IN_FILE, bytes)?;
     if magic != MAGIC {
-        return Err(failed(ClassCause::Magic, bytes.len()));
+        return Err(failed(Cause::Magic, bytes.len()));
     }
-    let (_minor, behind) = u16_at(IN_FILE, rest)?;
-    let (major, behind) = u16_at(IN_FILE, behind)?;
+    let (_minor, after) = u16_at(IN_FILE, rest)?;
+    let (major, after) = u16_at(IN_FILE, after)?;
     if major < OLDEST || major > NEWEST {
-        return Err(failed(ClassCause::Version, rest.len()));
+        return Err(failed(Cause::Version, rest.len()));
     }
-    Ok(behind)
+    Ok(after)
 }
 
 /// The flags, the class and its superclass.
@@ -107,7 +103,7 @@ fn all_methods_at<'a>(
     methods_at(alloc, pool, count, rest)
 }
 
-/// The methods and the attributes, behind which nothing stands.
+/// The methods and the attributes, after which nothing stands.
 fn class_end_at<'a>(
     alloc: Global,
     pool: &Pool,
@@ -119,12 +115,12 @@ fn class_end_at<'a>(
     let (methods, rest) = all_methods_at(alloc, pool, bytes)?;
     let (_attributes, rest) = table_at(Entries::Attributes, pool, IN_FILE, rest)?;
     if !rest.is_empty() {
-        return Err(failed(ClassCause::Trailing, rest.len()));
+        return Err(failed(Cause::Trailing, rest.len()));
     }
     Ok((methods, rest))
 }
 
-/// What stands behind the constant pool.
+/// What stands after the constant pool.
 fn tail_at<'a>(alloc: Global, pool: &Pool, bytes: &'a [u8]) -> Result<(Methods, &'a [u8]), Stop>
     ensures read { Gives (λ x. (x.0, x.1.now)) result (read (tail pool.now) bytes.now) }
     ensures end { IfOk result (λ x. x.1.now ≡ []) }
@@ -138,17 +134,14 @@ fn tail_at<'a>(alloc: Global, pool: &Pool, bytes: &'a [u8]) -> Result<(Methods, 
 /// Reads a class file (JVMS 4.1, 4.5 to 4.7.3) of major version 45 to 69 and at most 4194304 bytes,
 /// front to back. Any minor version is accepted, attributes other than a method's Code are skipped.
 ///
-/// `Bad` is the fault of the first item that fails, with its place; references within the constant
-/// pool are tested once the whole pool is read. `Memory` says nothing of the bytes.
+/// The fault is that of the first item that fails, with its place; references within the constant
+/// pool are tested once the whole pool is read.
 pub fn read_class(alloc: Global, bytes: &[u8]) -> Result<ClassFile, ClassFault>
-    ensures exact { Told result (λ told. IsAnswer bytes.now told) }
-    ensures only { Told result (λ told. IsOnly bytes.now told) }
+    ensures exact { Answers bytes.now result }
+    ensures only { Tells bytes.now result }
 {
     if bytes.len() > LONGEST_FILE {
-        return Err(ClassFault::Bad(Bad {
-            cause: ClassCause::TooLong,
-            at: LONGEST_FILE,
-        }));
+        return Err(ClassFault::TooLong(LONGEST_FILE));
     }
     if let Err(stop) = head_at(bytes) {
         return Err(stop.in_file(bytes.len()));
@@ -162,6 +155,3 @@ pub fn read_class(alloc: Global, bytes: &[u8]) -> Result<ClassFile, ClassFault>
         Err(stop) => Err(stop.in_file(bytes.len())),
     }
 }
-
-#[cfg(test)]
-mod tests;

@@ -4,13 +4,12 @@ ghost use Rattle.std.specs.Prelude.{◌≡◌, length};
 ghost use Rattle.pv_class.specs.ClassGrammar.{code_front, code_contents, code};
 ghost use Rattle.pv_class.specs.Reading.{Gives, read};
 
-use crate::fault::{ClassCause, Stop};
-use crate::file::Code;
+use crate::fault::{Cause, Stop};
+use crate::file::{Bytes, Code};
 use crate::items::{run_at, u16_at, u32_at};
 use crate::room::{IN_FILE, Room, failed};
 use crate::table::{Entries, table_at};
 use pv_pool::Pool;
-use pv_value::Name;
 use std::alloc::Global;
 
 /// The bytes of the longest code of a method (JVMS 4.7.3).
@@ -26,7 +25,7 @@ fn code_front_at(room: Room, start: usize, bytes: &[u8]) -> Result<((u16, u16, &
     let (max_locals, rest) = u16_at(room, rest)?;
     let (size, rest) = u32_at(room, rest)?;
     if size == 0 || size > LONGEST_CODE {
-        return Err(failed(ClassCause::Code, start));
+        return Err(failed(Cause::Code, start));
     }
     let (code, rest) = run_at(room, size as usize, rest)?;
     Ok(((max_stack, max_locals, code), rest))
@@ -48,18 +47,18 @@ fn code_contents_at<'a>(
     let (handlers, rest) = table_at(Entries::Handlers, pool, room, rest)?;
     let (_attributes, rest) = table_at(Entries::Attributes, pool, room, rest)?;
     if rest.len() + size as usize != bytes.len() {
-        return Err(failed(ClassCause::Code, start));
+        return Err(failed(Cause::Code, start));
     }
     let code = Code {
         max_stack,
         max_locals,
-        bytes: Name::new(alloc, code)?,
+        bytes: Bytes::new(alloc, code)?,
         handlers: usize::from(handlers),
     };
     Ok((code, rest))
 }
 
-/// A Code behind its name, in an attribute that begins where `start` bytes are left.
+/// A Code after its name, in an attribute that begins where `start` bytes are left.
 #[tactic(auto, unfolding(crate::specs::Reading::read, crate::specs::Grammars::bind, crate::specs::ClassGrammar::code))]
 pub(crate) fn code_at<'a>(
     alloc: Global,

@@ -1,7 +1,7 @@
 //! Reading single items of a class file.
 //!
 //! Each function reads what stands at the front of the bytes, which run to the end of the file, and
-//! gives the bytes behind it too.
+//! gives the bytes after it too.
 
 ghost use Rattle.pv_class.specs.Checks.{utf8, class, class_or_none};
 ghost use Rattle.pv_class.specs.Grammars.{u2, u4, run};
@@ -11,7 +11,7 @@ ghost use Rattle.pv_class.specs.Reading.{Gives, read};
 ghost use Rattle.std.specs.Prelude.{◌≡◌};
 ghost use Rattle.pv_pool.specs.Pools.{entry_under};
 
-use crate::fault::{ClassCause, Stop};
+use crate::fault::{Cause, Stop};
 use crate::room::{IN_FILE, Room, failed};
 use byteorder::{BigEndian, ByteOrder};
 use pv_pool::{Entry, Pool};
@@ -38,7 +38,7 @@ pub(crate) fn u32_at(room: Room, bytes: &[u8]) -> Result<(u32, &[u8]), Stop>
     Ok((BigEndian::read_u32(bytes), &bytes[4..]))
 }
 
-/// So many bytes.
+/// A run of `size` bytes.
 #[tactic(auto, unfolding(crate::specs::Reading::read))]
 pub(crate) fn run_at(room: Room, size: usize, bytes: &[u8]) -> Result<(&[u8], &[u8]), Stop>
     ensures { Gives (λ x. (x.0.now, x.1.now)) result (read (run room size) bytes.now) }
@@ -67,7 +67,7 @@ pub(crate) fn text_index_at<'a>(
 {
     let (i, rest) = u16_at(room, bytes)?;
     if pool.text(i).is_none() {
-        return Err(failed(ClassCause::PoolReference, bytes.len()));
+        return Err(failed(Cause::Reference, bytes.len()));
     }
     Ok((i, rest))
 }
@@ -83,7 +83,7 @@ pub(crate) fn class_index_at<'a>(
 {
     let (i, rest) = u16_at(room, bytes)?;
     if !has_class(pool, i) {
-        return Err(failed(ClassCause::PoolReference, bytes.len()));
+        return Err(failed(Cause::Reference, bytes.len()));
     }
     Ok((i, rest))
 }
@@ -95,12 +95,12 @@ pub(crate) fn super_index_at<'a>(pool: &Pool, bytes: &'a [u8]) -> Result<(u16, &
 {
     let (i, rest) = u16_at(IN_FILE, bytes)?;
     if i != 0 && !has_class(pool, i) {
-        return Err(failed(ClassCause::PoolReference, bytes.len()));
+        return Err(failed(Cause::Reference, bytes.len()));
     }
     Ok((i, rest))
 }
 
-/// The contents of an attribute that is skipped, behind its name (JVMS 4.7).
+/// The contents of an attribute that is skipped, after its name (JVMS 4.7).
 #[tactic(auto, unfolding(crate::specs::Reading::read, crate::specs::Grammars::bind, crate::specs::ClassGrammar::contents))]
 pub(crate) fn contents_at(room: Room, bytes: &[u8]) -> Result<&[u8], Stop>
     ensures { Gives (λ x. (tt, x.now)) result (read (contents room) bytes.now) }

@@ -14,8 +14,9 @@
 //! - typed frames (`Frames`; JVMS 4.10.1).
 //!
 //! The proofs join the spelling to the grammar by the texts that a grammar takes. The layers above
-//! use that the answer of `read_class` is right, and that no other is (`Answers`; clauses `exact` and
-//! `only`), that a file is one class at most (`class_once`, `answer_once` of `proofs/ClassLaws`), that
+//! use the clauses `exact` and `only` of `read_class`: its answer is right, and no other is
+//! (`Answers`). They use that a file is one class at most (`class_once`, `answer_once` of
+//! `proofs/ClassLaws`), that
 //! `instructions` gives the list that the bytes of a code spell, where there is one, and that
 //! `has_frames` answers true exactly where some list of typed frames agrees with the instructions.
 //! `Reading`, `Deciding` and `Walking` are private to this crate.
@@ -36,9 +37,8 @@ mod signature;
 mod table;
 
 pub use class::read_class;
-pub use fault::{Bad, ClassCause, ClassFault};
-pub use file::{ClassFile, Code, Method, Methods};
+pub use fault::{ClassFault, PoolWord};
+pub use file::{Bytes, ClassFile, Code, Method, Methods};
 pub use frames::{Sort, has_frames};
 pub use instruction::{Action, Insn, Insns, instructions};
 pub use pv_pool::{Entry, Pool};
-pub use signature::Signature;

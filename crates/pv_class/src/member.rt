@@ -5,7 +5,7 @@ ghost use Rattle.pv_class.specs.Deciding.{is_field_type, is_method_type, passes}
 ghost use Rattle.pv_class.specs.ClassGrammar.{text_at, typed, member};
 ghost use Rattle.pv_class.specs.Reading.{Gives, read};
 
-use crate::fault::{ClassCause, Stop};
+use crate::fault::{Cause, Stop};
 use crate::items::{text_index_at, u16_at};
 use crate::room::{IN_FILE, failed};
 use pv_pool::Pool;
@@ -75,7 +75,7 @@ pub(crate) fn member_at<'a>(
     let (name, rest) = text_index_at(pool, IN_FILE, rest)?;
     let (desc, rest) = text_index_at(pool, IN_FILE, rest)?;
     if !is_typed(alloc, kind, text_at(pool, desc))? {
-        return Err(failed(ClassCause::Descriptor, bytes.len()));
+        return Err(failed(Cause::Descriptor, bytes.len()));
     }
     Ok((Member { flags, name, desc }, rest))
 }

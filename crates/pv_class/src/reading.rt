@@ -6,7 +6,7 @@ ghost use Rattle.pv_class.specs.ClassGrammar.{field, is_code, attribute, attribu
 ghost use Rattle.pv_class.specs.Reading.{Gives, read};
 
 use crate::code::code_at;
-use crate::fault::{ClassCause, Stop};
+use crate::fault::{Cause, Stop};
 use crate::file::{Code, Method, Methods};
 use crate::items::{contents_at, text_index_at, u16_at};
 use crate::member::{Kind, Member, member_at, text_at};
@@ -27,7 +27,7 @@ fn field_at<'a>(alloc: Global, pool: &Pool, bytes: &'a [u8]) -> Result<&'a [u8],
     Ok(rest)
 }
 
-/// So many fields.
+/// `count` fields.
 pub(crate) fn fields_at<'a>(
     alloc: Global,
     pool: &Pool,
@@ -50,7 +50,7 @@ fn is_code(pool: &Pool, name: u16) -> bool
     text_at(pool, name) == b"Code".as_slice()
 }
 
-/// An attribute of a method, behind which the method has this Code (JVMS 4.7.3).
+/// An attribute of a method, after which the method has this Code (JVMS 4.7.3).
 fn attribute_at<'a>(
     alloc: Global,
     pool: &Pool,
@@ -65,13 +65,13 @@ fn attribute_at<'a>(
         return Ok((so_far, rest));
     }
     if so_far.is_some() {
-        return Err(failed(ClassCause::Code, bytes.len()));
+        return Err(failed(Cause::Code, bytes.len()));
     }
     let (code, rest) = code_at(alloc, pool, bytes.len(), rest)?;
     Ok((Some(code), rest))
 }
 
-/// So many attributes of a method, with its Code if there is one.
+/// `count` attributes of a method, with its Code if there is one.
 fn attributes_at<'a>(
     alloc: Global,
     pool: &Pool,
@@ -115,7 +115,7 @@ fn method_of(
     })
 }
 
-/// A method behind others (JVMS 4.6), whose signature is put behind theirs.
+/// A method after others (JVMS 4.6), whose signature is added to theirs.
 fn method_at<'a>(
     alloc: Global,
     pool: &Pool,
@@ -128,14 +128,14 @@ fn method_at<'a>(
     let (member, rest) = member_at(alloc, Kind::Method, pool, bytes)?;
     let signature = signature_of(alloc, pool, member)?;
     if !seen.put(signature)? {
-        return Err(failed(ClassCause::Duplicate, bytes.len()));
+        return Err(failed(Cause::Duplicate, bytes.len()));
     }
     let (count, rest) = u16_at(IN_FILE, rest)?;
     let (code, rest) = attributes_at(alloc, pool, count, rest)?;
     Ok((method_of(alloc, pool, member, code)?, rest))
 }
 
-/// So many methods, no two of which have the same signature.
+/// `count` methods, no two of which have the same signature.
 pub(crate) fn methods_at<'a>(
     alloc: Global,
     pool: &Pool,

@@ -4,19 +4,19 @@ ghost use Rattle.std.specs.Prelude.{◌≡◌, ◌+◌, ◌≤◌, ◌↔◌, Is
 ghost use Rattle.pv_class.specs.Grammars.{failure, short};
 ghost use Rattle.pv_class.specs.ClassGrammar.{in_code};
 
-use crate::fault::{ClassCause, Failure, Stop};
+use crate::fault::{Cause, Failure, Stop};
 
-/// Where an item may stand: at least so many bytes of the file are behind it. `code` says how many
+/// Where an item may stand: at least `after` bytes of the file come after it. `code` says how many
 /// are left where the Code attribute begins whose end this is.
-#[derive(Clone, Copy, Debug)]
+#[derive(Clone, Copy)]
 pub(crate) struct Room {
-    pub behind: usize,
+    pub after: usize,
     pub code: Option<usize>,
 }
 
 /// Up to the end of the file.
 pub(crate) const IN_FILE: Room = Room {
-    behind: 0,
+    after: 0,
     code: None,
 };
 
@@ -28,7 +28,7 @@ impl Room {
     {
         if size <= left {
             Room {
-                behind: left - size,
+                after: left - size,
                 code: Some(start),
             }
         } else {
@@ -36,26 +36,26 @@ impl Room {
         }
     }
 
-    /// Whether an item of so many bytes fits at the front of the bytes.
+    /// Whether an item of `size` bytes fits at the front of the bytes.
     pub(crate) fn holds(self, size: usize, bytes: &[u8]) -> bool
-        ensures { IsTrue result ↔ (size + self.behind ≤ length bytes.now) }
+        ensures { IsTrue result ↔ (size + self.after ≤ length bytes.now) }
     {
-        size <= bytes.len() && self.behind <= bytes.len() - size
+        size <= bytes.len() && self.after <= bytes.len() - size
     }
 
-    /// How an item fails that doesn't fit, where so many bytes are left.
+    /// How an item fails that doesn't fit, where `left` bytes are left.
     pub(crate) fn short(self, left: usize) -> Stop
         ensures { result ≡ Stop.Failed (short self left) }
     {
         match self.code {
-            None => failed(ClassCause::Truncated, left),
-            Some(start) => failed(ClassCause::Code, start),
+            None => failed(Cause::Truncated, left),
+            Some(start) => failed(Cause::Code, start),
         }
     }
 }
 
-/// A failure where so many bytes are left.
-pub(crate) fn failed(cause: ClassCause, left: usize) -> Stop
+/// A failure where `left` bytes are left.
+pub(crate) fn failed(cause: Cause, left: usize) -> Stop
     ensures { result ≡ Stop.Failed (failure cause left) }
 {
     Stop::Failed(Failure { cause, left })

@@ -36,7 +36,7 @@ impl Seen {
         }
     }
 
-    /// Puts a signature behind the others where it is new, and says whether it is.
+    /// Adds a signature at the end where it is new, and says whether it is.
     pub(crate) fn put(&mut self, signature: Signature) -> Result<bool, Memory>
         ensures { IfOk result (λ is_new. Puts self.old self.new signature is_new) }
     {

@@ -1,4 +1,4 @@
-//! By what methods are told apart.
+//! What no two methods of a class share.
 
 ghost use Rattle.std.specs.Cmp.Rules.{hashing};
 ghost use Rattle.std.specs.Hash as fed;
@@ -8,8 +8,8 @@ use pv_value::Name;
 use std::hash::{Hash, Hasher};
 
 /// The name and the descriptor of a method. No two methods of a class have the same (JVMS 4.6).
-#[derive(Debug, Drop, PartialEq, Eq)]
-pub struct Signature {
+#[derive(Drop, PartialEq, Eq)]
+pub(crate) struct Signature {
     pub name: Name,
     pub desc: Name,
 }

@@ -64,7 +64,7 @@ fn entry_at<'a>(
     }
 }
 
-/// So many entries.
+/// `count` entries.
 fn times_at<'a>(
     entries: Entries,
     pool: &Pool,

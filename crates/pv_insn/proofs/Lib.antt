@@ -9,4 +9,5 @@ pub mod Resolving
 pub mod Once
 pub mod Answering
 pub mod Examples
+pub mod Sizes
 pub mod Within

@@ -41,7 +41,7 @@ impl Program {
         let Some(desc) = read_descriptor(alloc, method.desc.bytes())? else {
             return Ok(None);
         };
-        let Some(insns) = instructions(alloc, code.bytes.bytes())? else {
+        let Some(insns) = instructions(alloc, code.bytes.as_slice())? else {
             return Ok(None);
         };
         Ok(Some(Program {

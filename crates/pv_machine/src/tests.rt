@@ -1,5 +1,5 @@
 use super::*;
-use pv_class::{Code, Method};
+use pv_class::{Bytes, Code, Method};
 use pv_value::{Heap, Input, Memory, Name, Num, Nums, Outcome};
 use std::alloc::Global;
 use std::test::Fail;
@@ -21,7 +21,7 @@ fn method(
         code: Some(Code {
             max_stack: 2,
             max_locals,
-            bytes: Name::new(alloc, code)?,
+            bytes: Bytes::new(alloc, code)?,
             handlers: 0,
         }),
     })

@@ -1,5 +1,5 @@
 -- What the top call answers, from what was fetched and said.
-use Rattle.std.proofs.Common.{◌≡◌, ◌⊎◌, ℕ, zero, suc, ◌<◌, List, [], ◌∷◌, ◌++◌, length, take, drop, Option, Some, None, inl, inr, refl, sym, ap, subst, ◌∙◌, arith, Err, Result}
+use Rattle.std.proofs.Common.{◌≡◌, ◌⊎◌, ℕ, zero, suc, ◌<◌, List, [], ◌∷◌, ◌++◌, length, take, drop, Option, Some, None, inl, inr, refl, sym, ap, subst, ◌∙◌, append_assoc, arith, Err, Result}
 use Rattle.std.specs.Prelude.{codes, decimal}
 use Rattle.std.specs.Global.{Vec}
 use Rattle.std.proofs.lemmas.List.{append_cancel_left, append-nil, take-append-drop}
@@ -17,10 +17,13 @@ use Rattle.pv_top.specs.declared.verdict.Side.TheVariants as side
 use Rattle.pv_top.specs.declared.verdict.Verdict.{Verdict}
 use Rattle.pv_top.specs.declared.verdict.Verdict.TheVariants.{Equivalent}
 use Rattle.pv_top.specs.Verdicts.{IsVerdict}
-use Rattle.pv_class.specs.declared.fault.Bad.{Bad}
-use Rattle.pv_class.specs.declared.fault.ClassCause.{ClassCause}
-use Rattle.pv_class.specs.declared.fault.ClassCause.TheVariants as fault
-use Rattle.pv_top.specs.Lines.{bad_class, fault_word, line_of, line_text, side_word}
+use Rattle.pv_class.specs.declared.fault.ClassFault.{ClassFault}
+use Rattle.pv_class.specs.declared.fault.ClassFault.TheVariants as fault
+use Rattle.pv_class.specs.declared.fault.PoolWord.{PoolWord}
+use Rattle.pv_class.specs.declared.fault.PoolWord.TheVariants as pool
+use Rattle.pv_class.specs.ClassFaults.{IsBad}
+use Rattle.pv_class.proofs.ClassLaws.{memory_no_fault}
+use Rattle.pv_top.specs.Lines.{bad_class, fault_text, pool_word, word_at, line_of, line_text, side_word}
 use Rattle.pv_top.specs.Report.{IsReport, Judged}
 use Rattle.pv_top.specs.Judging.{JudgesFetched}
 use Rattle.pv_top.specs.Run.{Holds, Puts, Says, SaidOf, Answered, AskedFor, IsLineOf, EndsWith, HaveOneMeaning, EachEquivalent}
@@ -143,36 +146,58 @@ report_line held a b first second text verdicts line p q r l ends =
     }
 
 -- what is said of a file without a reading
-abbrev bad_class_front : Side → Bad → List ℕ
-bad_class_front s b = codes "bad class " ++ side_word s ++ codes " " ++ fault_word b.cause ++ codes " at "
+abbrev bad_class_front : Side → List ℕ
+bad_class_front s = codes "bad class " ++ side_word s ++ codes " "
 
-whole_fault : (c : ClassCause) → IsWhole (fault_word c)
-whole_fault fault.Truncated = tested (codes "truncated") refl
-whole_fault fault.Magic = tested (codes "magic") refl
-whole_fault fault.Version = tested (codes "version") refl
-whole_fault fault.PoolTag = tested (codes "pool-tag") refl
-whole_fault fault.PoolUtf8 = tested (codes "pool-utf8") refl
-whole_fault fault.PoolReference = tested (codes "pool-reference") refl
-whole_fault fault.Descriptor = tested (codes "descriptor") refl
-whole_fault fault.Code = tested (codes "code") refl
-whole_fault fault.Duplicate = tested (codes "duplicate") refl
-whole_fault fault.Trailing = tested (codes "trailing") refl
-whole_fault fault.TooLong = tested (codes "too-long") refl
+whole_at : (word : List ℕ) (at : ℕ) → IsWhole word → IsWhole (word_at word at)
+whole_at word at w = whole_append (word ++ codes " at ") (decimal at) (whole_append word (codes " at ") w (tested (codes " at ") refl)) (whole_decimal at)
 
-whole_bad_class : (s : Side) (b : Bad) → IsWhole (bad_class_front s b ++ decimal b.at)
-whole_bad_class s b =
+whole_pool : (w : PoolWord) → IsWhole (pool_word w)
+whole_pool pool.Tag = tested (codes "pool-tag") refl
+whole_pool pool.Utf8 = tested (codes "pool-utf8") refl
+whole_pool pool.Reference = tested (codes "pool-reference") refl
+
+whole_fault : (f : ClassFault) → IsWhole (fault_text f)
+whole_fault (fault.Truncated at) = whole_at (codes "truncated") at (tested (codes "truncated") refl)
+whole_fault (fault.Magic at) = whole_at (codes "magic") at (tested (codes "magic") refl)
+whole_fault (fault.Version at) = whole_at (codes "version") at (tested (codes "version") refl)
+whole_fault (fault.Pool w at) = whole_at (pool_word w) at (whole_pool w)
+whole_fault (fault.Descriptor at) = whole_at (codes "descriptor") at (tested (codes "descriptor") refl)
+whole_fault (fault.Code at) = whole_at (codes "code") at (tested (codes "code") refl)
+whole_fault (fault.Duplicate at) = whole_at (codes "duplicate") at (tested (codes "duplicate") refl)
+whole_fault (fault.Trailing at) = whole_at (codes "trailing") at (tested (codes "trailing") refl)
+whole_fault (fault.TooLong at) = whole_at (codes "too-long") at (tested (codes "too-long") refl)
+whole_fault fault.Memory = tested (codes "out of memory") refl
+
+whole_bad_class : (s : Side) (f : ClassFault) → IsWhole (bad_class_front s ++ fault_text f)
+whole_bad_class s f =
     let said = whole_append (codes "bad class ") (side_word s) (tested (codes "bad class ") refl) (whole_side s) in
     let blank = whole_append (codes "bad class " ++ side_word s) (codes " ") said (tested (codes " ") refl) in
-    let word = whole_append (codes "bad class " ++ side_word s ++ codes " ") (fault_word b.cause) blank (whole_fault b.cause) in
-    let at = whole_append (codes "bad class " ++ side_word s ++ codes " " ++ fault_word b.cause) (codes " at ") word (tested (codes " at ") refl) in
-    whole_append (bad_class_front s b) (decimal b.at) at (whole_decimal b.at)
+    whole_append (bad_class_front s) (fault_text f) blank (whole_fault f)
 
-bad_class_line : (s : Side) (b : Bad) (text line : List ℕ) → text ≡ bad_class s b → IsLineOf text line → EndsWith line (codes " equivalent") → ⊥
-bad_class_line s b text line e l ends =
-    let words = bad_class_front s b ++ decimal b.at in
+-- a line that ends with a place says nothing of a method
+place_last : (s : Side) (word : List ℕ) (at : ℕ) (line : List ℕ) → line ≡ bad_class_front s ++ word_at word at → EndsWith line (codes " equivalent") → ⊥
+place_last s word at line is ends =
+    digit_last line ends.0 (bad_class_front s ++ (word ++ codes " at ")) at (is ∙ sym (append_assoc (bad_class_front s) (word ++ codes " at ") (decimal at))) ends.1
+
+fault_last : (s : Side) (bytes : List ℕ) (f : ClassFault) (line : List ℕ) → IsBad bytes f → line ≡ bad_class_front s ++ fault_text f → EndsWith line (codes " equivalent") → ⊥
+fault_last s bytes (fault.Truncated at) line bad is ends = place_last s (codes "truncated") at line is ends
+fault_last s bytes (fault.Magic at) line bad is ends = place_last s (codes "magic") at line is ends
+fault_last s bytes (fault.Version at) line bad is ends = place_last s (codes "version") at line is ends
+fault_last s bytes (fault.Pool w at) line bad is ends = place_last s (pool_word w) at line is ends
+fault_last s bytes (fault.Descriptor at) line bad is ends = place_last s (codes "descriptor") at line is ends
+fault_last s bytes (fault.Code at) line bad is ends = place_last s (codes "code") at line is ends
+fault_last s bytes (fault.Duplicate at) line bad is ends = place_last s (codes "duplicate") at line is ends
+fault_last s bytes (fault.Trailing at) line bad is ends = place_last s (codes "trailing") at line is ends
+fault_last s bytes (fault.TooLong at) line bad is ends = place_last s (codes "too-long") at line is ends
+fault_last s bytes fault.Memory line bad is ends = memory_no_fault bytes bad
+
+bad_class_line : (s : Side) (bytes : List ℕ) (f : ClassFault) (text line : List ℕ) → IsBad bytes f → text ≡ bad_class s f → IsLineOf text line → EndsWith line (codes " equivalent") → ⊥
+bad_class_line s bytes f text line bad e l ends =
+    let words = bad_class_front s ++ fault_text f in
     let parts : IsLineOf (line_text words ++ []) line = subst (λ (t : List ℕ). IsLineOf t line) (e ∙ sym (append-nil (line_text words))) l in
-    elim (first_or_later words [] line (whole_bad_class s b) parts) [
-      | inl is ↦ digit_last line ends.0 (bad_class_front s b) b.at is ends.1
+    elim (first_or_later words [] line (whole_bad_class s f) parts) [
+      | inl is ↦ fault_last s bytes f line bad is ends
       | inr rest ↦ no_line_of_nothing line rest
     ]
 
@@ -181,8 +206,8 @@ judged_line held a b first second text status.AllEquivalent line p q h l ends = 
 judged_line held a b first second text status.Others line p q h l ends = report_line held a b first second text h.0 line p q h.1 l ends
 judged_line held a b first second text status.BadClass line p q h l ends =
     elim h [
-      | inl x ↦ absurd (bad_class_line side.First x.0 text line x.2 l ends)
-      | inr x ↦ absurd (bad_class_line side.Second x.1.0 text line x.1.2 l ends)
+      | inl x ↦ absurd (bad_class_line side.First first x.0 text line x.1 x.2 l ends)
+      | inr x ↦ absurd (bad_class_line side.Second second x.1.0 text line x.1.1 x.1.2 l ends)
     ]
 judged_line held a b first second text status.BadCert line p q h l ends = absurd h
 judged_line held a b first second text status.BadWords line p q h l ends = absurd h

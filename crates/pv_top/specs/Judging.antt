@@ -3,7 +3,7 @@ use Rattle.std.specs.Prelude.{◌≡◌, ◌<◌, ℕ, List, Result, length}
 use Rattle.std.specs.List.{AllZip, flat_map}
 use Rattle.pv_class.specs.declared.file.Method.{Method}
 use Rattle.pv_class.specs.declared.file.ClassFile.{ClassFile}
-use Rattle.pv_class.specs.declared.fault.Bad.{Bad}
+use Rattle.pv_class.specs.declared.fault.ClassFault.{ClassFault}
 use Rattle.pv_class.specs.Answers.{IsAnswer}
 use Rattle.pv_top.specs.declared.report.Fetched.{Fetched}
 use Rattle.pv_top.specs.declared.report.Fetched.TheVariants.{Bytes, TooLong}
@@ -20,7 +20,7 @@ IsFetched (Bytes v) bytes = v.items ≡ bytes
 IsFetched TooLong bytes = 4194304 < length bytes
 
 -- the class of the bytes that were fetched, or their fault
-abbrev pub ReadsFetched : Fetched → Result ClassFile Bad → Type 0
+abbrev pub ReadsFetched : Fetched → Result ClassFile ClassFault → Type 0
 ReadsFetched fetched read = (bytes : List ℕ) → IsFetched fetched bytes → IsAnswer bytes read
 
 -- what is said of the bytes that were fetched

@@ -2,9 +2,10 @@
 use Rattle.std.specs.Prelude.{ℕ, ◌+◌, ◌/◌, ◌%◌, List, [], ◌∷◌, ◌++◌, codes, decimal, nat_lt, nat_le, ◌==◌, ◌&&◌, not, if◌then◌else◌}
 use Rattle.std.specs.List.{flat_map}
 use Rattle.pv_class.specs.declared.file.Method.{Method}
-use Rattle.pv_class.specs.declared.fault.Bad.{Bad}
-use Rattle.pv_class.specs.declared.fault.ClassCause.{ClassCause}
-use Rattle.pv_class.specs.declared.fault.ClassCause.TheVariants as fault
+use Rattle.pv_class.specs.declared.fault.ClassFault.{ClassFault}
+use Rattle.pv_class.specs.declared.fault.ClassFault.TheVariants as fault
+use Rattle.pv_class.specs.declared.fault.PoolWord.{PoolWord}
+use Rattle.pv_class.specs.declared.fault.PoolWord.TheVariants as pool
 use Rattle.pv_top.specs.declared.cause.Cause.{Cause}
 use Rattle.pv_top.specs.declared.cause.CauseKind.{CauseKind}
 use Rattle.pv_top.specs.declared.cause.CauseKind.TheVariants as kind
@@ -51,22 +52,30 @@ line_of m v = shown m.name ++ codes " " ++ shown m.desc ++ codes " " ++ verdict_
 abbrev pub line_text : List ℕ → List ℕ
 line_text line = line ++ 10 ∷ []
 
-abbrev pub fault_word : ClassCause → List ℕ
-fault_word fault.Truncated = codes "truncated"
-fault_word fault.Magic = codes "magic"
-fault_word fault.Version = codes "version"
-fault_word fault.PoolTag = codes "pool-tag"
-fault_word fault.PoolUtf8 = codes "pool-utf8"
-fault_word fault.PoolReference = codes "pool-reference"
-fault_word fault.Descriptor = codes "descriptor"
-fault_word fault.Code = codes "code"
-fault_word fault.Duplicate = codes "duplicate"
-fault_word fault.Trailing = codes "trailing"
-fault_word fault.TooLong = codes "too-long"
+abbrev pub pool_word : PoolWord → List ℕ
+pool_word pool.Tag = codes "pool-tag"
+pool_word pool.Utf8 = codes "pool-utf8"
+pool_word pool.Reference = codes "pool-reference"
+
+abbrev pub word_at : List ℕ → ℕ → List ℕ
+word_at word at = word ++ codes " at " ++ decimal at
+
+-- a fault with its place; no file is answered out of memory
+abbrev pub fault_text : ClassFault → List ℕ
+fault_text (fault.Truncated at) = word_at (codes "truncated") at
+fault_text (fault.Magic at) = word_at (codes "magic") at
+fault_text (fault.Version at) = word_at (codes "version") at
+fault_text (fault.Pool word at) = word_at (pool_word word) at
+fault_text (fault.Descriptor at) = word_at (codes "descriptor") at
+fault_text (fault.Code at) = word_at (codes "code") at
+fault_text (fault.Duplicate at) = word_at (codes "duplicate") at
+fault_text (fault.Trailing at) = word_at (codes "trailing") at
+fault_text (fault.TooLong at) = word_at (codes "too-long") at
+fault_text fault.Memory = codes "out of memory"
 
 -- a file that has no reading, with its fault
-abbrev pub bad_class : Side → Bad → List ℕ
-bad_class s b = line_text (codes "bad class " ++ side_word s ++ codes " " ++ fault_word b.cause ++ codes " at " ++ decimal b.at)
+abbrev pub bad_class : Side → ClassFault → List ℕ
+bad_class s f = line_text (codes "bad class " ++ side_word s ++ codes " " ++ fault_text f)
 
 abbrev pub bad_words : List ℕ
 bad_words = line_text (codes "bad words")

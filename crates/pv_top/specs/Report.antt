@@ -3,7 +3,7 @@ use Rattle.std.specs.Prelude.{◌≡◌, ◌⊎◌, ℕ, List, [], ◌∷◌}
 use Rattle.std.specs.List.{AllByRecursion, AllZip, flat_map}
 use Rattle.pv_class.specs.declared.file.Method.{Method}
 use Rattle.pv_class.specs.declared.file.ClassFile.{ClassFile}
-use Rattle.pv_class.specs.declared.fault.Bad.{Bad}
+use Rattle.pv_class.specs.declared.fault.ClassFault.{ClassFault}
 use Rattle.pv_class.specs.ClassFiles.{IsClass}
 use Rattle.pv_class.specs.ClassFaults.{IsBad}
 use Rattle.pv_top.specs.declared.verdict.Side.{Side}
@@ -36,7 +36,7 @@ HasClass bytes = (file : ClassFile) × IsClass bytes file
 
 -- the file has no reading, and this is said of its fault
 abbrev pub IsBadText : Side → List ℕ → List ℕ → Type 0
-IsBadText s bytes text = (b : Bad) × IsBad bytes b × (text ≡ bad_class s b)
+IsBadText s bytes text = (f : ClassFault) × IsBad bytes f × (text ≡ bad_class s f)
 
 -- The text and the status for the bytes of two files: a report, or the first of the two that has no reading.
 abbrev pub Judged : List ℕ → List ℕ → List ℕ → Status → Type 0

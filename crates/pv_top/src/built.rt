@@ -41,7 +41,7 @@ pub fn form_of(alloc: Global, method: &Method) -> Result<Option<Form>, Memory>
     if !is_of_ints(&desc) {
         return Ok(None);
     }
-    let Some(insns) = instructions(alloc, code.bytes.bytes())? else {
+    let Some(insns) = instructions(alloc, code.bytes.as_slice())? else {
         return Ok(None);
     };
     if !has_frames(
@@ -71,7 +71,7 @@ fn is_small(code: &Code) -> bool
     ensures { IsTrue result ↔ IsSmall code.now }
 {
     code.handlers == 0
-        && code.bytes.bytes().len() <= LONGEST_CODE
+        && code.bytes.as_slice().len() <= LONGEST_CODE
         && u32::from(code.max_stack) + u32::from(code.max_locals) <= MOST_SLOTS
 }
 

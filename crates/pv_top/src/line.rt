@@ -1,11 +1,11 @@
 //! The lines of a report.
 
 ghost use Rattle.std.specs.Prelude.{◌≡◌, ◌++◌, ◌<◌, OnOk};
-ghost use Rattle.pv_top.specs.Lines.{shown, shown_byte, hex_digit, side_word, kind_word, cause_text, verdict_text, line_of, line_text, fault_word, bad_class};
+ghost use Rattle.pv_top.specs.Lines.{shown, shown_byte, hex_digit, side_word, kind_word, cause_text, verdict_text, line_of, line_text, pool_word, word_at, fault_text, bad_class};
 
 use crate::cause::{Cause, CauseKind};
 use crate::verdict::{Side, Verdict};
-use pv_class::{Bad, ClassCause, Method};
+use pv_class::{ClassFault, Method, PoolWord};
 use std::alloc::{AllocError, Global};
 
 /// The line that says that a file has no reading, with its fault.
@@ -13,37 +13,52 @@ pub fn push_bad_class(
     alloc: Global,
     out: &mut Vec<u8>,
     side: Side,
-    bad: Bad,
+    fault: ClassFault,
 ) -> Result<(), AllocError>
-    ensures { OnOk result (out.new.items ≡ out.old.items ++ bad_class side bad) }
+    ensures { OnOk result (out.new.items ≡ out.old.items ++ bad_class side fault) }
 {
-    let at = bad.at;
     out.extend_from_slice(b"bad class ")?;
     out.extend_from_slice(side_word(side))?;
     out.extend_from_slice(b" ")?;
-    out.extend_from_slice(fault_word(bad.cause))?;
-    out.extend_from_slice(b" at ")?;
-    let at = format!(in alloc; "{at}")?;
-    out.extend_from_slice(at.as_bytes())?;
+    push_fault(alloc, out, fault)?;
     out.extend_from_slice(b"\n")
 }
 
-fn fault_word(cause: ClassCause) -> &'static [u8]
-    ensures { result.now ≡ fault_word cause }
+fn push_fault(alloc: Global, out: &mut Vec<u8>, fault: ClassFault) -> Result<(), AllocError>
+    ensures { OnOk result (out.new.items ≡ out.old.items ++ fault_text fault) }
 {
-    match cause {
-        ClassCause::Truncated => b"truncated",
-        ClassCause::Magic => b"magic",
-        ClassCause::Version => b"version",
-        ClassCause::PoolTag => b"pool-tag",
-        ClassCause::PoolUtf8 => b"pool-utf8",
-        ClassCause::PoolReference => b"pool-reference",
-        ClassCause::Descriptor => b"descriptor",
-        ClassCause::Code => b"code",
-        ClassCause::Duplicate => b"duplicate",
-        ClassCause::Trailing => b"trailing",
-        ClassCause::TooLong => b"too-long",
+    match fault {
+        ClassFault::Truncated(at) => push_word_at(alloc, out, b"truncated", at),
+        ClassFault::Magic(at) => push_word_at(alloc, out, b"magic", at),
+        ClassFault::Version(at) => push_word_at(alloc, out, b"version", at),
+        ClassFault::Pool(word, at) => push_word_at(alloc, out, pool_word(word), at),
+        ClassFault::Descriptor(at) => push_word_at(alloc, out, b"descriptor", at),
+        ClassFault::Code(at) => push_word_at(alloc, out, b"code", at),
+        ClassFault::Duplicate(at) => push_word_at(alloc, out, b"duplicate", at),
+        ClassFault::Trailing(at) => push_word_at(alloc, out, b"trailing", at),
+        ClassFault::TooLong(at) => push_word_at(alloc, out, b"too-long", at),
+        ClassFault::Memory => out.extend_from_slice(b"out of memory"),
     }
+}
+
+fn pool_word(word: PoolWord) -> &'static [u8]
+    ensures { result.now ≡ pool_word word }
+{
+    match word {
+        PoolWord::Tag => b"pool-tag",
+        PoolWord::Utf8 => b"pool-utf8",
+        PoolWord::Reference => b"pool-reference",
+    }
+}
+
+// A word and a place.
+fn push_word_at(alloc: Global, out: &mut Vec<u8>, word: &[u8], at: usize) -> Result<(), AllocError>
+    ensures { OnOk result (out.new.items ≡ out.old.items ++ word_at word.now at) }
+{
+    out.extend_from_slice(word)?;
+    out.extend_from_slice(b" at ")?;
+    let at = format!(in alloc; "{at}")?;
+    out.extend_from_slice(at.as_bytes())
 }
 
 /// What is said of a method, and a line feed.

@@ -7,7 +7,7 @@ ghost use Rattle.pv_top.specs.Judging.{ReadsFetched, JudgesFetched, Compares};
 use crate::line::{push_bad_class, push_line};
 use crate::status::Status;
 use crate::verdict::{Side, Verdict, verdict_on};
-use pv_class::{Bad, ClassCause, ClassFault, ClassFile, Method, read_class};
+use pv_class::{ClassFault, ClassFile, Method, read_class};
 use pv_value::Memory;
 use std::alloc::{AllocError, Global};
 
@@ -27,37 +27,36 @@ pub fn judge(alloc: Global, first: &Fetched, second: &Fetched) -> Result<(Vec<u8
 {
     let one = match class_of(alloc, first)? {
         Ok(file) => file,
-        Err(bad) => return Ok((bad_class(alloc, Side::First, bad)?, Status::BadClass)),
+        Err(fault) => return Ok((bad_class(alloc, Side::First, fault)?, Status::BadClass)),
     };
     let two = match class_of(alloc, second)? {
         Ok(file) => file,
-        Err(bad) => return Ok((bad_class(alloc, Side::Second, bad)?, Status::BadClass)),
+        Err(fault) => return Ok((bad_class(alloc, Side::Second, fault)?, Status::BadClass)),
     };
     compare(alloc, one.methods.as_slice(), two.methods.as_slice())
 }
 
 // The class that a file holds, or its fault.
-fn class_of(alloc: Global, fetched: &Fetched) -> Result<Result<ClassFile, Bad>, Memory>
+fn class_of(alloc: Global, fetched: &Fetched) -> Result<Result<ClassFile, ClassFault>, Memory>
     ensures { IfOk result (λ read. ReadsFetched fetched.now read) }
 {
     let Fetched::Bytes(bytes) = fetched else {
-        return Ok(Err(Bad {
-            cause: ClassCause::TooLong,
-            at: LONGEST_FILE,
-        }));
+        return Ok(Err(ClassFault::TooLong(LONGEST_FILE)));
     };
     match read_class(alloc, bytes) {
         Ok(file) => Ok(Ok(file)),
-        Err(ClassFault::Bad(bad)) => Ok(Err(bad)),
-        Err(ClassFault::Memory) => Err(Memory),
+        Err(fault) => match fault {
+            ClassFault::Memory => Err(Memory),
+            fault => Ok(Err(fault)),
+        },
     }
 }
 
-fn bad_class(alloc: Global, side: Side, bad: Bad) -> Result<Vec<u8>, AllocError>
-    ensures { IfOk result (λ text. text.items ≡ bad_class side bad) }
+fn bad_class(alloc: Global, side: Side, fault: ClassFault) -> Result<Vec<u8>, AllocError>
+    ensures { IfOk result (λ text. text.items ≡ bad_class side fault) }
 {
     let mut text = Vec::new(alloc);
-    push_bad_class(alloc, &mut text, side, bad)?;
+    push_bad_class(alloc, &mut text, side, fault)?;
     Ok(text)
 }
 

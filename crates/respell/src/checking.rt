@@ -2,7 +2,7 @@
 
 use crate::spelling::{SpellFault, spelled};
 use pv_base::{FileFault, Files, HostFiles};
-use pv_class::{ClassCause, ClassFault, ClassFile, Method, read_class};
+use pv_class::{ClassFault, ClassFile, Method, read_class};
 use pv_insn::{CodeFault, decode};
 use std::alloc::Global;
 use std::{fmt, io, rt, str};
@@ -44,10 +44,8 @@ impl fmt::Display for Counts {
 enum NoClass {
     #[error("no file: {0:?}")]
     File(FileFault),
-    #[error("no class file: {0:?} at {1}")]
-    Bad(ClassCause, usize),
-    #[error("out of memory")]
-    Memory,
+    #[error("no class file: {0}")]
+    Class(ClassFault),
 }
 
 /// What is wrong with a code.
@@ -93,11 +91,7 @@ fn class_at<R: rt::Files + AllocGlobal>(rt: &R, path: &str) -> Result<ClassFile,
         Ok(bytes) => bytes,
         Err(fault) => return Err(NoClass::File(fault)),
     };
-    match read_class(alloc, &bytes) {
-        Ok(class) => Ok(class),
-        Err(ClassFault::Bad(bad)) => Err(NoClass::Bad(bad.cause, bad.at)),
-        Err(ClassFault::Memory) => Err(NoClass::Memory),
-    }
+    read_class(alloc, &bytes).map_err(NoClass::Class)
 }
 
 fn check_method<R: Print + AllocGlobal>(
@@ -109,7 +103,7 @@ fn check_method<R: Print + AllocGlobal>(
     let Some(code) = &method.code else {
         return Ok(true);
     };
-    let bytes = code.bytes.bytes();
+    let bytes = code.bytes.as_slice();
     counts.methods = counts.methods.saturating_add(1);
     counts.bytes = counts.bytes.saturating_add(bytes.len() as u64);
     match check_code(rt.alloc(), bytes) {

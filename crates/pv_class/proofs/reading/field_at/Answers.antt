@@ -15,9 +15,9 @@ pub returns-in_err-_attributes : goal.returns-in_err-_attributes
 unfolding field
 returns-in_err-_attributes c =
     let same : c.from_residual-in_err-_attributes.result ≡ Err c.in_err-_attributes.field-0.0 = search rules in
-    let behind = read_then (member kind.Field c.args.pool.now) (λ m. bind (table in_file (skipped in_file c.args.pool.now)) (λ attributes. give tt)) c.args.bytes.now _ c.in_ok-_member.rest.now c.in_ok-_member.ensures in
+    let later = read_then (member kind.Field c.args.pool.now) (λ m. bind (table in_file (skipped in_file c.args.pool.now)) (λ attributes. give tt)) c.args.bytes.now _ c.in_ok-_member.rest.now c.in_ok-_member.ensures in
     gives_err _ c.from_residual-in_err-_attributes.result c.in_err-_attributes.field-0.0 _ same
-    (fails_as c.in_err-_attributes.field-0.0 _ _ behind (fails_first (table in_file (skipped in_file c.args.pool.now)) _ c.in_ok-_member.rest.now c.in_err-_attributes.field-0.0 c.in_err-_attributes.ensures))
+    (fails_as c.in_err-_attributes.field-0.0 _ _ later (fails_first (table in_file (skipped in_file c.args.pool.now)) _ c.in_ok-_member.rest.now c.in_err-_attributes.field-0.0 c.in_err-_attributes.ensures))
 
 pub returns : goal.returns
 unfolding field

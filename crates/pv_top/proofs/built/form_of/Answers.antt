@@ -25,18 +25,18 @@ pub returns-then-not-branch : goal.returns-then-not-branch
 returns-then-not-branch c value b =
     let p = parts_of c.args.method.now c.in-Some.code value c.in-Some.is b in
     let is : IsMethodType c.args.method.now.desc c.in-Some-2.desc = rw (← c.bytes.ensures) (rw c.in-Some-2.is at c.in_ok-desc.ensures) in
-    let spelled : IsCode c.in-Some.code.bytes c.in-Some-3.insns = rw (← c.bytes-2.ensures) (rw c.in-Some-3.is at c.in_ok-insns.ensures) in
-    let are : IsCode c.in-Some.code.bytes c.as_slice.result.now = subst (λ (l : List Insn). IsCode c.in-Some.code.bytes l) (sym c.as_slice.ensures) spelled in
-    let yes = c.in_ok-has_frames.ensures.1 (framed_of c.args.method.now c.in-Some.code value c.in-Some-2.desc c.as_slice.result.now is are p) in
+    let spelled : IsCode c.in-Some.code.bytes c.in-Some-3.insns = rw (← c.as_slice.ensures) (rw c.in-Some-3.is at c.in_ok-insns.ensures) in
+    let are : IsCode c.in-Some.code.bytes c.as_slice-2.result.now = subst (λ (l : List Insn). IsCode c.in-Some.code.bytes l) (sym c.as_slice-2.ensures) spelled in
+    let yes = c.in_ok-has_frames.ensures.1 (framed_of c.args.method.now c.in-Some.code value c.in-Some-2.desc c.as_slice-2.result.now is are p) in
     let no = c.if-not-branch.true in
     search rules
 
 pub returns : goal.returns
 returns c =
     let is : IsMethodType c.args.method.now.desc c.in-Some-2.desc = rw (← c.bytes.ensures) (rw c.in-Some-2.is at c.in_ok-desc.ensures) in
-    let spelled : IsCode c.in-Some.code.bytes c.in-Some-3.insns = rw (← c.bytes-2.ensures) (rw c.in-Some-3.is at c.in_ok-insns.ensures) in
+    let spelled : IsCode c.in-Some.code.bytes c.in-Some-3.insns = rw (← c.as_slice.ensures) (rw c.in-Some-3.is at c.in_ok-insns.ensures) in
     let small : IsSmall c.in-Some.code = search rules in
     let plain : IsPlainStatic c.args.method.now.flags = search rules in
     let ints : IsOfInts c.in-Some-2.desc = search rules in
-    let framed = rw c.as_slice.ensures at (c.in_ok-has_frames.ensures.0 (search rules)) in
-    subst (λ (ts : List JType). HasForm c.args.method.now c.in-Some-3.insns (length ts)) (sym c.as_slice-2.ensures) (has_form c.args.method.now c.in-Some.code c.in-Some-2.desc c.in-Some-3.insns c.in-Some.is small plain is ints spelled framed)
+    let framed = rw c.as_slice-2.ensures at (c.in_ok-has_frames.ensures.0 (search rules)) in
+    subst (λ (ts : List JType). HasForm c.args.method.now c.in-Some-3.insns (length ts)) (sym c.as_slice-3.ensures) (has_form c.args.method.now c.in-Some.code c.in-Some-2.desc c.in-Some-3.insns c.in-Some.is small plain is ints spelled framed)

@@ -7,14 +7,14 @@ use Rattle.pv_top.proofs.report.judge.Goals as goal
 
 pub returns-in-Err : goal.returns-in-Err
 returns-in-Err c a b first second =
-    let bad : ReadsFetched c.args.first.now (Err c.in-Err.bad) = rw c.in-Err.is at c.in_ok-file.ensures in
-    inl (c.in-Err.bad, bad a first, c.in_ok-bad_class-in-Err.ensures)
+    let bad : ReadsFetched c.args.first.now (Err c.in-Err.fault) = rw c.in-Err.is at c.in_ok-file.ensures in
+    inl (c.in-Err.fault, bad a first, c.in_ok-bad_class-in-Err.ensures)
 
 pub returns-in-Err-2 : goal.returns-in-Err-2
 returns-in-Err-2 c a b first second =
     let one : ReadsFetched c.args.first.now (Ok c.in-Ok.file) = rw c.in-Ok.is at c.in_ok-file.ensures in
-    let bad : ReadsFetched c.args.second.now (Err c.in-Err-2.bad) = rw c.in-Err-2.is at c.in_ok-file-2.ensures in
-    inr ((c.in-Ok.file, one a first), (c.in-Err-2.bad, bad b second, c.in_ok-bad_class-in-Err-2.ensures))
+    let bad : ReadsFetched c.args.second.now (Err c.in-Err-2.fault) = rw c.in-Err-2.is at c.in_ok-file-2.ensures in
+    inr ((c.in-Ok.file, one a first), (c.in-Err-2.fault, bad b second, c.in_ok-bad_class-in-Err-2.ensures))
 
 pub returns : goal.returns
 returns c =

@@ -162,6 +162,3 @@ pub fn read_class(alloc: Global, bytes: &[u8]) -> Result<ClassFile, ClassFault>
         Err(stop) => Err(stop.in_file(bytes.len())),
     }
 }
-
-#[cfg(test)]
-mod tests;

@@ -132,6 +132,3 @@ pub fn has_frames(
     }
     Ok(false) // the code goes on behind its end
 }
-
-#[cfg(test)]
-mod tests;

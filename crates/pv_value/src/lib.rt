@@ -24,8 +24,6 @@ mod name;
 mod number;
 mod operation;
 mod outcome;
-#[cfg(test)]
-mod tests;
 mod world;
 
 pub use descriptor::{Descriptor, JType, JTypes, read_descriptor, read_field_type};

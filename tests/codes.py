@@ -1,9 +1,9 @@
 #!/usr/bin/env python3
-"""Runs the built test program on every class file of a JDK.
+"""Decodes the code of each method in every class file of a JDK, and spells it back.
 
-It works on the program that `cd crates/respell && rt run -- data/A` leaves, which decodes each code,
-spells what was decoded back, and compares. The class files, of major version 45 to 69, are extracted
-from the JDK's image with `jimage`.
+It works on the program that `cd crates/cases && rt run < stdin` leaves: a line `respell-file PATH` decodes
+each code of a class file, spells what was decoded back, and compares. The class files, of major version
+45 to 69, are extracted from the JDK's image with `jimage`.
 
     tests/codes.py [IMAGE]      IMAGE is the file lib/modules of a JDK
 """
@@ -18,7 +18,7 @@ import time
 from concurrent.futures import ThreadPoolExecutor
 
 TOP = os.path.dirname(os.path.dirname(os.path.abspath(__file__)))
-PROGRAM = os.path.join(TOP, "crates", "respell", "out", "respell")
+PROGRAM = os.path.join(TOP, "crates", "cases", "out", "cases")
 BATCH = 400
 
 
@@ -38,21 +38,25 @@ def major(path):
 def run(work, paths):
     """The counts of files, methods and bytes, and the lines of what is wrong."""
     names = [os.path.relpath(path, work) for path in paths]
-    done = subprocess.run([PROGRAM] + names, cwd=work, capture_output=True, timeout=600)
-    lines = done.stdout.decode(errors="replace").splitlines()
-    counts = re.fullmatch(r"(\d+) files, (\d+) methods, (\d+) bytes", lines[-1] if lines else "")
-    if counts is None:
-        return (0, 0, 0), lines + [f"status {done.returncode} behind {names[0]}"]
-    wrong = lines[:-1]
-    counts = tuple(int(count) for count in counts.groups())
-    if done.stderr or counts[0] != len(names) or done.returncode != (1 if wrong else 0):
-        wrong.append(f"status {done.returncode}, {counts[0]} of {len(names)} files behind {names[0]}")
-    return counts, wrong
+    lines = "".join(f"respell-file {name}\n" for name in names)
+    done = subprocess.run([PROGRAM], cwd=work, input=lines.encode(), capture_output=True, timeout=600)
+    answers = done.stdout.decode(errors="replace").splitlines()
+    methods, size, wrong = 0, 0, []
+    for name, answer in zip(names, answers):
+        counts = re.fullmatch(r"(\d+) methods, (\d+) bytes", answer)
+        if counts is None:
+            wrong.append(f"{name} {answer}")
+        else:
+            methods += int(counts[1])
+            size += int(counts[2])
+    if done.stderr or done.returncode or len(answers) != len(names):
+        wrong.append(f"status {done.returncode}, {len(answers)} of {len(names)} answers, the first file {names[0]}")
+    return (len(names), methods, size), wrong
 
 
 def main():
     if not os.access(PROGRAM, os.X_OK):
-        sys.exit("no program: run 'cd crates/respell && rt run -- data/A' first")
+        sys.exit("no program: run 'cd crates/cases && rt run < stdin' first")
     with tempfile.TemporaryDirectory() as work:
         subprocess.run(["jimage", "extract", "--dir", work, image()], check=True)
         found = sorted(

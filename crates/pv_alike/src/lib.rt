@@ -26,8 +26,6 @@ mod alike;
 mod order;
 mod renumber;
 mod rooted;
-#[cfg(test)]
-mod tests;
 mod visit;
 
 pub use alike::least;

@@ -24,8 +24,6 @@
 mod fault;
 mod graph;
 mod node;
-#[cfg(test)]
-mod tests;
 
 pub use fault::GraphFault;
 pub use graph::Graph;

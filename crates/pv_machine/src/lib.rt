@@ -17,8 +17,6 @@ mod narrow;
 mod program;
 mod stack;
 mod state;
-#[cfg(test)]
-mod tests;
 
 pub use machine::{run, step};
 pub use program::Program;

@@ -27,6 +27,3 @@ pub use cause::{Cause, CauseKind, Refused};
 pub use status::Status;
 pub use top::run;
 pub use verdict::{Side, Verdict};
-
-#[cfg(test)]
-mod tests;

@@ -2,7 +2,6 @@
 
 use pv_insn::{Case, Insn, Placed};
 use std::alloc::{AllocError, Global};
-use thiserror::Error;
 
 const BIPUSH: u8 = 16;
 
@@ -19,19 +18,15 @@ const WIDE: u8 = 196;
 const GOTO_W: u8 = 200;
 
 /// Why instructions spell no code. A number is the address of the instruction.
-#[derive(Clone, Copy, Debug, Error)]
+#[derive(Clone, Copy, Debug)]
 pub enum SpellFault {
     /// The bytes of the instructions before it lead to another address.
-    #[error("misplaced instruction at {0}")]
     Misplaced(u32),
     /// A target is no place of the list, or out of reach.
-    #[error("target without an offset at {0}")]
     Target(u32),
     /// The numbers of a switch don't fit.
-    #[error("switch without numbers at {0}")]
     Switch(u32),
     /// Memory ran out.
-    #[error("out of memory")]
     Memory,
 }
 

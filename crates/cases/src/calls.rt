@@ -1,0 +1,54 @@
+//! The table of the words that name calls.
+
+use crate::answers::{Answer, NoAnswer};
+use crate::bench::Bench;
+use crate::pools::Asked;
+use crate::{classes, codes, graphs, machine, outside, pools, runs, values};
+use std::rt::Files;
+use std::thread::Threads;
+
+/// What the call that a line names answers.
+pub fn answer<R: Files + Threads + Sync>(rt: &R, bench: &Bench, line: &str) -> Answer {
+    let (call, rest) = line.split_once(' ').unwrap_or((line, ""));
+    match call {
+        "field-type" => values::field_type(bench, rest),
+        "descriptor" => values::descriptor(bench, rest),
+        "name" => values::name(bench, rest),
+        "numbers" => values::numbers(bench, rest),
+        "scalar" => values::scalar_value(bench, rest),
+        "heap" => values::heap(bench, rest),
+
+        "files" => outside::memory_files(bench, rest),
+        "host" => outside::host_files(rt, bench, rest),
+        "sink" => outside::memory_sink(bench, rest),
+        "take-all" => outside::taking(bench, rest),
+        "put-all" => outside::putting(bench, rest),
+
+        "pool" => pools::pool(bench, rest),
+        "pool-entry" => pools::under(bench, Asked::Entry, rest),
+        "pool-text" => pools::under(bench, Asked::Text, rest),
+        "pool-constant" => pools::under(bench, Asked::Constant, rest),
+        "pool-member" => pools::under(bench, Asked::Member, rest),
+
+        "class" => classes::class(bench, rest),
+        "frames" => classes::frames(bench, false, rest),
+        "frames-this" => classes::frames(bench, true, rest),
+
+        "decode" => codes::decoding(bench, rest),
+        "count" => codes::count(bench, rest),
+        "respell" => codes::respelling(bench, rest),
+        "spell" => codes::spelling_of_one(bench, rest),
+        "respell-file" => codes::respelling_file(rt, bench.alloc(), rest),
+
+        "graph" => graphs::graph(bench, rest),
+
+        "machine" => machine::machine(bench, false, rest),
+        "machine-step" => machine::machine(bench, true, rest),
+
+        "run" => runs::running(rt, bench, rest),
+        "validate" => runs::validation(rt, bench, rest),
+        "one-line" => runs::one_line(rt, bench, rest),
+
+        _ => Err(NoAnswer::Unreadable),
+    }
+}

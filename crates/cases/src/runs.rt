@@ -1,0 +1,129 @@
+//! Calls of `pv_top::run`, over a store and a sink in memory.
+//!
+//! | Line | Answer |
+//! |---|---|
+//! | `run WORD ..; SETTING` | the status, what was sent, the calls that the store got, and whether it holds what it held |
+//! | `validate BYTES BYTES` | the status and what was sent, where the words are `validate A B` and these are the files A and B |
+//! | `one-line BYTES BYTES` | `yes` where the status is at most 2 and what was sent is one line |
+//!
+//! A WORD is `""` for the empty one. A SETTING is words `NAME=BYTES`, which are files, `fail=2,6`, the
+//! numbers of the calls that fail, and first `room=9`, the bytes that the sink has room for.
+
+use crate::answers::{Answer, NoAnswer, said};
+use crate::bench::{Bench, number, words};
+use crate::outside::{asked_text, read_files};
+use pv_base::{Files, MemFiles, MemSink, OpenGate};
+use pv_top::{Status, run};
+use pv_value::Name;
+use std::alloc::Global;
+use std::str;
+use std::thread::Threads;
+
+/// The room of a sink that no report fills.
+const ROOM: usize = 100000;
+
+/// `run WORD ..; SETTING`
+pub fn running<R: Threads + Sync>(rt: &R, bench: &Bench, rest: &str) -> Answer {
+    let alloc = bench.alloc();
+    let (command, setting) = rest.split_once(';').ok_or(NoAnswer::Unreadable)?;
+    let command = command_words(alloc, command)?;
+    let setting = words(alloc, setting)?;
+    let (room, setting) = read_room(&setting)?;
+    let mut files = read_files(bench, setting)?;
+    let mut out = MemSink::new(alloc, room)?;
+    let status = run(rt, alloc, &command, &mut files, &mut out, &OpenGate);
+    let sent = sent_text(&out)?;
+    let asked = asked_text(alloc, files.asked())?;
+    let held = if holds(bench, &mut files, setting)? {
+        "held"
+    } else {
+        "changed"
+    };
+    Ok(format!(in alloc; "{status:?} {sent:?}; {asked}; {held}")?)
+}
+
+// The words of a command, in which two quotation marks are the empty word.
+fn command_words<'a>(alloc: Global, text: &'a str) -> Result<Vec<&'a str>, NoAnswer> {
+    let mut command = Vec::new(alloc);
+    for word in text.split_whitespace() {
+        command.push(if word == "\"\"" { "" } else { word })?;
+    }
+    Ok(command)
+}
+
+// The room for what is sent, and the other words of a setting.
+fn read_room<'a>(setting: &'a [&'a str]) -> Result<(usize, &'a [&'a str]), NoAnswer> {
+    let [first, others @ ..] = setting else {
+        return Ok((ROOM, setting));
+    };
+    match first.strip_prefix("room=") {
+        Some(room) => Ok((number(room)?, others)),
+        None => Ok((ROOM, setting)),
+    }
+}
+
+fn sent_text(out: &MemSink) -> Result<&str, NoAnswer> {
+    match str::from_utf8(out.taken()) {
+        Ok(text) => Ok(text),
+        Err(_) => Err(NoAnswer::Unreadable),
+    }
+}
+
+// Whether a store holds the files of its setting.
+fn holds(bench: &Bench, files: &mut MemFiles, setting: &[&str]) -> Result<bool, NoAnswer> {
+    for word in setting {
+        let Some((name, bytes)) = word.split_once('=') else {
+            return Err(NoAnswer::Unreadable);
+        };
+        if name != "fail" && !holds_file(bench, files, name, &bench.bytes(bytes)?) {
+            return Ok(false);
+        }
+    }
+    Ok(true)
+}
+
+fn holds_file(bench: &Bench, files: &mut MemFiles, name: &str, bytes: &[u8]) -> bool {
+    match files.fetch(bench.alloc(), name, bytes.len()) {
+        Ok(held) => held.as_slice() == bytes,
+        Err(_) => false,
+    }
+}
+
+// What a run over two files answers and sends.
+fn validated<R: Threads + Sync>(
+    rt: &R,
+    bench: &Bench,
+    rest: &str,
+) -> Result<(Status, MemSink), NoAnswer> {
+    let alloc = bench.alloc();
+    let words = words(alloc, rest)?;
+    let [first, second] = *words.as_slice() else {
+        return Err(NoAnswer::Unreadable);
+    };
+    let mut entries = Vec::new(alloc);
+    entries.push((Name::new(alloc, b"A")?, bench.bytes(first)?))?;
+    entries.push((Name::new(alloc, b"B")?, bench.bytes(second)?))?;
+    let mut files = MemFiles::new(alloc, entries, Vec::new(alloc));
+    let mut out = MemSink::new(alloc, ROOM)?;
+    let command = ["validate", "A", "B"];
+    let status = run(rt, alloc, &command, &mut files, &mut out, &OpenGate);
+    Ok((status, out))
+}
+
+/// `validate BYTES BYTES`
+pub fn validation<R: Threads + Sync>(rt: &R, bench: &Bench, rest: &str) -> Answer {
+    let (status, out) = validated(rt, bench, rest)?;
+    let sent = sent_text(&out)?;
+    Ok(format!(in bench.alloc(); "{status:?} {sent:?}")?)
+}
+
+/// `one-line BYTES BYTES`
+pub fn one_line<R: Threads + Sync>(rt: &R, bench: &Bench, rest: &str) -> Answer {
+    let (status, out) = validated(rt, bench, rest)?;
+    let feeds = out.taken().iter().filter(|b| **b == b'\n').count();
+    if status.number() <= 2 && feeds == 1 && out.taken().ends_with(b"\n") {
+        said(bench.alloc(), "yes")
+    } else {
+        said(bench.alloc(), "no")
+    }
+}

@@ -3,7 +3,7 @@ use Rattle.std.proofs.Common.{◌≡◌, ◌⊎◌, ℕ, zero, suc, ◌<◌, Lis
 use Rattle.std.specs.Prelude.{codes, decimal}
 use Rattle.std.specs.Global.{Vec}
 use Rattle.std.proofs.lemmas.List.{append_cancel_left, append-nil, take-append-drop}
-use Rattle.pv_base.specs.Stored.{Stored}
+use Rattle.pv_base.specs.Stored.{Stored, AreBytes}
 use Rattle.pv_base.specs.Outside.{FetchGives, more, more_more}
 use Rattle.pv_base.specs.declared.outside.Asked.{Asked}
 use Rattle.pv_base.specs.declared.outside.Asked.TheVariants.{Fetch}
@@ -23,8 +23,8 @@ use Rattle.pv_class.specs.declared.fault.ClassCause.TheVariants as fault
 use Rattle.pv_top.specs.Lines.{bad_class, fault_word, line_of, line_text, side_word}
 use Rattle.pv_top.specs.Report.{IsReport, Judged}
 use Rattle.pv_top.specs.Judging.{JudgesFetched}
-use Rattle.pv_top.specs.Run.{Holds, Puts, Says, SaidOf, Answered, AskedFor, IsLineOf, EndsWith, HaveOneMeaning, EachEquivalent}
-use Rattle.pv_top.specs.Fetching.{HoldsFetched}
+use Rattle.pv_top.specs.Run.{Holds, Puts, Says, SaidOf, Answered, IsThere, AskedFor, IsLineOf, EndsWith, HaveOneMeaning, EachEquivalent}
+use Rattle.pv_top.specs.Fetching.{HoldsFetched, Asks, ReadFailed}
 use Rattle.pv_top.proofs.SameMeanings.{same_meaning}
 use Rattle.pv_top.proofs.WholeLines.{IsWhole, no_line_of_nothing, line_of_front, first_or_later}
 use Rattle.pv_top.proofs.Decimals.{whole_decimal}
@@ -32,13 +32,13 @@ use Rattle.pv_top.proofs.SaidLines.{tested, whole_append, whole_side, digit_last
 
 -- ---- what was fetched
 
-long_list : (n : ℕ) → (bytes : List ℕ) × (n < length bytes)
-long_list zero = (0 ∷ [], omega arith)
-long_list (suc n) = let l = long_list n in (0 ∷ l.0, omega (arith, l.1))
+long_list : (n : ℕ) → (bytes : List ℕ) × AreBytes bytes × (n < length bytes)
+long_list zero = (0 ∷ [], (omega arith, tt), omega arith)
+long_list (suc n) = let l = long_list n in (0 ∷ l.0, (omega arith, l.1), omega (arith, l.2))
 
 -- a file that is too long has bytes, where the store tells them, and may have any else
-pub too_long : (held : Option Stored) (name : List ℕ) (limit : ℕ) (r : Result (Vec ℕ) FileFault) → r ≡ Err file.TooLong → FetchGives held name limit r → (bytes : List ℕ) × Holds held name bytes × (limit < length bytes)
-too_long None name limit r e h = let l = long_list limit in (l.0, tt, l.1)
+pub too_long : (held : Option Stored) (name : List ℕ) (limit : ℕ) (r : Result (Vec ℕ) FileFault) → r ≡ Err file.TooLong → FetchGives held name limit r → (bytes : List ℕ) × Holds held name bytes × AreBytes bytes × (limit < length bytes)
+too_long None name limit r e h = let l = long_list limit in (l.0, tt, l.1, l.2)
 too_long (Some m) name limit r e h = subst (λ (x : Result (Vec ℕ) FileFault). FetchGives (Some m) name limit x) e h
 
 -- ---- the answer of a command that said something
@@ -59,9 +59,11 @@ said_of held a b first second old new rose text meant result p q judged says = r
   second = q.0;
   first_held = p.1;
   second_held = q.1;
+  first_bytes = p.2;
+  second_bytes = q.2;
   text = text;
   meant = meant;
-  judged = judged p.0 q.0 p.2 q.2;
+  judged = judged p.0 q.0 p.3 q.3;
   says = says;
 }
 
@@ -91,20 +93,32 @@ answered_said held a b old new read_rose write_rose status.BadCert said = said
 answered_said held a b old new read_rose write_rose status.BadWords said = said
 answered_said held a b old new read_rose write_rose status.WriteFault said = said
 
-pub asked_both : (old mid new : Option (List Asked)) (a b : List ℕ) (result : Status) → mid ≡ more old (Fetch a ∷ []) → new ≡ more mid (Fetch b ∷ []) → AskedFor old new a b result
-asked_both old mid new a b result p q =
+pub asked_both : (held : Option Stored) (old mid new : Option (List Asked)) (a b : List ℕ) (result : Status) → IsThere held a → mid ≡ more old (Fetch a ∷ []) → new ≡ more mid (Fetch b ∷ []) → AskedFor held old new a b result
+asked_both held old mid new a b result there p q =
     let both : new ≡ more old (Fetch a ∷ Fetch b ∷ []) = q ∙ ap (λ (o : Option (List Asked)). more o (Fetch b ∷ [])) p ∙ more_more old (Fetch a ∷ []) (Fetch b ∷ []) in
-    asked_all old new a b result both
+    asked_all result both
   where
-    asked_all : (old new : Option (List Asked)) (a b : List ℕ) (result : Status) → new ≡ more old (Fetch a ∷ Fetch b ∷ []) → AskedFor old new a b result
-    asked_all old new a b status.AllEquivalent e = e
-    asked_all old new a b status.Others e = e
-    asked_all old new a b status.BadClass e = e
-    asked_all old new a b status.BadCert e = e
-    asked_all old new a b status.BadWords e = e
-    asked_all old new a b status.ReadFault e = inr e
-    asked_all old new a b status.WriteFault e = e
-    asked_all old new a b status.Memory e = inr (inr e)
+    asked_all : (result : Status) → new ≡ more old (Fetch a ∷ Fetch b ∷ []) → AskedFor held old new a b result
+    asked_all status.AllEquivalent e = e
+    asked_all status.Others e = e
+    asked_all status.BadClass e = e
+    asked_all status.BadCert e = e
+    asked_all status.BadWords e = e
+    asked_all status.ReadFault e = inr (there, e)
+    asked_all status.WriteFault e = e
+    asked_all status.Memory e = inr (inr e)
+
+-- the second fetch failed, or memory ran out in it
+pub asked_second : (held : Option Stored) (old mid new : Option (List Asked)) (a b : List ℕ) (s : Status) (rose : Type 0) → ReadFailed s rose → IsThere held a → mid ≡ more old (Fetch a ∷ []) → Asks {T = Fetched} mid new (Fetch b) (Err s) → AskedFor held old new a b s
+asked_second held old mid new a b status.ReadFault rose failed there p q = asked_both held old mid new a b status.ReadFault there p q
+asked_second held old mid new a b status.Memory rose failed there p (inl e) = inr (inl (e ∙ p))
+asked_second held old mid new a b status.Memory rose failed there p (inr e) = asked_both held old mid new a b status.Memory there p e
+asked_second held old mid new a b status.AllEquivalent rose failed there p q = absurd failed
+asked_second held old mid new a b status.Others rose failed there p q = absurd failed
+asked_second held old mid new a b status.BadClass rose failed there p q = absurd failed
+asked_second held old mid new a b status.BadCert rose failed there p q = absurd failed
+asked_second held old mid new a b status.BadWords rose failed there p q = absurd failed
+asked_second held old mid new a b status.WriteFault rose failed there p q = absurd failed
 
 -- ---- each whole line that says `equivalent`
 

@@ -2,7 +2,7 @@
 use Rattle.std.specs.Prelude.{◌≡◌, ◌⊎◌, ℕ, List, [], ◌∷◌, ◌++◌, take, Option, Some, None, codes}
 use Rattle.std.specs.List.{Contains, AllByRecursion}
 use Rattle.std.specs.FinMap.{get}
-use Rattle.pv_base.specs.Stored.{Stored}
+use Rattle.pv_base.specs.Stored.{Stored, AreBytes}
 use Rattle.pv_base.specs.Outside.{more}
 use Rattle.pv_base.specs.declared.outside.Asked.{Asked}
 use Rattle.pv_base.specs.declared.outside.Asked.TheVariants.{Fetch}
@@ -22,6 +22,10 @@ abbrev pub Holds : Option Stored → List ℕ → List ℕ → Type 0
 Holds None name bytes = Unit {0}
 Holds (Some m) name bytes = get m name ≡ Some bytes
 
+-- some bytes stand under the name
+abbrev pub IsThere : Option Stored → List ℕ → Type 0
+IsThere held name = (bytes : List ℕ) × Holds held name bytes
+
 -- the text was taken, and the status goes with it; or the sink failed, and took a front of the text
 abbrev pub Puts : Option (List ℕ) → Option (List ℕ) → List ℕ → Status → Status → Type 0 → Type 0
 Puts old new text meant result rose = ((result ≡ meant) × (new ≡ more old text)) ⊎ ((result ≡ status.WriteFault) × rose × ((n : ℕ) × (new ≡ more old (take n text))))
@@ -37,6 +41,8 @@ pub record SaidOf (held : Option Stored) (a b : List ℕ) (old new : Option (Lis
   pub second : List ℕ
   pub first_held : Holds held a first
   pub second_held : Holds held b second
+  pub first_bytes : AreBytes first
+  pub second_bytes : AreBytes second
   pub text : List ℕ
   pub meant : Status
   pub judged : Judged first second text meant
@@ -48,11 +54,11 @@ Answered held a b old new read_rose write_rose status.ReadFault = read_rose × (
 Answered held a b old new read_rose write_rose status.Memory = new ≡ old
 Answered held a b old new read_rose write_rose result = SaidOf held a b old new write_rose result
 
--- The record of calls grows by the two fetches; by the first of them or both where one fails, of which it is the last; and by any front of them where memory runs out.
-abbrev pub AskedFor : Option (List Asked) → Option (List Asked) → List ℕ → List ℕ → Status → Type 0
-AskedFor old new a b status.Memory = (new ≡ old) ⊎ (new ≡ more old (Fetch a ∷ [])) ⊎ (new ≡ more old (Fetch a ∷ Fetch b ∷ []))
-AskedFor old new a b status.ReadFault = (new ≡ more old (Fetch a ∷ [])) ⊎ (new ≡ more old (Fetch a ∷ Fetch b ∷ []))
-AskedFor old new a b result = new ≡ more old (Fetch a ∷ Fetch b ∷ [])
+-- The record of calls grows by the two fetches; by the first alone where it fails, and by both where the first name is there and the second fetch fails; and by any front of them where memory runs out.
+abbrev pub AskedFor : Option Stored → Option (List Asked) → Option (List Asked) → List ℕ → List ℕ → Status → Type 0
+AskedFor held old new a b status.Memory = (new ≡ old) ⊎ (new ≡ more old (Fetch a ∷ [])) ⊎ (new ≡ more old (Fetch a ∷ Fetch b ∷ []))
+AskedFor held old new a b status.ReadFault = (new ≡ more old (Fetch a ∷ [])) ⊎ (IsThere held a × (new ≡ more old (Fetch a ∷ Fetch b ∷ [])))
+AskedFor held old new a b result = new ≡ more old (Fetch a ∷ Fetch b ∷ [])
 
 abbrev pub EndsLine : List ℕ → Type 0
 EndsLine text = (text ≡ []) ⊎ ((line : List ℕ) × (text ≡ line ++ 10 ∷ []))

@@ -4,7 +4,8 @@
 //! its status as a number.
 #![tactic(auto)]
 
-ghost use Rattle.std.specs.Prelude.{◌≡◌, ◌⊎◌, drop, IfOk, List, ℕ};
+ghost use Rattle.std.specs.Prelude.{◌≡◌, ◌⊎◌, IfOk, List, ℕ};
+ghost use Rattle.punthizha.specs.CommandLine.{after_name, bytes_of};
 ghost use Rattle.pv_base.specs.Outside.{Rose};
 ghost use Rattle.pv_top.specs.Words.{IsValidate, IsNoCommand, texts};
 ghost use Rattle.pv_top.specs.Lines.{bad_words};
@@ -47,10 +48,10 @@ fn run_words<R: AllocGlobal + Threads + Sync, F: Files, K: Sink>(
     files: &mut F,
     out: &mut K,
 ) -> Status
-    ensures equivalent { (a b : List ℕ) → IsValidate (drop 1 words.now) a b → EachEquivalent (F.held files.old) a b (K.sent out.old) (K.sent out.new) }
-    ensures answered { (a b : List ℕ) → IsValidate (drop 1 words.now) a b → Answered (F.held files.old) a b (K.sent out.old) (K.sent out.new) (Rose (F.faults files.old) (F.faults files.new)) (Rose (K.faults out.old) (K.faults out.new)) result }
-    ensures asked { (a b : List ℕ) → IsValidate (drop 1 words.now) a b → AskedFor (F.held files.old) (F.asked files.old) (F.asked files.new) a b result }
-    ensures bad_words { IsNoCommand (drop 1 words.now) → (result ≡ Status.Memory) ⊎ Says (K.sent out.old) (K.sent out.new) bad_words Status.BadWords result (Rose (K.faults out.old) (K.faults out.new)) }
+    ensures equivalent { (a b : List ℕ) → IsValidate (after_name words.now) a b → EachEquivalent (F.held files.old) a b (K.sent out.old) (K.sent out.new) }
+    ensures answered { (a b : List ℕ) → IsValidate (after_name words.now) a b → Answered (F.held files.old) a b (K.sent out.old) (K.sent out.new) (Rose (F.faults files.old) (F.faults files.new)) (Rose (K.faults out.old) (K.faults out.new)) result }
+    ensures asked { (a b : List ℕ) → IsValidate (after_name words.now) a b → AskedFor (F.held files.old) (F.asked files.old) (F.asked files.new) a b result }
+    ensures bad_words { IsNoCommand (after_name words.now) → (result ≡ Status.Memory) ⊎ Says (K.sent out.old) (K.sent out.new) bad_words Status.BadWords result (Rose (K.faults out.old) (K.faults out.new)) }
 {
     let Ok(borrowed) = borrowed(rt.alloc(), words) else {
         return Status::Memory;
@@ -63,7 +64,7 @@ fn run_words<R: AllocGlobal + Threads + Sync, F: Files, K: Sink>(
 
 // The same words, borrowed.
 fn borrowed<'a>(alloc: Global, words: &'a [String]) -> Result<Vec<&'a str>, AllocError>
-    ensures { IfOk result (λ borrowed. texts borrowed.items ≡ words.now) }
+    ensures { IfOk result (λ borrowed. texts borrowed.items ≡ bytes_of words.now) }
 {
     let mut borrowed = Vec::new(alloc);
     for word in words {

@@ -16,3 +16,4 @@ pub mod WholeLines
 pub mod SaidLines
 pub mod Answering
 pub mod ReportOnce
+pub mod Naming

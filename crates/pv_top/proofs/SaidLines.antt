@@ -19,38 +19,13 @@ use Rattle.pv_top.specs.Report.{lines_of}
 use Rattle.pv_top.specs.Run.{IsLineOf, EndsWith}
 use Rattle.pv_top.proofs.WholeLines.{IsWhole, no_line_of_nothing, first_or_later}
 use Rattle.pv_top.proofs.Decimals.{last_digit}
+use Rattle.pv_top.proofs.Naming.{lacks_append, shown_lacks}
 
 pub whole_append : (a b : List ℕ) → IsWhole a → IsWhole b → IsWhole (a ++ b)
-whole_append [] b p q = q
-whole_append (c ∷ a) b p q = (p.0, whole_append a b p.1 q)
-
--- ---- shown text has no line feed
-
-hex_by : (b : Bool) (n : ℕ) → cond b (48 + n) (55 + n) ≡ 10 → ⊥
-hex_by true n e = omega arith
-hex_by false n e = omega arith
-
-whole_hex : (n : ℕ) → hex_digit n ≡ 10 → ⊥
-whole_hex n e = hex_by (nat_lt n 10) n e
-
-byte_by : (shows : Bool) (b : ℕ) → (shows ≡ true → 33 ≤ b) → IsWhole (cond shows (b ∷ []) (37 ∷ hex_digit (b / 16) ∷ hex_digit (b % 16) ∷ []))
-byte_by true b low = (λ e. let at_least = low refl in omega arith, tt)
-byte_by false b low = (λ e. cc e, (whole_hex (b / 16), (whole_hex (b % 16), tt)))
-
-and_left : (a b c : Bool) → (a && b && c) ≡ true → a ≡ true
-and_left true b c e = refl
-and_left false b c e = absurd (cc e)
-
-whole_byte : (b : ℕ) → IsWhole (shown_byte b)
-whole_byte b = byte_by (nat_le 33 b && nat_le b 126 && not (b == 37)) b (λ e. leb-true 33 b (and_left (nat_le 33 b) (nat_le b 126) (not (b == 37)) e))
-
-whole_bytes : (bytes : List ℕ) → IsWhole (flat_map shown_byte bytes)
-whole_bytes [] = tt
-whole_bytes (b ∷ bytes) = subst (λ (t : List ℕ). IsWhole t) (sym (flat_map-cons shown_byte b bytes)) (whole_append (shown_byte b) (flat_map shown_byte bytes) (whole_byte b) (whole_bytes bytes))
+whole_append = lacks_append 10
 
 whole_shown : (bytes : List ℕ) → IsWhole (shown bytes)
-whole_shown [] = (λ e. cc e, (λ e. cc e, tt))
-whole_shown (b ∷ bytes) = whole_bytes (b ∷ bytes)
+whole_shown bytes = shown_lacks 10 bytes (omega arith)
 
 -- ---- a text that is known has no line feed where a test says so
 

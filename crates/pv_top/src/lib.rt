@@ -13,6 +13,7 @@
 mod built;
 mod cause;
 mod conversion;
+mod laws;
 mod laying;
 mod line;
 mod nodes;
@@ -23,10 +24,9 @@ mod top;
 mod verdict;
 mod words;
 
-pub use cause::{Cause, CauseKind, Refused};
+pub use laws::law_lines;
 pub use status::Status;
 pub use top::run;
-pub use verdict::{Side, Verdict};
 
 #[cfg(test)]
 mod tests;

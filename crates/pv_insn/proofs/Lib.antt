@@ -10,3 +10,4 @@ pub mod Once
 pub mod Answering
 pub mod Examples
 pub mod Within
+pub mod Formed

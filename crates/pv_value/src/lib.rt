@@ -18,21 +18,25 @@
 
 mod descriptor;
 mod heap;
+mod int;
 mod int_op;
 pub mod laws;
+mod long;
 mod memory;
 mod name;
 mod number;
 mod operation;
 mod outcome;
+mod tables;
 mod world;
 
 pub use descriptor::{Descriptor, JType, JTypes, read_descriptor, read_field_type};
-pub use int_op::IntOp;
 pub use heap::{Heap, Kind, Loc};
+pub use int_op::IntOp;
 pub use memory::Memory;
 pub use name::{Name, Sym};
 pub use number::{Num, Nums};
 pub use operation::ScalarOp;
 pub use outcome::{Fault, Input, Outcome, Val};
-pub use world::{Booleans, Call, CallKey, Calls, Homes, Lengths, Literals, World};
+pub use tables::{Booleans, Homes, Lengths, Literals};
+pub use world::{Call, CallKey, Calls, World};

@@ -16,3 +16,4 @@ pub mod ClassTexts
 pub mod ClassAgrees
 pub mod ClassLaws
 mod Examples
+pub mod CodeBytes

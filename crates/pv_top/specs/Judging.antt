@@ -27,12 +27,13 @@ ReadsFetched fetched read = (bytes : List ℕ) → IsFetched fetched bytes → I
 abbrev pub JudgesFetched : Fetched → Fetched → List ℕ → Status → Type 0
 JudgesFetched first second text s = (a b : List ℕ) → IsFetched first a → IsFetched second b → Judged a b text s
 
--- the lines of methods with these verdicts
-pub record Told (methods others : List Method) (verdicts : List Verdict) (text : List ℕ) : Type 0 where
-  pub each : AllZip (λ m v. IsVerdict m others v) methods verdicts
+-- the lines of methods of the first class with these verdicts
+pub record Told (first second : ClassFile) (methods : List Method) (verdicts : List Verdict) (text : List ℕ) : Type 0 where
+  pub each : AllZip (IsVerdict first second) methods verdicts
   pub text_is : text ≡ flat_map line_text (lines_of methods verdicts)
 
-abbrev pub Compares : List Method → List Method → List ℕ → Status → Type 0
-Compares methods others text status.AllEquivalent = (verdicts : List Verdict) × Told methods others verdicts text × AreEquivalent verdicts
-Compares methods others text status.Others = (verdicts : List Verdict) × Told methods others verdicts text × (AreEquivalent verdicts → ⊥)
-Compares methods others text s = ⊥
+-- the lines of all methods of the first class
+abbrev pub Compares : ClassFile → ClassFile → List ℕ → Status → Type 0
+Compares first second text status.AllEquivalent = (verdicts : List Verdict) × Told first second first.methods verdicts text × AreEquivalent verdicts
+Compares first second text status.Others = (verdicts : List Verdict) × Told first second first.methods verdicts text × (AreEquivalent verdicts → ⊥)
+Compares first second text s = ⊥

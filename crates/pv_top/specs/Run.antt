@@ -9,7 +9,7 @@ use Rattle.pv_base.specs.declared.outside.Asked.TheVariants.{Fetch}
 use Rattle.pv_class.specs.declared.file.Method.{Method}
 use Rattle.pv_class.specs.declared.file.ClassFile.{ClassFile}
 use Rattle.pv_class.specs.ClassFiles.{IsClass}
-use Rattle.pv_class.specs.Machine.{SameMeaning}
+use Rattle.pv_machine.specs.Machine.{AreEquivalentMethods}
 use Rattle.pv_top.specs.declared.status.Status.{Status}
 use Rattle.pv_top.specs.declared.status.Status.TheVariants as status
 use Rattle.pv_top.specs.declared.verdict.Verdict.TheVariants.{Equivalent}
@@ -74,7 +74,7 @@ pub record IsLineOf (text line : List ℕ) : Type 0 where
 abbrev pub EndsWith : List ℕ → List ℕ → Type 0
 EndsWith line end = (front : List ℕ) × (line ≡ front ++ end)
 
--- the line says of a method of the first file that it is equivalent to its partner in the second, and the two have the same meaning
+-- the line says of a method of the first file that it is equivalent to its partner in the second, and so they are: each has a program, and the two have the same meaning
 pub record HaveOneMeaning (held : Option Stored) (a b line : List ℕ) : Type 0 where
   pub first : List ℕ
   pub second : List ℕ
@@ -89,7 +89,7 @@ pub record HaveOneMeaning (held : Option Stored) (a b line : List ℕ) : Type 0 
   pub partner : Method
   pub partner_is : IsPartner method second_file.methods partner
   pub says : line ≡ line_of method Equivalent
-  pub same : SameMeaning method partner
+  pub equivalent : AreEquivalentMethods first_file method second_file partner
 
 -- so it is for each whole line that says `equivalent` among the bytes that the sink took in this call
 abbrev pub EachEquivalent : Option Stored → List ℕ → List ℕ → Option (List ℕ) → Option (List ℕ) → Type 0

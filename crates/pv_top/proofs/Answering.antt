@@ -17,6 +17,10 @@ use Rattle.pv_top.specs.declared.verdict.Side.TheVariants as side
 use Rattle.pv_top.specs.declared.verdict.Verdict.{Verdict}
 use Rattle.pv_top.specs.declared.verdict.Verdict.TheVariants.{Equivalent}
 use Rattle.pv_top.specs.Verdicts.{IsVerdict}
+use Rattle.pv_class.specs.declared.file.Method.{Method}
+use Rattle.pv_class.specs.declared.file.ClassFile.{ClassFile}
+use Rattle.pv_class.specs.ClassFiles.{IsClass}
+use Rattle.pv_class.proofs.CodeBytes.{HasBytes, class_bytes}
 use Rattle.pv_class.specs.declared.fault.Bad.{Bad}
 use Rattle.pv_class.specs.declared.fault.ClassCause.{ClassCause}
 use Rattle.pv_class.specs.declared.fault.ClassCause.TheVariants as fault
@@ -25,6 +29,7 @@ use Rattle.pv_top.specs.Report.{IsReport, Judged}
 use Rattle.pv_top.specs.Judging.{JudgesFetched}
 use Rattle.pv_top.specs.Run.{Holds, Puts, Says, SaidOf, Answered, IsThere, AskedFor, IsLineOf, EndsWith, HaveOneMeaning, EachEquivalent}
 use Rattle.pv_top.specs.Fetching.{HoldsFetched, Asks, ReadFailed}
+use Rattle.pv_top.proofs.Places.{all_at, by_index}
 use Rattle.pv_top.proofs.SameMeanings.{same_meaning}
 use Rattle.pv_top.proofs.WholeLines.{IsWhole, no_line_of_nothing, line_of_front, first_or_later}
 use Rattle.pv_top.proofs.Decimals.{whole_decimal}
@@ -134,11 +139,17 @@ taken_front before taken text old new meant result rose p q (inr s) =
     let same : taken ≡ take n text = append_cancel_left before taken (take n text) (cc grown) in
     (drop n text, sym (take-append-drop n text) ∙ ap (λ (t : List ℕ). t ++ drop n text) (sym same))
 
-report_line : (held : Option Stored) (a b first second text : List ℕ) (verdicts : List Verdict) (line : List ℕ) → Holds held a first → Holds held b second → IsReport first second verdicts text → IsLineOf text line → EndsWith line (codes " equivalent") → HaveOneMeaning held a b line
-report_line held a b first second text verdicts line p q r l ends =
-    let found = line_of_method r.first.methods r.second.methods verdicts line r.each (subst (λ (t : List ℕ). IsLineOf t line) r.text_is l) in
-    let is = only_equivalent found.method r.second.methods found.verdict line found.is found.says ends in
-    let equal : IsVerdict found.method r.second.methods Equivalent = subst (λ (v : Verdict). IsVerdict found.method r.second.methods v) is found.is in
+-- the code of a method of a class file holds bytes
+has_bytes : (bytes : List ℕ) (file : ClassFile) (m : Method) → AreBytes bytes → IsClass bytes file → Contains file.methods m → HasBytes m
+has_bytes bytes file m fits is among = all_at HasBytes file.methods m (class_bytes bytes file (by_index bytes fits) is) among
+
+report_line : (held : Option Stored) (a b first second text : List ℕ) (verdicts : List Verdict) (line : List ℕ) → Holds held a first → Holds held b second → AreBytes first → AreBytes second → IsReport first second verdicts text → IsLineOf text line → EndsWith line (codes " equivalent") → HaveOneMeaning held a b line
+report_line held a b first second text verdicts line p q m n r l ends =
+    let found = line_of_method r.first r.second r.first.methods verdicts line r.each (subst (λ (t : List ℕ). IsLineOf t line) r.text_is l) in
+    let is = only_equivalent found.method found.verdict line found.says ends in
+    let equal : IsVerdict r.first r.second found.method Equivalent = subst (λ (v : Verdict). IsVerdict r.first r.second found.method v) is found.is in
+    let one = has_bytes first r.first found.method m r.first_is found.among in
+    let other = has_bytes second r.second equal.0 n r.second_is equal.1.among in
     record {
       first = first;
       second = second;
@@ -153,7 +164,7 @@ report_line held a b first second text verdicts line p q r l ends =
       partner = equal.0;
       partner_is = equal.1;
       says = found.says ∙ ap (line_of found.method) is;
-      same = same_meaning found.method equal.0 equal.2.0 equal.1.like.desc equal.2.1 equal.2.2;
+      equivalent = same_meaning r.first found.method r.second equal.0 equal.2.0 equal.1.like.desc one other equal.2.1 equal.2.2;
     }
 
 -- what is said of a file without a reading
@@ -190,24 +201,24 @@ bad_class_line s b text line e l ends =
       | inr rest ↦ no_line_of_nothing line rest
     ]
 
-judged_line : (held : Option Stored) (a b first second text : List ℕ) (s : Status) (line : List ℕ) → Holds held a first → Holds held b second → Judged first second text s → IsLineOf text line → EndsWith line (codes " equivalent") → HaveOneMeaning held a b line
-judged_line held a b first second text status.AllEquivalent line p q h l ends = report_line held a b first second text h.0 line p q h.1 l ends
-judged_line held a b first second text status.Others line p q h l ends = report_line held a b first second text h.0 line p q h.1 l ends
-judged_line held a b first second text status.BadClass line p q h l ends =
+judged_line : (held : Option Stored) (a b first second text : List ℕ) (s : Status) (line : List ℕ) → Holds held a first → Holds held b second → AreBytes first → AreBytes second → Judged first second text s → IsLineOf text line → EndsWith line (codes " equivalent") → HaveOneMeaning held a b line
+judged_line held a b first second text status.AllEquivalent line p q m n h l ends = report_line held a b first second text h.0 line p q m n h.1 l ends
+judged_line held a b first second text status.Others line p q m n h l ends = report_line held a b first second text h.0 line p q m n h.1 l ends
+judged_line held a b first second text status.BadClass line p q m n h l ends =
     elim h [
       | inl x ↦ absurd (bad_class_line side.First x.0 text line x.2 l ends)
       | inr x ↦ absurd (bad_class_line side.Second x.1.0 text line x.1.2 l ends)
     ]
-judged_line held a b first second text status.BadCert line p q h l ends = absurd h
-judged_line held a b first second text status.BadWords line p q h l ends = absurd h
-judged_line held a b first second text status.ReadFault line p q h l ends = absurd h
-judged_line held a b first second text status.WriteFault line p q h l ends = absurd h
-judged_line held a b first second text status.Memory line p q h l ends = absurd h
+judged_line held a b first second text status.BadCert line p q m n h l ends = absurd h
+judged_line held a b first second text status.BadWords line p q m n h l ends = absurd h
+judged_line held a b first second text status.ReadFault line p q m n h l ends = absurd h
+judged_line held a b first second text status.WriteFault line p q m n h l ends = absurd h
+judged_line held a b first second text status.Memory line p q m n h l ends = absurd h
 
 said_line : (held : Option Stored) (a b : List ℕ) (old new : Option (List ℕ)) (rose : Type 0) (result : Status) → SaidOf held a b old new rose result → EachEquivalent held a b old new
 said_line held a b old new rose result said before taken line p q l ends =
     let front = taken_front before taken said.text old new said.meant result rose p q (as_put old new said.text said.meant result rose said.says) in
-    judged_line held a b said.first said.second said.text said.meant line said.first_held said.second_held said.judged (line_of_front said.text taken front.0 line front.1 l) ends
+    judged_line held a b said.first said.second said.text said.meant line said.first_held said.second_held said.first_bytes said.second_bytes said.judged (line_of_front said.text taken front.0 line front.1 l) ends
 
 nothing_taken : (old new : Option (List ℕ)) (before taken : List ℕ) → new ≡ old → old ≡ Some before → new ≡ Some (before ++ taken) → taken ≡ []
 nothing_taken old new before taken e p q =

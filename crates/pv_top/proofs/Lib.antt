@@ -1,6 +1,5 @@
 pub mod Decimals
 pub mod Stacks
-pub mod Builts
 pub mod Runs
 pub mod IntNodes
 pub mod Lays
@@ -16,4 +15,5 @@ pub mod WholeLines
 pub mod SaidLines
 pub mod Answering
 pub mod ReportOnce
+pub mod Places
 pub mod Naming

@@ -10,14 +10,13 @@
 //! `bad_words`), and what was asked of the outside (`asked`, `none_asked`, `held`).
 #![tactic(auto)]
 
-mod built;
-mod cause;
 mod conversion;
 mod laws;
 mod laying;
 mod line;
 mod nodes;
 mod operands;
+mod reason;
 mod report;
 mod status;
 mod top;
@@ -27,6 +26,3 @@ mod words;
 pub use laws::law_lines;
 pub use status::Status;
 pub use top::run;
-
-#[cfg(test)]
-mod tests;

@@ -11,3 +11,4 @@ pub mod Answering
 pub mod Examples
 pub mod Within
 pub mod Formed
+pub mod SmallCodes

@@ -76,7 +76,7 @@ lays_on_one params o g n = record { trees = λ s have t lays. one_of s t have la
 
 -- an operation that isn't built takes no trees
 pub lays_no_scalar : (params : ℕ) (o : ScalarOp) (g : List Node) (ns : List ℕ) → ((i : IntOp) → operation i ≡ o → ⊥) → AreInts g ns → LaysNodes params (act.Scalar o) g g ns ns false
-lays_no_scalar params o g ns none ints = record { trees = λ s have t lays. none lays.0 lays.1; ints = ints }
+lays_no_scalar params o g ns absent ints = record { trees = λ s have t lays. absent lays.0 lays.1; ints = ints }
 
 -- an operation on the operand stack reads no parameter
 anywhere_on : (params : ℕ) (o : ScalarOp) (old new : List Node) (ns ms : List ℕ) (on : Bool) → LaysNodes 0 (act.Scalar o) old new ns ms on → LaysNodes params (act.Scalar o) old new ns ms on

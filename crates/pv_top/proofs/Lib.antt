@@ -16,4 +16,5 @@ pub mod SaidLines
 pub mod Answering
 pub mod ReportOnce
 pub mod Places
+pub mod ReadClasses
 pub mod Naming

@@ -1,5 +1,5 @@
 -- A root over the tree of a method means what the method's program does.
-use Rattle.std.proofs.Common.{◌≡◌, ◌↔◌, ℕ, ℤ, List, Some, refl, ap, subst, ◌∙◌}
+use Rattle.std.proofs.Common.{◌≡◌, ◌↔◌, ℕ, ℤ, List, length, false, Some, refl, ap, subst, ◌∙◌}
 use Rattle.pv_value.specs.declared.number.Num.TheVariants as num
 use Rattle.pv_value.specs.declared.world.World.{World}
 use Rattle.pv_value.specs.declared.outcome.Input.{Input}
@@ -17,8 +17,14 @@ use Rattle.pv_graph.specs.declared.node.Node.{Node}
 use Rattle.pv_graph.specs.Trees.{Tree}
 use Rattle.pv_graph.specs.Finite.{IsTree, tree_value}
 use Rattle.pv_graph.specs.FiniteLaws.{tree_den}
-use Rattle.pv_top.specs.Built.{IsBuilt, IsStraight}
+use Rattle.pv_frame.specs.declared.typed.Typed.{Typed}
+use Rattle.pv_frame.specs.Answers.{IsTyping}
+use Rattle.pv_graph.specs.FiniteLaws.{is_tree_kept}
+use Rattle.pv_top.specs.declared.reason.Reason.TheVariants as reason
+use Rattle.pv_top.specs.Built.{IsBuilt, IsStraight, IsOfInts, ReturnsTree}
 use Rattle.pv_top.specs.Roots.{IsRootOf, returning}
+use Rattle.pv_top.specs.Conversion.{Grows, IsReturned, IsRootOver}
+use Rattle.pv_top.specs.Verdicts.{Meets}
 use Rattle.pv_top.proofs.Runs.{returns_value}
 
 abbrev End : Outcome → Val
@@ -52,3 +58,15 @@ root_of_method g root file m t b is = record {
       let den = tree_den g w x root (returning t) is (End o) in
       (λ e. den.0 (ends.0 e), λ v. ends.1 (den.1 v));
 }
+
+-- where the actions of a typed method of ints return a node
+pub root_typed : (file : ClassFile) (m : Method) (t : Typed) (g new : List Node) (n root : ℕ) → IsTyping file m t → t.program.instance ≡ false → IsOfInts t.program.desc → IsReturned g (length t.program.desc.params) t.program.actions n → Grows g new → IsRootOver new root n
+    → IsRootOf new root file m
+root_typed file m t g new n root typing static ints node grows over =
+    let is = is_tree_kept g new n node.value grows.extends node.is in
+    let built : IsBuilt file m node.value = record { program = t.program; accepted = typing.accepted; straight = record { static = static; ints = ints; returns = node.returns } } in
+    root_of_method new root file m node.value built (over node.value is)
+
+-- where they return none
+pub not_built : (file : ClassFile) (m : Method) (t : Typed) → IsTyping file m t → ((value : Tree) → ReturnsTree (length t.program.desc.params) t.program.actions value → ⊥) → Meets file m reason.NotBuilt
+not_built file m t typing absent = (t.program, typing.accepted, λ value is. absent value is.returns)

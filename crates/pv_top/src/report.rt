@@ -38,7 +38,8 @@ pub fn judge(alloc: Global, first: &Fetched, second: &Fetched) -> Result<(Vec<u8
 
 // The class that a file holds, or its fault.
 fn class_of(alloc: Global, fetched: &Fetched) -> Result<Result<ClassFile, Bad>, Memory>
-    ensures { IfOk result (λ read. ReadsFetched fetched.now read) }
+    ensures reads { IfOk result (λ read. ReadsFetched fetched.now read) }
+    ensures class { IfOk result (λ read. IfOk read (λ file. IsRead file)) }
 {
     let Fetched::Bytes(bytes) = fetched else {
         return Ok(Err(Bad {
@@ -73,9 +74,10 @@ fn compare(
 {
     let mut text = Vec::new(alloc);
     let mut all_equivalent = true;
-    for (place, method) in first.methods.as_slice().iter().enumerate() {
+    let methods = first.methods.as_slice();
+    for place in 0..methods.len() {
         let verdict = verdict_on(alloc, first, place, second)?;
-        push_line(alloc, &mut text, method, verdict)?;
+        push_line(alloc, &mut text, &methods[place], verdict)?;
         if !is_equivalent(verdict) {
             all_equivalent = false;
         }

@@ -1,9 +1,8 @@
 //! What is said of a method.
 
-ghost use Rattle.std.specs.Prelude.{◌↔◌, ◌<◌, length, IfOk, IsTrue, MatchOption};
+ghost use Rattle.std.specs.Prelude.{◌≡◌, ◌↔◌, ◌<◌, length, slice_get, Some, IfOk, IsTrue, MatchOption};
 ghost use Rattle.pv_class.specs.declared.file.Method.{Method};
-ghost use Rattle.pv_frame.specs.Answers.{HasReferences};
-ghost use Rattle.pv_top.specs.Verdicts.{IsPartner, IsLike};
+ghost use Rattle.pv_top.specs.Verdicts.{HasCode, IsPartner, IsLike};
 ghost use Rattle.pv_top.specs.Judging.{IsRead, IsVerdictAt, IsVerdictOnPlaces, IsLikeAt};
 
 use crate::conversion::convert;
@@ -61,8 +60,8 @@ pub(crate) fn verdict_on(
 fn partner_of(method: &Method, others: &[Method]) -> Option<usize>
     ensures { MatchOption result ((p : Method) → IsPartner method.now others.now p → ⊥) (λ k. IsLikeAt method.now others.now k) }
 {
-    for (k, other) in others.iter().enumerate() {
-        if is_like(method, other) {
+    for k in 0..others.len() {
+        if is_like(method, &others[k]) {
             return Some(k);
         }
     }
@@ -75,6 +74,14 @@ fn is_like(method: &Method, other: &Method) -> bool
     other.name == method.name
         && other.desc == method.desc
         && (other.flags & ACC_STATIC == 0) == (method.flags & ACC_STATIC == 0)
+}
+
+// Whether the method at a place has a code.
+fn has_code(class: &ClassFile, method: usize) -> bool
+    requires { method < length class.now.methods }
+    ensures { (m : Method) → slice_get class.now.methods method ≡ Some m → IsTrue result ↔ HasCode m }
+{
+    class.methods.as_slice()[method].code.is_some()
 }
 
 // The verdict on a method and its partner, each at its place in its class.
@@ -91,10 +98,10 @@ fn verdict_with(
     requires partner { partner < length second.now.methods }
     ensures { IfOk result (λ verdict. IsVerdictOnPlaces first.now method second.now partner verdict) }
 {
-    if first.methods.as_slice()[method].code.is_none() {
+    if !has_code(first, method) {
         return Ok(Verdict::NoCode(Side::First));
     }
-    if second.methods.as_slice()[partner].code.is_none() {
+    if !has_code(second, partner) {
         return Ok(Verdict::NoCode(Side::Second));
     }
     let mut g = Graph::new(alloc);

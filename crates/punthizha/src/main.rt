@@ -1,27 +1,38 @@
 //! The program: `punthizha validate A B` over real files and standard output.
 //!
-//! It hands the words of the command line to `pv_top::run` and exits with its status as a number.
+//! It hands the words of the command line after the program's name to `pv_top::run`, and exits with
+//! its status as a number.
 #![tactic(auto)]
 
-use pv_base::{HostFiles, HostSink, OpenGate};
+ghost use Rattle.std.specs.Prelude.{◌≡◌, ◌⊎◌, IfOk, List, ℕ};
+ghost use Rattle.punthizha.specs.CommandLine.{after_name, bytes_of};
+ghost use Rattle.pv_base.specs.Outside.{Rose};
+ghost use Rattle.pv_top.specs.Words.{IsValidate, IsNoCommand, texts};
+ghost use Rattle.pv_top.specs.Lines.{bad_words};
+ghost use Rattle.pv_top.specs.Run.{Answered, AskedFor, EachEquivalent, Says};
+
+use pv_base::{Files, HostFiles, HostSink, OpenGate, Sink};
 use pv_top::{Status, run};
+use std::alloc::{AllocError, Global};
 use std::process::ExitCode;
-use std::rt::{Env, Files};
+use std::rt::Env;
 use std::thread::Threads;
 use std::{env, io};
 
 fn main(rt: HostRuntime) -> ExitCode {
-    let status = match words(&rt) {
-        Ok(words) => run_on(&rt, &words),
+    let mut files = HostFiles::new(&rt);
+    let mut out = HostSink::new(&rt);
+    let status = match command_line(&rt) {
+        Ok(words) => run_words(&rt, &words, &mut files, &mut out),
         // A word that isn't UTF-8 is no word of a command.
-        Err(e) if e.kind() == io::ErrorKind::InvalidData => run_words(&rt, &[]),
+        Err(e) if e.kind() == io::ErrorKind::InvalidData => run_words(&rt, &[], &mut files, &mut out),
         Err(_) => Status::Memory,
     };
     ExitCode::from(status.number())
 }
 
-// The words of the command line, the program's name among them.
-fn words<R: Env + AllocGlobal>(rt: &R) -> io::Result<Vec<String>> {
+// The words of the command line, the program's name first.
+fn command_line<R: Env + AllocGlobal>(rt: &R) -> io::Result<Vec<String>> {
     let mut words = Vec::new(rt.alloc());
     for word in env::args(rt)? {
         words.push(word)?;
@@ -29,22 +40,35 @@ fn words<R: Env + AllocGlobal>(rt: &R) -> io::Result<Vec<String>> {
     Ok(words)
 }
 
-// Runs the command of the words behind the program's name.
-fn run_on<R: Files + Print + AllocGlobal + Threads + Sync>(rt: &R, words: &[String]) -> Status {
-    let mut texts = Vec::new(rt.alloc());
-    for word in words {
-        if texts.push(word.as_str()).is_err() {
-            return Status::Memory;
-        }
-    }
-    match texts.split_first() {
-        Some((_, texts)) => run_words(rt, texts),
-        None => run_words(rt, &[]),
+// Runs the command that the words after the first are. Where there is no memory for them, nothing is
+// asked or said.
+fn run_words<R: AllocGlobal + Threads + Sync, F: Files, K: Sink>(
+    rt: &R,
+    words: &[String],
+    files: &mut F,
+    out: &mut K,
+) -> Status
+    ensures equivalent { (a b : List ℕ) → IsValidate (after_name words.now) a b → EachEquivalent (F.held files.old) a b (K.sent out.old) (K.sent out.new) }
+    ensures answered { (a b : List ℕ) → IsValidate (after_name words.now) a b → Answered (F.held files.old) a b (K.sent out.old) (K.sent out.new) (Rose (F.faults files.old) (F.faults files.new)) (Rose (K.faults out.old) (K.faults out.new)) result }
+    ensures asked { (a b : List ℕ) → IsValidate (after_name words.now) a b → AskedFor (F.held files.old) (F.asked files.old) (F.asked files.new) a b result }
+    ensures bad_words { IsNoCommand (after_name words.now) → (result ≡ Status.Memory) ⊎ Says (K.sent out.old) (K.sent out.new) bad_words Status.BadWords result (Rose (K.faults out.old) (K.faults out.new)) }
+{
+    let Ok(borrowed) = borrowed(rt.alloc(), words) else {
+        return Status::Memory;
+    };
+    match borrowed.split_first() {
+        Some((_, rest)) => run(rt, rt.alloc(), rest, files, out, &OpenGate),
+        None => run(rt, rt.alloc(), &[], files, out, &OpenGate),
     }
 }
 
-fn run_words<R: Files + Print + AllocGlobal + Threads + Sync>(rt: &R, words: &[&str]) -> Status {
-    let mut files = HostFiles::new(rt);
-    let mut out = HostSink::new(rt);
-    run(rt, rt.alloc(), words, &mut files, &mut out, &OpenGate)
+// The same words, borrowed.
+fn borrowed<'a>(alloc: Global, words: &'a [String]) -> Result<Vec<&'a str>, AllocError>
+    ensures { IfOk result (λ borrowed. texts borrowed.items ≡ bytes_of words.now) }
+{
+    let mut borrowed = Vec::new(alloc);
+    for word in words {
+        borrowed.push(word.as_str()).map_err(|_| AllocError)?;
+    }
+    Ok(borrowed)
 }

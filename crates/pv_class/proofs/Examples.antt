@@ -1,21 +1,9 @@
 -- Worked examples: the class of one method `f ()I` whose code is iconst_1, ireturn, its items and a run of it; runs of a sum and a difference of two arguments.
 use Rattle.std.proofs.Common.{◌≡◌, ◌∷◌, [], List, ℕ, ℤ, pos, negsuc, Some, false, refl, subst, rules, lit≤, inl, inr}
 use Rattle.std.specs.Prelude.{codes, ◌++◌, drop, take, Ok, Err}
-use Rattle.std.specs.FinMap.{empty}
-use Rattle.pv_value.specs.declared.descriptor.JType.TheVariants.{I}
-use Rattle.pv_value.specs.declared.descriptor.Descriptor.{Descriptor}
-use Rattle.pv_value.specs.declared.number.Num.TheVariants as num
-use Rattle.pv_value.specs.declared.outcome.Input.{Input}
-use Rattle.pv_value.specs.declared.outcome.Outcome.TheVariants.{Returned}
-use Rattle.pv_value.specs.declared.int_op.IntOp.TheVariants.{Iadd, Isub}
-use Rattle.pv_value.specs.IntOps.{scalar_exact}
-use Rattle.pv_value.specs.Descriptors.{IsMethodType}
-use Rattle.pv_value.specs.Worlds.{empty_world}
 use Rattle.pv_pool.specs.declared.entry.Entry.{Entry}
 use Rattle.pv_pool.specs.declared.entry.Entry.TheVariants.{Utf8, Class}
 use Rattle.pv_pool.specs.Pools.{spelling}
-use Rattle.pv_class.specs.declared.instruction.Insn.{Insn}
-use Rattle.pv_class.specs.declared.instruction.Insn.TheVariants.{Plain}
 use Rattle.pv_class.specs.declared.file.Method.{Method}
 use Rattle.pv_class.specs.declared.fault.Cause.TheVariants as cause
 use Rattle.pv_class.specs.Grammars.{failure, bind, times}
@@ -25,8 +13,6 @@ use Rattle.pv_value.specs.Reading.{field_at}
 use Rattle.pv_class.specs.Reading.{read}
 use Rattle.pv_class.specs.Items.{Items, CodeItems, code_text, file_text}
 use Rattle.pv_class.specs.ClassFiles.{code_of}
-use Rattle.pv_class.specs.Instructions.{IsPlain, IsCode}
-use Rattle.pv_class.specs.Machine.{Program, running, ended, after, start}
 
 -- the 98 bytes
 abbrev bytes : List ℕ
@@ -79,64 +65,3 @@ head_cut = refl
 one_too_many : read (grammar.tail pool) (drop 56 bytes ++ 0 ∷ []) ≡ Err (failure cause.Trailing 1)
 unfolding read bind times grammar.tail grammar.class_front grammar.class_end grammar.index grammar.interface grammar.field grammar.member grammar.method grammar.attributes grammar.attribute grammar.code grammar.code_contents grammar.code_front grammar.skipped grammar.handler grammar.contents grammar.methods grammar.all_methods after_params field_at
 one_too_many = refl
-
--- its code spells iconst_1 and ireturn
-abbrev insns : List Insn
-insns = Plain 4 ∷ Plain 172 ∷ []
-
-code_spelled : IsCode code.code insns
-code_spelled = (4 ∷ [], 0xAC ∷ [], refl, (inr (inl (lit≤ tt, lit≤ tt)), refl), (0xAC ∷ [], [], refl, (inr (inr (inr (inr (inr (inr refl))))), refl), refl))
-
-abbrev desc : Descriptor
-desc = record { params = []; result = Some I }
-
-desc_spelled : IsMethodType (codes "()I") desc
-desc_spelled = record { fields = []; last = codes "I"; params = tt; result = inl (refl, refl); spelled = refl }
-
-abbrev program : Program
-program = record { insns = insns; instance = false; desc = desc; max_locals = 0 }
-
-abbrev input : Input
-input = record { this = 1; args = []; heap = empty }
-
--- after one step the method runs on, after two it has returned 1
-first_step : after program empty_world (start program input) 1 ≡ running (record { at = 1; stack = num.Int (pos 1) ∷ []; locals = []; heap = empty })
-unfolding after
-first_step = refl
-
-second_step : after program empty_world (start program input) 2 ≡ ended (Returned (Some (num.Int (pos 1))) empty)
-unfolding after
-second_step = refl
-
--- iload_0, iload_1, an operation, ireturn
-abbrev of_two : ℕ → List Insn
-of_two op = Plain 26 ∷ Plain 27 ∷ Plain op ∷ Plain 172 ∷ []
-
-of_two_spelled : (op : ℕ) → IsPlain op → IsCode (26 ∷ 27 ∷ op ∷ 172 ∷ []) (of_two op)
-of_two_spelled op is =
-    (26 ∷ [], 27 ∷ op ∷ 172 ∷ [], refl, (inr (inr (inl (lit≤ tt, lit≤ tt))), refl), (27 ∷ [], op ∷ 172 ∷ [], refl, (inr (inr (inl (lit≤ tt, lit≤ tt))), refl), (op ∷ [], 172 ∷ [], refl, (is, refl), (172 ∷ [], [], refl, (inr (inr (inr (inr (inr (inr refl))))), refl), refl))))
-
--- 96 is iadd, 100 isub
-sum_spelled : IsCode (0x1A ∷ 0x1B ∷ 0x60 ∷ 0xAC ∷ []) (of_two 96)
-sum_spelled = of_two_spelled 96 (inr (inr (inr (inl refl))))
-
-difference_spelled : IsCode (0x1A ∷ 0x1B ∷ 0x64 ∷ 0xAC ∷ []) (of_two 100)
-difference_spelled = of_two_spelled 100 (inr (inr (inr (inr (inl refl)))))
-
-abbrev program_of_two : ℕ → Program
-program_of_two op = record { insns = of_two op; instance = false; desc = record { params = I ∷ I ∷ []; result = Some I }; max_locals = 2 }
-
-abbrev five_and_seven : Input
-five_and_seven = record { this = 1; args = num.Int (pos 5) ∷ num.Int (pos 7) ∷ []; heap = empty }
-
-abbrev EndsWith : ℕ → ℤ → Type 0
-EndsWith op n = after (program_of_two op) empty_world (start (program_of_two op) five_and_seven) 4 ≡ ended (Returned (Some (num.Int n)) empty)
-
--- after four steps it has returned the value of the operation: the sum of 5 and 7 is 12, and their difference -2
-sum_ends : EndsWith 96 (pos 12)
-unfolding after
-sum_ends = let P : ℤ → Type 0 = λ n. EndsWith 96 n in subst P (scalar_exact Iadd (pos 5) (pos 7) (search rules)) refl
-
-difference_ends : EndsWith 100 (negsuc 1)
-unfolding after
-difference_ends = let P : ℤ → Type 0 = λ n. EndsWith 100 n in subst P (scalar_exact Isub (pos 5) (pos 7) (search rules)) refl

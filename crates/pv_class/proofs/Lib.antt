@@ -6,10 +6,6 @@ pub mod MethodAttributes
 pub mod Codes
 pub mod Deciding
 pub mod Grammars
-pub mod Running
-pub mod Decoding
-pub mod Programs
-pub mod Walks
 pub mod Takings
 pub mod ItemTexts
 pub mod CodeTexts
@@ -20,3 +16,4 @@ pub mod ClassTexts
 pub mod ClassAgrees
 pub mod ClassLaws
 mod Examples
+pub mod CodeBytes

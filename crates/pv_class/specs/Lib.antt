@@ -7,8 +7,3 @@ pub mod Reading
 pub mod Answers
 pub mod Items
 pub mod ClassFiles
-pub mod Instructions
-pub mod Actions
-pub mod Machine
-pub mod Frames
-pub mod Walking

@@ -11,3 +11,5 @@ pub mod Answering
 pub mod Examples
 pub mod Sizes
 pub mod Within
+pub mod Formed
+pub mod SmallCodes

@@ -1,23 +1,8 @@
-//! The stepping machine: it runs a method, one instruction after the other.
+//! The machine: how methods run, how they end, and when two have the same meaning (JVMS 2.6, 6.5).
 //!
-//! This layer stands on `pv_value` and `pv_class`, and meets the definition of the machine in
-//! `pv_class/specs/Machine` (JVMS 2.6, 6.5). `specs/` says how the code's answers stand for the
-//! definition's: where a step leads (`Nows`), and whether a method has ended after so many steps
-//! (`Runs`). `Stacks` and `States` are private to this crate. The layers above see a program and a
-//! state as the definition's values, and use that `Program::new` gives a method's program exactly
-//! where it has one, that `start` gives the definition's state and `step` its next step, and that
-//! `run` gives the outcome exactly where the method has ended after so many steps.
-//!
-//! No instruction that is built reads the world, so each clause holds in every world.
+//! `specs/Machine` is the definition, and `specs/Runs` says what its runs keep: a method with typed
+//! frames is never stuck but at a call that isn't in the table of its world, and ends in one way.
+//! `laws` has these as contracts.
 #![tactic(auto)]
 
-mod actions;
-mod machine;
-mod narrow;
-mod program;
-mod stack;
-mod state;
-
-pub use machine::{run, step};
-pub use program::Program;
-pub use state::{Now, State, start};
+pub mod laws;

@@ -3,7 +3,8 @@ use Rattle.std.proofs.Common.{◌≡◌, ◌⊎◌, ℕ, zero, suc, ◌<◌, Lis
 use Rattle.std.specs.Prelude.{codes, decimal}
 use Rattle.std.specs.Global.{Vec}
 use Rattle.std.proofs.lemmas.List.{append_cancel_left, append-nil, take-append-drop}
-use Rattle.pv_base.specs.Stored.{Stored}
+use Rattle.std.specs.List.{Contains}
+use Rattle.pv_base.specs.Stored.{Stored, AreBytes}
 use Rattle.pv_base.specs.Outside.{FetchGives, more, more_more}
 use Rattle.pv_base.specs.declared.outside.Asked.{Asked}
 use Rattle.pv_base.specs.declared.outside.Asked.TheVariants.{Fetch}
@@ -17,6 +18,10 @@ use Rattle.pv_top.specs.declared.verdict.Side.TheVariants as side
 use Rattle.pv_top.specs.declared.verdict.Verdict.{Verdict}
 use Rattle.pv_top.specs.declared.verdict.Verdict.TheVariants.{Equivalent}
 use Rattle.pv_top.specs.Verdicts.{IsVerdict}
+use Rattle.pv_class.specs.declared.file.Method.{Method}
+use Rattle.pv_class.specs.declared.file.ClassFile.{ClassFile}
+use Rattle.pv_class.specs.ClassFiles.{IsClass}
+use Rattle.pv_class.proofs.CodeBytes.{HasBytes, class_bytes}
 use Rattle.pv_class.specs.declared.fault.ClassFault.{ClassFault}
 use Rattle.pv_class.specs.declared.fault.ClassFault.TheVariants as fault
 use Rattle.pv_class.specs.declared.fault.PoolWord.{PoolWord}
@@ -26,8 +31,9 @@ use Rattle.pv_class.proofs.ClassLaws.{memory_no_fault}
 use Rattle.pv_top.specs.Lines.{bad_class, fault_text, pool_word, word_at, line_of, line_text, side_word}
 use Rattle.pv_top.specs.Report.{IsReport, Judged}
 use Rattle.pv_top.specs.Judging.{JudgesFetched}
-use Rattle.pv_top.specs.Run.{Holds, Puts, Says, SaidOf, Answered, AskedFor, IsLineOf, EndsWith, HaveOneMeaning, EachEquivalent}
-use Rattle.pv_top.specs.Fetching.{HoldsFetched}
+use Rattle.pv_top.specs.Run.{Holds, Puts, Says, SaidOf, Answered, IsThere, AskedFor, IsLineOf, EndsWith, HaveOneMeaning, EachEquivalent}
+use Rattle.pv_top.specs.Fetching.{HoldsFetched, Asks, ReadFailed}
+use Rattle.pv_top.proofs.Places.{all_at, by_index}
 use Rattle.pv_top.proofs.SameMeanings.{same_meaning}
 use Rattle.pv_top.proofs.WholeLines.{IsWhole, no_line_of_nothing, line_of_front, first_or_later}
 use Rattle.pv_top.proofs.Decimals.{whole_decimal}
@@ -35,13 +41,13 @@ use Rattle.pv_top.proofs.SaidLines.{tested, whole_append, whole_side, digit_last
 
 -- ---- what was fetched
 
-long_list : (n : ℕ) → (bytes : List ℕ) × (n < length bytes)
-long_list zero = (0 ∷ [], omega arith)
-long_list (suc n) = let l = long_list n in (0 ∷ l.0, omega (arith, l.1))
+long_list : (n : ℕ) → (bytes : List ℕ) × AreBytes bytes × (n < length bytes)
+long_list zero = (0 ∷ [], (omega arith, tt), omega arith)
+long_list (suc n) = let l = long_list n in (0 ∷ l.0, (omega arith, l.1), omega (arith, l.2))
 
 -- a file that is too long has bytes, where the store tells them, and may have any else
-pub too_long : (held : Option Stored) (name : List ℕ) (limit : ℕ) (r : Result (Vec ℕ) FileFault) → r ≡ Err file.TooLong → FetchGives held name limit r → (bytes : List ℕ) × Holds held name bytes × (limit < length bytes)
-too_long None name limit r e h = let l = long_list limit in (l.0, tt, l.1)
+pub too_long : (held : Option Stored) (name : List ℕ) (limit : ℕ) (r : Result (Vec ℕ) FileFault) → r ≡ Err file.TooLong → FetchGives held name limit r → (bytes : List ℕ) × Holds held name bytes × AreBytes bytes × (limit < length bytes)
+too_long None name limit r e h = let l = long_list limit in (l.0, tt, l.1, l.2)
 too_long (Some m) name limit r e h = subst (λ (x : Result (Vec ℕ) FileFault). FetchGives (Some m) name limit x) e h
 
 -- ---- the answer of a command that said something
@@ -62,9 +68,11 @@ said_of held a b first second old new rose text meant result p q judged says = r
   second = q.0;
   first_held = p.1;
   second_held = q.1;
+  first_bytes = p.2;
+  second_bytes = q.2;
   text = text;
   meant = meant;
-  judged = judged p.0 q.0 p.2 q.2;
+  judged = judged p.0 q.0 p.3 q.3;
   says = says;
 }
 
@@ -94,20 +102,32 @@ answered_said held a b old new read_rose write_rose status.BadCert said = said
 answered_said held a b old new read_rose write_rose status.BadWords said = said
 answered_said held a b old new read_rose write_rose status.WriteFault said = said
 
-pub asked_both : (old mid new : Option (List Asked)) (a b : List ℕ) (result : Status) → mid ≡ more old (Fetch a ∷ []) → new ≡ more mid (Fetch b ∷ []) → AskedFor old new a b result
-asked_both old mid new a b result p q =
+pub asked_both : (held : Option Stored) (old mid new : Option (List Asked)) (a b : List ℕ) (result : Status) → IsThere held a → mid ≡ more old (Fetch a ∷ []) → new ≡ more mid (Fetch b ∷ []) → AskedFor held old new a b result
+asked_both held old mid new a b result there p q =
     let both : new ≡ more old (Fetch a ∷ Fetch b ∷ []) = q ∙ ap (λ (o : Option (List Asked)). more o (Fetch b ∷ [])) p ∙ more_more old (Fetch a ∷ []) (Fetch b ∷ []) in
-    asked_all old new a b result both
+    asked_all result both
   where
-    asked_all : (old new : Option (List Asked)) (a b : List ℕ) (result : Status) → new ≡ more old (Fetch a ∷ Fetch b ∷ []) → AskedFor old new a b result
-    asked_all old new a b status.AllEquivalent e = e
-    asked_all old new a b status.Others e = e
-    asked_all old new a b status.BadClass e = e
-    asked_all old new a b status.BadCert e = e
-    asked_all old new a b status.BadWords e = e
-    asked_all old new a b status.ReadFault e = inr e
-    asked_all old new a b status.WriteFault e = e
-    asked_all old new a b status.Memory e = inr (inr e)
+    asked_all : (result : Status) → new ≡ more old (Fetch a ∷ Fetch b ∷ []) → AskedFor held old new a b result
+    asked_all status.AllEquivalent e = e
+    asked_all status.Others e = e
+    asked_all status.BadClass e = e
+    asked_all status.BadCert e = e
+    asked_all status.BadWords e = e
+    asked_all status.ReadFault e = inr (there, e)
+    asked_all status.WriteFault e = e
+    asked_all status.Memory e = inr (inr e)
+
+-- the second fetch failed, or memory ran out in it
+pub asked_second : (held : Option Stored) (old mid new : Option (List Asked)) (a b : List ℕ) (s : Status) (rose : Type 0) → ReadFailed s rose → IsThere held a → mid ≡ more old (Fetch a ∷ []) → Asks {T = Fetched} mid new (Fetch b) (Err s) → AskedFor held old new a b s
+asked_second held old mid new a b status.ReadFault rose failed there p q = asked_both held old mid new a b status.ReadFault there p q
+asked_second held old mid new a b status.Memory rose failed there p (inl e) = inr (inl (e ∙ p))
+asked_second held old mid new a b status.Memory rose failed there p (inr e) = asked_both held old mid new a b status.Memory there p e
+asked_second held old mid new a b status.AllEquivalent rose failed there p q = absurd failed
+asked_second held old mid new a b status.Others rose failed there p q = absurd failed
+asked_second held old mid new a b status.BadClass rose failed there p q = absurd failed
+asked_second held old mid new a b status.BadCert rose failed there p q = absurd failed
+asked_second held old mid new a b status.BadWords rose failed there p q = absurd failed
+asked_second held old mid new a b status.WriteFault rose failed there p q = absurd failed
 
 -- ---- each whole line that says `equivalent`
 
@@ -123,11 +143,17 @@ taken_front before taken text old new meant result rose p q (inr s) =
     let same : taken ≡ take n text = append_cancel_left before taken (take n text) (cc grown) in
     (drop n text, sym (take-append-drop n text) ∙ ap (λ (t : List ℕ). t ++ drop n text) (sym same))
 
-report_line : (held : Option Stored) (a b first second text : List ℕ) (verdicts : List Verdict) (line : List ℕ) → Holds held a first → Holds held b second → IsReport first second verdicts text → IsLineOf text line → EndsWith line (codes " equivalent") → HaveOneMeaning held a b line
-report_line held a b first second text verdicts line p q r l ends =
-    let found = line_of_method r.first.methods r.second.methods verdicts line r.each (subst (λ (t : List ℕ). IsLineOf t line) r.text_is l) in
-    let is = only_equivalent found.method r.second.methods found.verdict line found.is found.says ends in
-    let equal : IsVerdict found.method r.second.methods Equivalent = subst (λ (v : Verdict). IsVerdict found.method r.second.methods v) is found.is in
+-- the code of a method of a class file holds bytes
+has_bytes : (bytes : List ℕ) (file : ClassFile) (m : Method) → AreBytes bytes → IsClass bytes file → Contains file.methods m → HasBytes m
+has_bytes bytes file m fits is among = all_at HasBytes file.methods m (class_bytes bytes file (by_index bytes fits) is) among
+
+report_line : (held : Option Stored) (a b first second text : List ℕ) (verdicts : List Verdict) (line : List ℕ) → Holds held a first → Holds held b second → AreBytes first → AreBytes second → IsReport first second verdicts text → IsLineOf text line → EndsWith line (codes " equivalent") → HaveOneMeaning held a b line
+report_line held a b first second text verdicts line p q m n r l ends =
+    let found = line_of_method r.first r.second r.first.methods verdicts line r.each (subst (λ (t : List ℕ). IsLineOf t line) r.text_is l) in
+    let is = only_equivalent found.method found.verdict line found.says ends in
+    let equal : IsVerdict r.first r.second found.method Equivalent = subst (λ (v : Verdict). IsVerdict r.first r.second found.method v) is found.is in
+    let one = has_bytes first r.first found.method m r.first_is found.among in
+    let other = has_bytes second r.second equal.0 n r.second_is equal.1.among in
     record {
       first = first;
       second = second;
@@ -142,7 +168,7 @@ report_line held a b first second text verdicts line p q r l ends =
       partner = equal.0;
       partner_is = equal.1;
       says = found.says ∙ ap (line_of found.method) is;
-      same = same_meaning found.method equal.0 equal.2.0 equal.1.like.desc equal.2.1 equal.2.2;
+      equivalent = same_meaning r.first found.method r.second equal.0 equal.2.0 equal.1.like.desc one other equal.2.1 equal.2.2;
     }
 
 -- what is said of a file without a reading
@@ -201,24 +227,24 @@ bad_class_line s bytes f text line bad e l ends =
       | inr rest ↦ no_line_of_nothing line rest
     ]
 
-judged_line : (held : Option Stored) (a b first second text : List ℕ) (s : Status) (line : List ℕ) → Holds held a first → Holds held b second → Judged first second text s → IsLineOf text line → EndsWith line (codes " equivalent") → HaveOneMeaning held a b line
-judged_line held a b first second text status.AllEquivalent line p q h l ends = report_line held a b first second text h.0 line p q h.1 l ends
-judged_line held a b first second text status.Others line p q h l ends = report_line held a b first second text h.0 line p q h.1 l ends
-judged_line held a b first second text status.BadClass line p q h l ends =
+judged_line : (held : Option Stored) (a b first second text : List ℕ) (s : Status) (line : List ℕ) → Holds held a first → Holds held b second → AreBytes first → AreBytes second → Judged first second text s → IsLineOf text line → EndsWith line (codes " equivalent") → HaveOneMeaning held a b line
+judged_line held a b first second text status.AllEquivalent line p q m n h l ends = report_line held a b first second text h.0 line p q m n h.1 l ends
+judged_line held a b first second text status.Others line p q m n h l ends = report_line held a b first second text h.0 line p q m n h.1 l ends
+judged_line held a b first second text status.BadClass line p q m n h l ends =
     elim h [
       | inl x ↦ absurd (bad_class_line side.First first x.0 text line x.1 x.2 l ends)
       | inr x ↦ absurd (bad_class_line side.Second second x.1.0 text line x.1.1 x.1.2 l ends)
     ]
-judged_line held a b first second text status.BadCert line p q h l ends = absurd h
-judged_line held a b first second text status.BadWords line p q h l ends = absurd h
-judged_line held a b first second text status.ReadFault line p q h l ends = absurd h
-judged_line held a b first second text status.WriteFault line p q h l ends = absurd h
-judged_line held a b first second text status.Memory line p q h l ends = absurd h
+judged_line held a b first second text status.BadCert line p q m n h l ends = absurd h
+judged_line held a b first second text status.BadWords line p q m n h l ends = absurd h
+judged_line held a b first second text status.ReadFault line p q m n h l ends = absurd h
+judged_line held a b first second text status.WriteFault line p q m n h l ends = absurd h
+judged_line held a b first second text status.Memory line p q m n h l ends = absurd h
 
 said_line : (held : Option Stored) (a b : List ℕ) (old new : Option (List ℕ)) (rose : Type 0) (result : Status) → SaidOf held a b old new rose result → EachEquivalent held a b old new
 said_line held a b old new rose result said before taken line p q l ends =
     let front = taken_front before taken said.text old new said.meant result rose p q (as_put old new said.text said.meant result rose said.says) in
-    judged_line held a b said.first said.second said.text said.meant line said.first_held said.second_held said.judged (line_of_front said.text taken front.0 line front.1 l) ends
+    judged_line held a b said.first said.second said.text said.meant line said.first_held said.second_held said.first_bytes said.second_bytes said.judged (line_of_front said.text taken front.0 line front.1 l) ends
 
 nothing_taken : (old new : Option (List ℕ)) (before taken : List ℕ) → new ≡ old → old ≡ Some before → new ≡ Some (before ++ taken) → taken ≡ []
 nothing_taken old new before taken e p q =

@@ -12,10 +12,10 @@ use Rattle.pv_top.specs.declared.verdict.Verdict.{Verdict}
 use Rattle.pv_top.specs.Report.{IsReport, Judged}
 use Rattle.pv_top.specs.Judging.{ReadsFetched, JudgesFetched, Told, Compares}
 
-report_of : (a b : List ℕ) (one two : ClassFile) (verdicts : List Verdict) (text : List ℕ) → IsClass a one → IsClass b two → Told one.methods two.methods verdicts text → IsReport a b verdicts text
+report_of : (a b : List ℕ) (one two : ClassFile) (verdicts : List Verdict) (text : List ℕ) → IsClass a one → IsClass b two → Told one two one.methods verdicts text → IsReport a b verdicts text
 report_of a b one two verdicts text p q t = record { first = one; second = two; first_is = p; second_is = q; each = t.each; text_is = t.text_is }
 
-judged_of : (a b : List ℕ) (one two : ClassFile) (text : List ℕ) (s : Status) → IsClass a one → IsClass b two → Compares one.methods two.methods text s → Judged a b text s
+judged_of : (a b : List ℕ) (one two : ClassFile) (text : List ℕ) (s : Status) → IsClass a one → IsClass b two → Compares one two text s → Judged a b text s
 judged_of a b one two text status.AllEquivalent p q h = (h.0, report_of a b one two h.0 text p q h.1, h.2)
 judged_of a b one two text status.Others p q h = (h.0, report_of a b one two h.0 text p q h.1, h.2)
 judged_of a b one two text status.BadClass p q h = absurd h
@@ -25,7 +25,7 @@ judged_of a b one two text status.ReadFault p q h = absurd h
 judged_of a b one two text status.WriteFault p q h = absurd h
 judged_of a b one two text status.Memory p q h = absurd h
 
-pub judges : (first second : Fetched) (one two : ClassFile) (r : Result (Vec ℕ × Status) Memory) → ReadsFetched first (Ok one) → ReadsFetched second (Ok two) → IfOk r (λ said. Compares one.methods two.methods said.0.items said.1)
+pub judges : (first second : Fetched) (one two : ClassFile) (r : Result (Vec ℕ × Status) Memory) → ReadsFetched first (Ok one) → ReadsFetched second (Ok two) → IfOk r (λ said. Compares one two said.0.items said.1)
     → IfOk r (λ said. JudgesFetched first second said.0.items said.1)
 judges first second one two (Ok said) p q h = λ a b f s. judged_of a b one two said.0.items said.1 (p a f) (q b s) h
 judges first second one two (Err e) p q h = tt

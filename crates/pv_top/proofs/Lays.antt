@@ -4,10 +4,13 @@ use Rattle.std.specs.Prelude.{IfOk, MatchOption, Option, None, slice_get}
 use Rattle.std.proofs.lemmas.List.{take_all, take_more, take-append-drop}
 use Rattle.std.proofs.lemmas.Option.{slice_get-get_or, slice_get_within, same_Some}
 use Rattle.pv_value.specs.declared.memory.Memory.{Memory}
-use Rattle.pv_class.specs.declared.instruction.Insn.{Insn}
+use Rattle.pv_value.specs.declared.number.Num.TheVariants as num
 use Rattle.pv_value.specs.declared.int_op.IntOp.{IntOp}
-use Rattle.pv_class.specs.declared.instruction.Action.TheVariants.{Nop, Push, Load, Scalar, ReturnInt}
-use Rattle.pv_class.specs.Actions.{action}
+use Rattle.pv_value.specs.declared.operation.ScalarOp.{ScalarOp}
+use Rattle.pv_value.specs.IntOps.{operation}
+use Rattle.pv_frame.specs.declared.sort.Sort.TheVariants as sorts
+use Rattle.pv_frame.specs.declared.action.Action.{Action}
+use Rattle.pv_frame.specs.declared.action.Action.TheVariants as act
 use Rattle.pv_graph.specs.declared.node.Op.{Op}
 use Rattle.pv_graph.specs.declared.node.Op.TheVariants as op
 use Rattle.pv_graph.specs.declared.node.OpSort.TheVariants as sort
@@ -16,13 +19,13 @@ use Rattle.pv_graph.specs.Nodes.{IsGraph}
 use Rattle.pv_graph.specs.Trees.{Tree, over, none, first}
 use Rattle.pv_graph.specs.Finite.{IsTree}
 use Rattle.pv_graph.specs.FiniteLaws.{leaf_tree, is_tree_kept}
-use Rattle.pv_top.specs.Built.{leaf, Lays, LaysAll, ReturnsTree}
+use Rattle.pv_top.specs.Built.{leaf, over_two, Lays, LaysAll, ReturnsTree}
 use Rattle.pv_top.specs.Conversion.{Grows, HasOver, GivesInt, AreInts, HaveTrees, LaysNodes, TopsLeaf, IsReturned}
 use Rattle.pv_top.proofs.IntNodes.{grows_same, grows_then, ints_kept, trees_kept, two_trees}
 use Rattle.pv_top.proofs.Stacks.{lays_all_once, lays_then, lays_apart, snoc_once}
 
 -- an action that does nothing
-pub lays_none : (params : ℕ) (g : List Node) (ns : List ℕ) → AreInts g ns → LaysNodes params Nop g g ns ns true
+pub lays_none : (params : ℕ) (g : List Node) (ns : List ℕ) → AreInts g ns → LaysNodes params act.Nop g g ns ns true
 lays_none params g ns ints = record { trees = λ s have. (s, refl, have); ints = ints }
 
 pub tops_leaf : (o : Op) (old new : List Node) (ns : List ℕ) (n : ℕ) → Grows old new → GivesInt o → AreInts old ns → HasOver new n o [] → TopsLeaf o old new ns (n ∷ ns)
@@ -31,10 +34,10 @@ tops_leaf o old new ns n grows int ints there = record {
   ints = (record { op = o; kids = []; there = there; int = int }, ints_kept old new ns grows.extends ints);
 }
 
-pub lays_push : (params : ℕ) (k : ℤ) (old new : List Node) (ns ms : List ℕ) → TopsLeaf (op.Int k) old new ns ms → LaysNodes params (Push k) old new ns ms true
+pub lays_push : (params : ℕ) (k : ℤ) (old new : List Node) (ns ms : List ℕ) → TopsLeaf (op.Int k) old new ns ms → LaysNodes params (act.Push (num.Int k)) old new ns ms true
 lays_push params k old new ns ms tops = record { trees = λ s have. (leaf (op.Int k) ∷ s, refl, tops.trees s have); ints = tops.ints }
 
-pub lays_load : (params k : ℕ) (old new : List Node) (ns ms : List ℕ) → k < params → TopsLeaf (op.Param k sort.I) old new ns ms → LaysNodes params (Load k) old new ns ms true
+pub lays_load : (params k : ℕ) (old new : List Node) (ns ms : List ℕ) → k < params → TopsLeaf (op.Param k sort.I) old new ns ms → LaysNodes params (act.Load sorts.Int k) old new ns ms true
 lays_load params k old new ns ms lt tops = record { trees = λ s have. (leaf (op.Param k sort.I) ∷ s, (lt, refl), tops.trees s have); ints = tops.ints }
 
 -- the trees of two operands, the second on top
@@ -43,108 +46,112 @@ two_of g a b ns [] have = absurd have
 two_of g a b ns (u ∷ []) have = absurd have.1
 two_of g a b ns (u ∷ t ∷ rest) have = (t, u, rest, refl, have.1.0, have.0, have.1.1)
 
-pub lays_scalar : (params : ℕ) (o : IntOp) (old new : List Node) (ns : List ℕ) (a b n : ℕ) → Grows old new → AreInts old (b ∷ a ∷ ns) → HasOver new n (op.Scalar o) (a ∷ b ∷ []) → LaysNodes params (Scalar o) old new (b ∷ a ∷ ns) (n ∷ ns) true
-lays_scalar params o old new ns a b n grows ints there = record {
+pub lays_scalar : (params : ℕ) (i : IntOp) (o : ScalarOp) (old new : List Node) (ns : List ℕ) (a b n : ℕ) → operation i ≡ o → Grows old new → AreInts old (b ∷ a ∷ ns) → HasOver new n (op.Scalar i) (a ∷ b ∷ []) → LaysNodes params (act.Scalar o) old new (b ∷ a ∷ ns) (n ∷ ns) true
+lays_scalar params i o old new ns a b n is grows ints there = record {
   trees = λ s have.
       let two = two_of old a b ns s have in
       let t = two.0 in
       let u = two.1 in
       let rest = two.2 in
-      let made = two_trees new a b t u n (op.Scalar o) there (is_tree_kept old new a t grows.extends two.4) (is_tree_kept old new b u grows.extends two.5) in
-      (over (op.Scalar o) (first t (first u none)) ∷ rest, (t, u, rest, two.3, refl), (made, trees_kept old new ns rest grows.extends two.6));
-  ints = (record { op = op.Scalar o; kids = a ∷ b ∷ []; there = there; int = tt }, ints_kept old new ns grows.extends ints.1.1);
+      let made = two_trees new a b t u n (op.Scalar i) there (is_tree_kept old new a t grows.extends two.4) (is_tree_kept old new b u grows.extends two.5) in
+      (over_two (op.Scalar i) t u ∷ rest, (i, is, t, u, rest, two.3, refl), (made, trees_kept old new ns rest grows.extends two.6));
+  ints = (record { op = op.Scalar i; kids = a ∷ b ∷ []; there = there; int = tt }, ints_kept old new ns grows.extends ints.1.1);
 }
 
 -- no operand, and one
-pub lays_on_none : (params : ℕ) (o : IntOp) (g : List Node) → LaysNodes params (Scalar o) g g [] [] false
+pub lays_on_none : (params : ℕ) (o : ScalarOp) (g : List Node) → LaysNodes params (act.Scalar o) g g [] [] false
 lays_on_none params o g = record { trees = λ s have t lays. none_of s t have lays; ints = tt }
   where
-    none_of : (s t : List Tree) → HaveTrees g [] s → Lays params (Scalar o) s t → ⊥
-    none_of [] t have (a, b, rest, e, is) = absurd (cc e)
+    none_of : (s t : List Tree) → HaveTrees g [] s → Lays params (act.Scalar o) s t → ⊥
+    none_of [] t have (i, is_i, a, b, rest, e, is) = absurd (cc e)
     none_of (x ∷ s) t have lays = absurd have
 
-pub lays_on_one : (params : ℕ) (o : IntOp) (g : List Node) (n : ℕ) → LaysNodes params (Scalar o) g g (n ∷ []) [] false
+pub lays_on_one : (params : ℕ) (o : ScalarOp) (g : List Node) (n : ℕ) → LaysNodes params (act.Scalar o) g g (n ∷ []) [] false
 lays_on_one params o g n = record { trees = λ s have t lays. one_of s t have lays; ints = tt }
   where
-    one_of : (s t : List Tree) → HaveTrees g (n ∷ []) s → Lays params (Scalar o) s t → ⊥
+    one_of : (s t : List Tree) → HaveTrees g (n ∷ []) s → Lays params (act.Scalar o) s t → ⊥
     one_of [] t have lays = absurd have
-    one_of (x ∷ []) t have (a, b, rest, e, is) = absurd (cc e)
+    one_of (x ∷ []) t have (i, is_i, a, b, rest, e, is) = absurd (cc e)
     one_of (x ∷ y ∷ s) t have lays = absurd have.1
 
+-- an operation that isn't built takes no trees
+pub lays_no_scalar : (params : ℕ) (o : ScalarOp) (g : List Node) (ns : List ℕ) → ((i : IntOp) → operation i ≡ o → ⊥) → AreInts g ns → LaysNodes params (act.Scalar o) g g ns ns false
+lays_no_scalar params o g ns absent ints = record { trees = λ s have t lays. absent lays.0 lays.1; ints = ints }
+
 -- an operation on the operand stack reads no parameter
-anywhere_on : (params : ℕ) (o : IntOp) (old new : List Node) (ns ms : List ℕ) (on : Bool) → LaysNodes 0 (Scalar o) old new ns ms on → LaysNodes params (Scalar o) old new ns ms on
+anywhere_on : (params : ℕ) (o : ScalarOp) (old new : List Node) (ns ms : List ℕ) (on : Bool) → LaysNodes 0 (act.Scalar o) old new ns ms on → LaysNodes params (act.Scalar o) old new ns ms on
 anywhere_on params o old new ns ms true h = record { trees = λ s have. h.trees s have; ints = h.ints }
 anywhere_on params o old new ns ms false h = record { trees = λ s have. h.trees s have; ints = h.ints }
 
-pub scalar_anywhere : (params : ℕ) (o : IntOp) (old new : List Node) (ns ms : List ℕ) (r : Result Bool Memory) → IfOk r (λ on. LaysNodes 0 (Scalar o) old new ns ms on) → IfOk r (λ on. LaysNodes params (Scalar o) old new ns ms on)
+pub scalar_anywhere : (params : ℕ) (o : ScalarOp) (old new : List Node) (ns ms : List ℕ) (r : Result Bool Memory) → IfOk r (λ on. LaysNodes 0 (act.Scalar o) old new ns ms on) → IfOk r (λ on. LaysNodes params (act.Scalar o) old new ns ms on)
 scalar_anywhere params o old new ns ms (Ok on) h = anywhere_on params o old new ns ms on h
 scalar_anywhere params o old new ns ms (Err e) h = tt
 
--- ---- walking over instructions
+-- ---- walking over actions
 
-take_one_more : (insns : List Insn) (i : ℕ) (insn : Insn) → slice_get insns i ≡ Some insn → take (i + 1) insns ≡ take i insns ++ insn ∷ []
-take_one_more insns i insn at =
-    let within = slice_get_within insns i insn at in
-    take_more insns i insn within ∙ ap (λ (x : Insn). take i insns ++ x ∷ []) (same_Some (get_or insns i insn) insn (sym (slice_get-get_or insns i insn within) ∙ at))
+take_one_more : (actions : List Action) (i : ℕ) (a : Action) → slice_get actions i ≡ Some a → take (i + 1) actions ≡ take i actions ++ a ∷ []
+take_one_more actions i a at =
+    let within = slice_get_within actions i a at in
+    take_more actions i a within ∙ ap (λ (x : Action). take i actions ++ x ∷ []) (same_Some (get_or actions i a) a (sym (slice_get-get_or actions i a within) ∙ at))
 
--- so many instructions have left these nodes on the operand stack
-pub record Walked (params : ℕ) (insns : List Insn) (i : ℕ) (old new : List Node) (ns : List ℕ) : Type 0 where
+-- the first i actions have left these nodes on the operand stack
+pub record Walked (params : ℕ) (actions : List Action) (i : ℕ) (old new : List Node) (ns : List ℕ) : Type 0 where
   pub grows : Grows old new
   pub ints : AreInts new ns
   pub trees : List Tree
-  pub laid : LaysAll params (take i insns) [] trees
+  pub laid : LaysAll params (take i actions) [] trees
   pub have : HaveTrees new ns trees
 
-pub walked_none : (params : ℕ) (insns : List Insn) (g : List Node) → IsGraph g → Walked params insns 0 g g []
-walked_none params insns g graph = record { grows = grows_same g graph; ints = tt; trees = []; laid = refl; have = tt }
+pub walked_none : (params : ℕ) (actions : List Action) (g : List Node) → IsGraph g → Walked params actions 0 g g []
+walked_none params actions g graph = record { grows = grows_same g graph; ints = tt; trees = []; laid = refl; have = tt }
 
-pub walked_more : (params : ℕ) (insns : List Insn) (i : ℕ) (insn : Insn) (old g new : List Node) (ns ms : List ℕ) → slice_get insns i ≡ Some insn → Walked params insns i old g ns → Grows g new → LaysNodes params (action insn) g new ns ms true
-    → Walked params insns (i + 1) old new ms
-walked_more params insns i insn old g new ns ms at w grows lays =
+pub walked_more : (params : ℕ) (actions : List Action) (i : ℕ) (a : Action) (old g new : List Node) (ns ms : List ℕ) → slice_get actions i ≡ Some a → Walked params actions i old g ns → Grows g new → LaysNodes params a g new ns ms true
+    → Walked params actions (i + 1) old new ms
+walked_more params actions i a old g new ns ms at w grows lays =
     let t = lays.trees w.trees w.have in
     record {
       grows = grows_then old g new w.grows grows;
       ints = lays.ints;
       trees = t.0;
-      laid = subst (λ (l : List Insn). LaysAll params l [] t.0) (sym (take_one_more insns i insn at)) (lays_then params (take i insns) (insn ∷ []) [] w.trees t.0 w.laid (t.0, t.1, refl));
+      laid = subst (λ (l : List Action). LaysAll params l [] t.0) (sym (take_one_more actions i a at)) (lays_then params (take i actions) (a ∷ []) [] w.trees t.0 w.laid (t.0, t.1, refl));
       have = t.2;
     }
 
--- where an instruction doesn't find what it needs, no tree is returned
-pub walked_stuck : (params : ℕ) (insns front : List Insn) (last : Insn) (i : ℕ) (insn : Insn) (old g new : List Node) (ns ms : List ℕ) (value : Tree) → insns ≡ front ++ last ∷ [] → slice_get front i ≡ Some insn → Walked params front i old g ns
-    → LaysNodes params (action insn) g new ns ms false → ReturnsTree params insns value → ⊥
-walked_stuck params insns front last i insn old g new ns ms value spelled at w lays r =
+-- where an action doesn't find what it needs, no tree is returned
+pub walked_stuck : (params : ℕ) (actions front : List Action) (last : Action) (i : ℕ) (a : Action) (old g new : List Node) (ns ms : List ℕ) (value : Tree) → actions ≡ front ++ last ∷ [] → slice_get front i ≡ Some a → Walked params front i old g ns
+    → LaysNodes params a g new ns ms false → ReturnsTree params actions value → ⊥
+walked_stuck params actions front last i a old g new ns ms value spelled at w lays r =
     let same = snoc_once r.front front r.last last (sym r.spelled ∙ spelled) in
-    let laid : LaysAll params front [] (value ∷ r.below) = subst (λ (l : List Insn). LaysAll params l [] (value ∷ r.below)) same.0 r.laid in
-    let whole : front ≡ (take i front ++ insn ∷ []) ++ drop (i + 1) front = sym (take-append-drop (i + 1) front) ∙ ap (λ (l : List Insn). l ++ drop (i + 1) front) (take_one_more front i insn at) in
-    let parted : LaysAll params ((take i front ++ insn ∷ []) ++ drop (i + 1) front) [] (value ∷ r.below) = subst (λ (l : List Insn). LaysAll params l [] (value ∷ r.below)) whole laid in
-    let front_half = lays_apart params (take i front ++ insn ∷ []) (drop (i + 1) front) [] (value ∷ r.below) parted in
-    let halves = lays_apart params (take i front) (insn ∷ []) [] front_half.0 front_half.1 in
+    let laid : LaysAll params front [] (value ∷ r.below) = subst (λ (l : List Action). LaysAll params l [] (value ∷ r.below)) same.0 r.laid in
+    let whole : front ≡ (take i front ++ a ∷ []) ++ drop (i + 1) front = sym (take-append-drop (i + 1) front) ∙ ap (λ (l : List Action). l ++ drop (i + 1) front) (take_one_more front i a at) in
+    let parted : LaysAll params ((take i front ++ a ∷ []) ++ drop (i + 1) front) [] (value ∷ r.below) = subst (λ (l : List Action). LaysAll params l [] (value ∷ r.below)) whole laid in
+    let front_half = lays_apart params (take i front ++ a ∷ []) (drop (i + 1) front) [] (value ∷ r.below) parted in
+    let halves = lays_apart params (take i front) (a ∷ []) [] front_half.0 front_half.1 in
     let there : halves.0 ≡ w.trees = lays_all_once params (take i front) [] halves.0 w.trees halves.1 w.laid in
-    lays.trees w.trees w.have halves.2.0 (subst (λ (s : List Tree). Lays params (action insn) s halves.2.0) there halves.2.1)
+    lays.trees w.trees w.have halves.2.0 (subst (λ (s : List Tree). Lays params a s halves.2.0) there halves.2.1)
 
--- behind all of them the top is returned
-pub walked_top : (params : ℕ) (insns front : List Insn) (last : Insn) (i : ℕ) (old g : List Node) (n : ℕ) (ns ms : List ℕ) → insns ≡ front ++ last ∷ [] → action last ≡ ReturnInt → length front ≤ i → Walked params front i old g ns → ns ≡ n ∷ ms → IsReturned g params insns n
-walked_top params insns front last i old g n ns ms spelled act le w e =
-    let laid : LaysAll params front [] w.trees = subst (λ (l : List Insn). LaysAll params l [] w.trees) (take_all i front le) w.laid in
+-- after all of them the top is returned
+pub walked_top : (params : ℕ) (actions front : List Action) (last : Action) (i : ℕ) (old g : List Node) (n : ℕ) (ns ms : List ℕ) → actions ≡ front ++ last ∷ [] → last ≡ act.Give (Some sorts.Int) → length front ≤ i → Walked params front i old g ns → ns ≡ n ∷ ms → IsReturned g params actions n
+walked_top params actions front last i old g n ns ms spelled act le w e =
+    let laid : LaysAll params front [] w.trees = subst (λ (l : List Action). LaysAll params l [] w.trees) (take_all i front le) w.laid in
     top w.trees laid (subst (λ (l : List ℕ). HaveTrees g l w.trees) e w.have) (subst (λ (l : List ℕ). AreInts g l) e w.ints)
   where
-    top : (ts : List Tree) → LaysAll params front [] ts → HaveTrees g (n ∷ ms) ts → AreInts g (n ∷ ms) → IsReturned g params insns n
+    top : (ts : List Tree) → LaysAll params front [] ts → HaveTrees g (n ∷ ms) ts → AreInts g (n ∷ ms) → IsReturned g params actions n
     top [] laid have ints = absurd have
     top (t ∷ ts) laid have ints = record { value = t; returns = record { front = front; last = last; spelled = spelled; below = ts; laid = laid; returned = act }; is = have.0; int = ints.0 }
 
-pub walked_empty : (params : ℕ) (insns front : List Insn) (last : Insn) (i : ℕ) (old g : List Node) (ns : List ℕ) (value : Tree) → insns ≡ front ++ last ∷ [] → length front ≤ i → Walked params front i old g ns → ns ≡ [] → ReturnsTree params insns value → ⊥
-walked_empty params insns front last i old g ns value spelled le w e r =
+pub walked_empty : (params : ℕ) (actions front : List Action) (last : Action) (i : ℕ) (old g : List Node) (ns : List ℕ) (value : Tree) → actions ≡ front ++ last ∷ [] → length front ≤ i → Walked params front i old g ns → ns ≡ [] → ReturnsTree params actions value → ⊥
+walked_empty params actions front last i old g ns value spelled le w e r =
     let same = snoc_once r.front front r.last last (sym r.spelled ∙ spelled) in
-    let laid : LaysAll params front [] w.trees = subst (λ (l : List Insn). LaysAll params l [] w.trees) (take_all i front le) w.laid in
-    let other : LaysAll params front [] (value ∷ r.below) = subst (λ (l : List Insn). LaysAll params l [] (value ∷ r.below)) same.0 r.laid in
+    let laid : LaysAll params front [] w.trees = subst (λ (l : List Action). LaysAll params l [] w.trees) (take_all i front le) w.laid in
+    let other : LaysAll params front [] (value ∷ r.below) = subst (λ (l : List Action). LaysAll params l [] (value ∷ r.below)) same.0 r.laid in
     none w.trees (lays_all_once params front [] w.trees (value ∷ r.below) laid other) (subst (λ (l : List ℕ). HaveTrees g l w.trees) e w.have)
   where
     none : (ts : List Tree) → ts ≡ value ∷ r.below → HaveTrees g [] ts → ⊥
     none [] e have = absurd (cc e)
     none (t ∷ ts) e have = have
 
-pub walked_last : (params : ℕ) (insns front : List Insn) (last : Insn) (i : ℕ) (old g : List Node) (ns ms : List ℕ) (found : Option ℕ) → insns ≡ front ++ last ∷ [] → action last ≡ ReturnInt → length front ≤ i → Walked params front i old g ns
-    → MatchOption found ((ns ≡ []) × (ms ≡ [])) (λ n. ns ≡ n ∷ ms) → MatchOption found ((value : Tree) → ReturnsTree params insns value → ⊥) (λ n. IsReturned g params insns n)
-walked_last params insns front last i old g ns ms None spelled act le w h = λ value r. walked_empty params insns front last i old g ns value spelled le w h.0 r
-walked_last params insns front last i old g ns ms (Some n) spelled act le w h = walked_top params insns front last i old g n ns ms spelled act le w h
+pub walked_last : (params : ℕ) (actions front : List Action) (last : Action) (i : ℕ) (old g : List Node) (ns ms : List ℕ) (found : Option ℕ) → actions ≡ front ++ last ∷ [] → last ≡ act.Give (Some sorts.Int) → length front ≤ i → Walked params front i old g ns
+    → MatchOption found ((ns ≡ []) × (ms ≡ [])) (λ n. ns ≡ n ∷ ms) → MatchOption found ((value : Tree) → ReturnsTree params actions value → ⊥) (λ n. IsReturned g params actions n)
+walked_last params actions front last i old g ns ms None spelled act le w h = λ value r. walked_empty params actions front last i old g ns value spelled le w h.0 r
+walked_last params actions front last i old g ns ms (Some n) spelled act le w h = walked_top params actions front last i old g n ns ms spelled act le w h

@@ -1,6 +1,5 @@
 pub mod Decimals
 pub mod Stacks
-pub mod Builts
 pub mod Runs
 pub mod IntNodes
 pub mod Lays
@@ -16,3 +15,6 @@ pub mod WholeLines
 pub mod SaidLines
 pub mod Answering
 pub mod ReportOnce
+pub mod Places
+pub mod ReadClasses
+pub mod Naming

@@ -1,7 +1,7 @@
 -- There is one report on two files: one verdict on each method, one text and one status.
 use Rattle.std.proofs.Common.{◌≡◌, ◌⊎◌, ℕ, zero, suc, ◌<◌, List, [], ◌∷◌, length, get_or, Option, Some, None, Result, Ok, Err, inl, inr, refl, sym, ap, subst, ◌∙◌, arith}
-use Rattle.std.specs.Prelude.{slice_get}
-use Rattle.std.specs.List.{AllZip, flat_map}
+use Rattle.std.specs.Prelude.{◌≢◌, slice_get}
+use Rattle.std.specs.List.{AllByRecursion, AllZip, flat_map}
 use Rattle.pv_class.specs.declared.file.Method.{Method}
 use Rattle.pv_class.specs.declared.file.Code.{Code}
 use Rattle.pv_class.specs.declared.file.ClassFile.{ClassFile}
@@ -18,85 +18,120 @@ use Rattle.pv_top.specs.declared.verdict.Verdict.{Verdict}
 use Rattle.pv_top.specs.declared.verdict.Verdict.TheVariants as verdict
 use Rattle.pv_top.specs.declared.status.Status.{Status}
 use Rattle.pv_top.specs.declared.status.Status.TheVariants as status
+use Rattle.pv_class.proofs.CodeBytes.{HasBytes, class_bytes}
+use Rattle.pv_frame.specs.declared.program.Program.{Program}
+use Rattle.pv_frame.proofs.CauseLaws.{one_program, one_cause, accepted_or_refused}
+use Rattle.pv_top.specs.declared.reason.Reason.{Reason}
+use Rattle.pv_top.specs.declared.reason.Reason.TheVariants as reason
+use Rattle.pv_top.specs.Built.{IsStraight}
 use Rattle.pv_top.specs.Roots.{HasTree, returning}
-use Rattle.pv_top.specs.Verdicts.{HasCode, IsPartner, IsVerdict, IsVerdictOn}
+use Rattle.pv_top.specs.Verdicts.{HasCode, Meets, IsPartner, IsVerdict, IsVerdictOn}
 use Rattle.pv_top.specs.Lines.{line_text, bad_class}
 use Rattle.pv_top.specs.Report.{IsReport, IsBadText, Judged, AreEquivalent, lines_of}
-use Rattle.pv_top.proofs.Builts.{value_once}
+use Rattle.pv_top.proofs.Places.{all_at, here_again}
+use Rattle.pv_top.proofs.Stacks.{returns_once}
 
 -- ---- one tree
 
-tree_once : (m : Method) (t u : Tree) → HasTree m t → HasTree m u → t ≡ u
-tree_once m t u a b = a.tree ∙ ap returning (value_once m a.value b.value a.built b.built) ∙ sym b.tree
+-- a program returns one tree
+straight_once : (p : Program) (t u : Tree) → IsStraight p t → IsStraight p u → t ≡ u
+straight_once p t u a b = returns_once (length p.desc.params) p.actions t u a.returns b.returns
 
-tree_code : (m : Method) (t : Tree) → HasTree m t → HasCode m
-tree_code m t h = (h.built.code, h.built.has)
+tree_once : (file : ClassFile) (m : Method) (t u : Tree) → HasBytes m → HasTree file m t → HasTree file m u → t ≡ u
+tree_once file m t u bytes a b =
+    let one = one_program file m b.built.program a.built.program bytes b.built.accepted.of_method a.built.accepted.of_method in
+    let same : a.value ≡ b.value = straight_once a.built.program a.value b.value a.built.straight (subst (λ (p : Program). IsStraight p b.value) one b.built.straight) in
+    a.tree ∙ ap returning same ∙ sym b.tree
+
+tree_code : (file : ClassFile) (m : Method) (t : Tree) → HasTree file m t → HasCode m
+tree_code file m t h = (h.built.accepted.code, h.built.accepted.has)
+
+meets_code : (file : ClassFile) (m : Method) (why : Reason) → Meets file m why → HasCode m
+meets_code file m (reason.Met cause) h = (h.code, h.has)
+meets_code file m reason.NotBuilt h = (h.1.code, h.1.has)
 
 no_code : (m : Method) → m.code ≡ None → HasCode m → ⊥
 no_code m e h = absurd (let both : ◌≡◌ {A = Option Code} None (Some h.0) = sym e ∙ h.1 in cc)
 
+-- a method with a tree isn't refused
+not_refused : (file : ClassFile) (m : Method) (why : Reason) (t : Tree) → HasBytes m → Meets file m why → HasTree file m t → ⊥
+not_refused file m (reason.Met cause) t bytes h tree = accepted_or_refused file m tree.built.program cause bytes tree.built.accepted h
+not_refused file m reason.NotBuilt t bytes h tree =
+    let one = one_program file m tree.built.program h.0 bytes tree.built.accepted.of_method h.1.of_method in
+    h.2 tree.value (subst (λ (p : Program). IsStraight p tree.value) one tree.built.straight)
+
+-- it is refused for one reason
+reason_once : (file : ClassFile) (m : Method) (a b : Reason) → HasBytes m → Meets file m a → Meets file m b → a ≡ b
+reason_once file m (reason.Met a) (reason.Met b) bytes h k = ap (λ x. reason.Met x) (one_cause file m a b bytes h k)
+reason_once file m (reason.Met a) reason.NotBuilt bytes h k = absurd (accepted_or_refused file m k.0 a bytes k.1 h)
+reason_once file m reason.NotBuilt (reason.Met b) bytes h k = absurd (accepted_or_refused file m h.0 b bytes h.1 k)
+reason_once file m reason.NotBuilt reason.NotBuilt bytes h k = refl
+
 -- ---- one verdict on a method and its partner
 
--- the verdicts in their order: the method, then its partner, have code, and a tree
-first_code : (m p : Method) (v : Verdict) → IsVerdictOn m p v → (v ≡ verdict.NoCode side.First) ⊎ HasCode m
-first_code m p verdict.Missing h = absurd h
-first_code m p (verdict.NoCode side.First) h = inl refl
-first_code m p (verdict.NoCode side.Second) h = inr h.0
-first_code m p (verdict.Refused side.First cause) h = inr h.0
-first_code m p (verdict.Refused side.Second cause) h = inr (tree_code m h.0.0 h.0.1)
-first_code m p verdict.Equivalent h = inr (tree_code m h.0 h.1)
-first_code m p verdict.Apart h = inr (tree_code m h.0 h.2)
+-- what a verdict says, in the order of the verdicts: of the code of the first, of the second, of the first's reason or tree, of the second's
+data Said (f : ClassFile) (m : Method) (g : ClassFile) (p : Method) : Verdict → Type 0 where
+  no_first : m.code ≡ None → Said f m g p (verdict.NoCode side.First)
+  no_second : HasCode m → p.code ≡ None → Said f m g p (verdict.NoCode side.Second)
+  first_refused : (why : Reason) → HasCode m → HasCode p → Meets f m why → Said f m g p (verdict.Refused side.First why)
+  second_refused : (why : Reason) (t : Tree) → HasCode m → HasCode p → HasTree f m t → Meets g p why → Said f m g p (verdict.Refused side.Second why)
+  equivalent : (t : Tree) → HasCode m → HasCode p → HasTree f m t → HasTree g p t → Said f m g p verdict.Equivalent
+  apart : (t u : Tree) → HasCode m → HasCode p → HasTree f m t → HasTree g p u → t ≢ u → Said f m g p verdict.Apart
 
-second_code : (m p : Method) (v : Verdict) → IsVerdictOn m p v → (v ≡ verdict.NoCode side.First) ⊎ (v ≡ verdict.NoCode side.Second) ⊎ HasCode p
-second_code m p verdict.Missing h = absurd h
-second_code m p (verdict.NoCode side.First) h = inl refl
-second_code m p (verdict.NoCode side.Second) h = inr (inl refl)
-second_code m p (verdict.Refused side.First cause) h = inr (inr h.1)
-second_code m p (verdict.Refused side.Second cause) h = inr (inr h.1)
-second_code m p verdict.Equivalent h = inr (inr (tree_code p h.0 h.2))
-second_code m p verdict.Apart h = inr (inr (tree_code p h.1 h.3))
+said_by : (f : ClassFile) (m : Method) (g : ClassFile) (p : Method) (v : Verdict) → IsVerdictOn f m g p v → Said f m g p v
+said_by f m g p verdict.Missing h = absurd h
+said_by f m g p (verdict.NoCode side.First) h = no_first h
+said_by f m g p (verdict.NoCode side.Second) h = no_second h.0 h.1
+said_by f m g p (verdict.Refused side.First why) h = first_refused why (meets_code f m why h.1) h.0 h.1
+said_by f m g p (verdict.Refused side.Second why) h = second_refused why h.0.0 (tree_code f m h.0.0 h.0.1) (meets_code g p why h.1) h.0.1 h.1
+said_by f m g p verdict.Equivalent h = equivalent h.0 (tree_code f m h.0 h.1) (tree_code g p h.0 h.2) h.1 h.2
+said_by f m g p verdict.Apart h = apart h.0 h.1 (tree_code f m h.0 h.2) (tree_code g p h.1 h.3) h.2 h.3 h.4
 
-verdict_once : (m p : Method) (v w : Verdict) → IsVerdictOn m p v → IsVerdictOn m p w → v ≡ w
-verdict_once m p verdict.Missing w h k = absurd h
-verdict_once m p (verdict.NoCode side.First) w h k = elim (first_code m p w k) [ inl e ↦ sym e | inr c ↦ absurd (no_code m h c) ]
-verdict_once m p v verdict.Missing h k = absurd k
-verdict_once m p (verdict.NoCode side.Second) (verdict.NoCode side.First) h k = absurd (no_code m k h.0)
-verdict_once m p (verdict.NoCode side.Second) (verdict.NoCode side.Second) h k = refl
-verdict_once m p (verdict.NoCode side.Second) (verdict.Refused side.First c) h k = absurd (no_code p h.1 k.1)
-verdict_once m p (verdict.NoCode side.Second) (verdict.Refused side.Second c) h k = absurd (no_code p h.1 k.1)
-verdict_once m p (verdict.NoCode side.Second) verdict.Equivalent h k = absurd (no_code p h.1 (tree_code p k.0 k.2))
-verdict_once m p (verdict.NoCode side.Second) verdict.Apart h k = absurd (no_code p h.1 (tree_code p k.1 k.3))
-verdict_once m p (verdict.Refused side.First b) (verdict.NoCode side.First) h k = absurd (no_code m k h.0)
-verdict_once m p (verdict.Refused side.First b) (verdict.NoCode side.Second) h k = absurd (no_code p k.1 h.1)
-verdict_once m p (verdict.Refused side.First b) (verdict.Refused side.First c) h k = ap (λ x. verdict.Refused side.First x) (h.2.0 ∙ sym k.2.0)
-verdict_once m p (verdict.Refused side.First b) (verdict.Refused side.Second c) h k = absurd (h.2.1 k.0.0 k.0.1)
-verdict_once m p (verdict.Refused side.First b) verdict.Equivalent h k = absurd (h.2.1 k.0 k.1)
-verdict_once m p (verdict.Refused side.First b) verdict.Apart h k = absurd (h.2.1 k.0 k.2)
-verdict_once m p (verdict.Refused side.Second b) (verdict.NoCode side.First) h k = absurd (no_code m k (tree_code m h.0.0 h.0.1))
-verdict_once m p (verdict.Refused side.Second b) (verdict.NoCode side.Second) h k = absurd (no_code p k.1 h.1)
-verdict_once m p (verdict.Refused side.Second b) (verdict.Refused side.First c) h k = absurd (k.2.1 h.0.0 h.0.1)
-verdict_once m p (verdict.Refused side.Second b) (verdict.Refused side.Second c) h k = ap (λ x. verdict.Refused side.Second x) (h.2.0 ∙ sym k.2.0)
-verdict_once m p (verdict.Refused side.Second b) verdict.Equivalent h k = absurd (h.2.1 k.0 k.2)
-verdict_once m p (verdict.Refused side.Second b) verdict.Apart h k = absurd (h.2.1 k.1 k.3)
-verdict_once m p verdict.Equivalent (verdict.NoCode side.First) h k = absurd (no_code m k (tree_code m h.0 h.1))
-verdict_once m p verdict.Equivalent (verdict.NoCode side.Second) h k = absurd (no_code p k.1 (tree_code p h.0 h.2))
-verdict_once m p verdict.Equivalent (verdict.Refused side.First c) h k = absurd (k.2.1 h.0 h.1)
-verdict_once m p verdict.Equivalent (verdict.Refused side.Second c) h k = absurd (k.2.1 h.0 h.2)
-verdict_once m p verdict.Equivalent verdict.Equivalent h k = refl
-verdict_once m p verdict.Equivalent verdict.Apart h k = absurd (k.4 (tree_once m k.0 h.0 k.2 h.1 ∙ tree_once p h.0 k.1 h.2 k.3))
-verdict_once m p verdict.Apart (verdict.NoCode side.First) h k = absurd (no_code m k (tree_code m h.0 h.2))
-verdict_once m p verdict.Apart (verdict.NoCode side.Second) h k = absurd (no_code p k.1 (tree_code p h.1 h.3))
-verdict_once m p verdict.Apart (verdict.Refused side.First c) h k = absurd (k.2.1 h.0 h.2)
-verdict_once m p verdict.Apart (verdict.Refused side.Second c) h k = absurd (k.2.1 h.1 h.3)
-verdict_once m p verdict.Apart verdict.Equivalent h k = absurd (h.4 (tree_once m h.0 k.0 h.2 k.1 ∙ tree_once p k.0 h.1 k.2 h.3))
-verdict_once m p verdict.Apart verdict.Apart h k = refl
+said_once : (f : ClassFile) (m : Method) (g : ClassFile) (p : Method) (v w : Verdict) → HasBytes m → HasBytes p → Said f m g p v → Said f m g p w → v ≡ w
+said_once f m g p v w x y (no_first e) (no_first d) = refl
+said_once f m g p v w x y (no_first e) (no_second c d) = absurd (no_code m e c)
+said_once f m g p v w x y (no_first e) (first_refused why c d h) = absurd (no_code m e c)
+said_once f m g p v w x y (no_first e) (second_refused why t c d h k) = absurd (no_code m e c)
+said_once f m g p v w x y (no_first e) (equivalent t c d h k) = absurd (no_code m e c)
+said_once f m g p v w x y (no_first e) (apart t u c d h k n) = absurd (no_code m e c)
+said_once f m g p v w x y (no_second a e) (no_first d) = absurd (no_code m d a)
+said_once f m g p v w x y (no_second a e) (no_second c d) = refl
+said_once f m g p v w x y (no_second a e) (first_refused why c d h) = absurd (no_code p e d)
+said_once f m g p v w x y (no_second a e) (second_refused why t c d h k) = absurd (no_code p e d)
+said_once f m g p v w x y (no_second a e) (equivalent t c d h k) = absurd (no_code p e d)
+said_once f m g p v w x y (no_second a e) (apart t u c d h k n) = absurd (no_code p e d)
+said_once f m g p v w x y (first_refused why a b h) (no_first d) = absurd (no_code m d a)
+said_once f m g p v w x y (first_refused why a b h) (no_second c d) = absurd (no_code p d b)
+said_once f m g p v w x y (first_refused why a b h) (first_refused other c d k) = ap (λ r. verdict.Refused side.First r) (reason_once f m why other x h k)
+said_once f m g p v w x y (first_refused why a b h) (second_refused other t c d k l) = absurd (not_refused f m why t x h k)
+said_once f m g p v w x y (first_refused why a b h) (equivalent t c d k l) = absurd (not_refused f m why t x h k)
+said_once f m g p v w x y (first_refused why a b h) (apart t u c d k l n) = absurd (not_refused f m why t x h k)
+said_once f m g p v w x y (second_refused why t a b h k) (no_first d) = absurd (no_code m d a)
+said_once f m g p v w x y (second_refused why t a b h k) (no_second c d) = absurd (no_code p d b)
+said_once f m g p v w x y (second_refused why t a b h k) (first_refused other c d l) = absurd (not_refused f m other t x l h)
+said_once f m g p v w x y (second_refused why t a b h k) (second_refused other u c d l n) = ap (λ r. verdict.Refused side.Second r) (reason_once g p why other y k n)
+said_once f m g p v w x y (second_refused why t a b h k) (equivalent u c d l n) = absurd (not_refused g p why u y k n)
+said_once f m g p v w x y (second_refused why t a b h k) (apart u z c d l n o) = absurd (not_refused g p why z y k n)
+said_once f m g p v w x y (equivalent t a b h k) (no_first d) = absurd (no_code m d a)
+said_once f m g p v w x y (equivalent t a b h k) (no_second c d) = absurd (no_code p d b)
+said_once f m g p v w x y (equivalent t a b h k) (first_refused why c d l) = absurd (not_refused f m why t x l h)
+said_once f m g p v w x y (equivalent t a b h k) (second_refused why u c d l n) = absurd (not_refused g p why t y n k)
+said_once f m g p v w x y (equivalent t a b h k) (equivalent u c d l n) = refl
+said_once f m g p v w x y (equivalent t a b h k) (apart u z c d l n o) = absurd (o (tree_once f m u t x l h ∙ tree_once g p t z y k n))
+said_once f m g p v w x y (apart t u a b h k o) (no_first d) = absurd (no_code m d a)
+said_once f m g p v w x y (apart t u a b h k o) (no_second c d) = absurd (no_code p d b)
+said_once f m g p v w x y (apart t u a b h k o) (first_refused why c d l) = absurd (not_refused f m why t x l h)
+said_once f m g p v w x y (apart t u a b h k o) (second_refused why z c d l n) = absurd (not_refused g p why u y n k)
+said_once f m g p v w x y (apart t u a b h k o) (equivalent z c d l n) = absurd (o (tree_once f m t z x h l ∙ tree_once g p z u y n k))
+said_once f m g p v w x y (apart t u a b h k o) (apart z q c d l n r) = refl
 
--- ---- one partner
+verdict_once : (f : ClassFile) (m : Method) (g : ClassFile) (p : Method) (v w : Verdict) → HasBytes m → HasBytes p → IsVerdictOn f m g p v → IsVerdictOn f m g p w → v ≡ w
+verdict_once f m g p v w x y h k = said_once f m g p v w x y (said_by f m g p v h) (said_by f m g p w k)
 
-placed : (ms : List Method) (k : ℕ) (m : Method) → k < length ms → get_or ms k m ≡ m → slice_get ms k ≡ Some m
-placed [] k m lt e = absurd (omega arith)
-placed (x ∷ ms) zero m lt e = ap (λ (y : Method). Some y) e
-placed (x ∷ ms) (suc k) m lt e = placed ms k m (omega arith) e
+-- ---- one verdict on a method
+
+placed : (others : List Method) (i : ℕ) (p : Method) → i < length others → get_or others i p ≡ p → slice_get others i ≡ Some p
+placed others i p lt is = here_again others i p lt (sym is)
 
 same_some : (p q : Method) → ◌≡◌ {A = Option Method} (Some p) (Some q) → p ≡ q
 same_some p q e = cc e
@@ -109,25 +144,25 @@ partner_once m others p q distinct a b =
     same_some p q (sym first ∙ ap (slice_get others) one ∙ second)
 
 -- what a verdict says, by whether there is a partner
-with_partner : (m : Method) (others : List Method) (v : Verdict) → IsVerdict m others v → ((v ≡ verdict.Missing) × ((p : Method) → IsPartner m others p → ⊥)) ⊎ ((p : Method) × IsPartner m others p × IsVerdictOn m p v)
-with_partner m others verdict.Missing h = inl (refl, h)
-with_partner m others (verdict.NoCode s) h = inr h
-with_partner m others (verdict.Refused s c) h = inr h
-with_partner m others verdict.Equivalent h = inr h
-with_partner m others verdict.Apart h = inr h
+with_partner : (f g : ClassFile) (m : Method) (v : Verdict) → IsVerdict f g m v → ((v ≡ verdict.Missing) × ((p : Method) → IsPartner m g.methods p → ⊥)) ⊎ ((p : Method) × IsPartner m g.methods p × IsVerdictOn f m g p v)
+with_partner f g m verdict.Missing h = inl (refl, h)
+with_partner f g m (verdict.NoCode s) h = inr h
+with_partner f g m (verdict.Refused s c) h = inr h
+with_partner f g m verdict.Equivalent h = inr h
+with_partner f g m verdict.Apart h = inr h
 
-line_once : (m : Method) (others : List Method) (v w : Verdict) → AreDistinct others → IsVerdict m others v → IsVerdict m others w → v ≡ w
-line_once m others v w distinct h k =
-    elim (with_partner m others v h) [
+line_once : (f g : ClassFile) (m : Method) (v w : Verdict) → AreDistinct g.methods → HasBytes m → AllByRecursion HasBytes g.methods → IsVerdict f g m v → IsVerdict f g m w → v ≡ w
+line_once f g m v w distinct x all h k =
+    elim (with_partner f g m v h) [
       | inl a ↦
-          elim (with_partner m others w k) [
+          elim (with_partner f g m w k) [
             | inl b ↦ a.0 ∙ sym b.0
             | inr b ↦ absurd (a.1 b.0 b.1)
           ]
       | inr a ↦
-          elim (with_partner m others w k) [
+          elim (with_partner f g m w k) [
             | inl b ↦ absurd (b.1 a.0 a.1)
-            | inr b ↦ verdict_once m a.0 v w a.2 (subst (λ (p : Method). IsVerdictOn m p w) (partner_once m others b.0 a.0 distinct b.1 a.1) b.2)
+            | inr b ↦ verdict_once f m g a.0 v w x (all_at HasBytes g.methods a.0 all a.1.among) a.2 (subst (λ (p : Method). IsVerdictOn f m g p w) (partner_once m g.methods b.0 a.0 distinct b.1 a.1) b.2)
           ]
     ]
 
@@ -150,15 +185,15 @@ not_both bytes f b fits p q =
 
 -- ---- one report
 
-verdicts_once : (methods others : List Method) (vs ws : List Verdict) → AreDistinct others → AllZip (λ m v. IsVerdict m others v) methods vs → AllZip (λ m v. IsVerdict m others v) methods ws → vs ≡ ws
-verdicts_once [] others [] [] distinct h k = refl
-verdicts_once [] others [] (w ∷ ws) distinct h k = absurd k
-verdicts_once [] others (v ∷ vs) ws distinct h k = absurd h
-verdicts_once (m ∷ methods) others [] ws distinct h k = absurd h
-verdicts_once (m ∷ methods) others (v ∷ vs) [] distinct h k = absurd k
-verdicts_once (m ∷ methods) others (v ∷ vs) (w ∷ ws) distinct h k =
-    let one = line_once m others v w distinct h.0 k.0 in
-    let rest = verdicts_once methods others vs ws distinct h.1 k.1 in
+verdicts_once : (f g : ClassFile) (methods : List Method) (vs ws : List Verdict) → AreDistinct g.methods → AllByRecursion HasBytes methods → AllByRecursion HasBytes g.methods → AllZip (IsVerdict f g) methods vs → AllZip (IsVerdict f g) methods ws → vs ≡ ws
+verdicts_once f g [] [] [] distinct x all h k = refl
+verdicts_once f g [] [] (w ∷ ws) distinct x all h k = absurd k
+verdicts_once f g [] (v ∷ vs) ws distinct x all h k = absurd h
+verdicts_once f g (m ∷ methods) [] ws distinct x all h k = absurd h
+verdicts_once f g (m ∷ methods) (v ∷ vs) [] distinct x all h k = absurd k
+verdicts_once f g (m ∷ methods) (v ∷ vs) (w ∷ ws) distinct x all h k =
+    let one = line_once f g m v w distinct x.0 all h.0 k.0 in
+    let rest = verdicts_once f g methods vs ws distinct x.1 all h.1 k.1 in
     cc (one, rest)
 
 report_once : (a b t u : List ℕ) (vs ws : List Verdict) → IsBytes a → IsBytes b → IsReport a b vs t → IsReport a b ws u → (vs ≡ ws) × (t ≡ u)
@@ -166,9 +201,8 @@ report_once a b t u vs ws m n r s =
     let first : s.first ≡ r.first = file_once a s.first r.first m s.first_is r.first_is in
     let second : s.second ≡ r.second = file_once b s.second r.second n s.second_is r.second_is in
     let methods : s.first.methods ≡ r.first.methods = ap (λ (f : ClassFile). f.methods) first in
-    let others : s.second.methods ≡ r.second.methods = ap (λ (f : ClassFile). f.methods) second in
-    let each = subst (λ (os : List Method). AllZip (λ m v. IsVerdict m os v) r.first.methods ws) others (subst (λ (ms : List Method). AllZip (λ m v. IsVerdict m s.second.methods v) ms ws) methods s.each) in
-    let one = verdicts_once r.first.methods r.second.methods vs ws r.second_is.describes.distinct r.each each in
+    let each : AllZip (IsVerdict r.first r.second) r.first.methods ws = subst (λ (g : ClassFile). AllZip (IsVerdict r.first g) r.first.methods ws) second (subst (λ (f : ClassFile). AllZip (IsVerdict f s.second) f.methods ws) first s.each) in
+    let one = verdicts_once r.first r.second r.first.methods vs ws r.second_is.describes.distinct (class_bytes a r.first m r.first_is) (class_bytes b r.second n r.second_is) r.each each in
     (one, r.text_is ∙ ap (λ (xs : List Verdict). flat_map line_text (lines_of r.first.methods xs)) one ∙ ap (λ (ms : List Method). flat_map line_text (lines_of ms ws)) (sym methods) ∙ sym s.text_is)
 
 -- a judgement by what was read

@@ -1,31 +1,32 @@
--- A run of a method whose straight-line code returns the value of a tree.
+-- A run of a program whose straight-line code returns the value of a tree.
 use Rattle.std.proofs.Common.{◌≡◌, ℕ, zero, suc, ◌+◌, ◌-◌, ◌<◌, ℤ, List, [], ◌∷◌, ◌++◌, length, Bool, false, Option, Some, None, refl, sym, ap, subst, ◌∙◌, arith, append_assoc, length-append}
-use Rattle.std.specs.Prelude.{slice_get, replicate}
+use Rattle.std.specs.Prelude.{slice_get, replicate, unwrap_or, option_map}
 use Rattle.std.specs.List.{AllByRecursion, AllZip, flat_map}
 use Rattle.std.proofs.lemmas.List.{append-nil}
 use Rattle.pv_value.specs.declared.number.Num.{Num}
 use Rattle.pv_value.specs.declared.number.Num.TheVariants as num
 use Rattle.pv_value.specs.declared.descriptor.JType.{JType}
 use Rattle.pv_value.specs.declared.descriptor.JType.TheVariants as type
+use Rattle.pv_value.specs.declared.operation.ScalarOp.{ScalarOp}
 use Rattle.pv_value.specs.declared.int_op.IntOp.{IntOp}
+use Rattle.pv_value.specs.declared.int_op.IntOp.TheVariants.{Iadd, Isub, Imul}
 use Rattle.pv_value.specs.declared.world.World.{World}
 use Rattle.pv_value.specs.declared.outcome.Input.{Input}
 use Rattle.pv_value.specs.declared.outcome.Val.TheVariants as val
 use Rattle.pv_value.specs.declared.outcome.Outcome.TheVariants.{Returned}
 use Rattle.pv_value.specs.Inputs.{IsOfType, Fits}
-use Rattle.pv_value.specs.IntOps.{scalar_of}
-use Rattle.pv_class.specs.declared.instruction.Insn.{Insn}
-use Rattle.pv_class.specs.declared.instruction.Action.{Action}
-use Rattle.pv_class.specs.declared.instruction.Action.TheVariants.{Nop, Push, Load, Scalar, ReturnInt, Unknown}
-use Rattle.pv_class.specs.Actions.{action}
-use Rattle.pv_class.specs.Machine.{Program, State, running, perform, perform_at, loaded, computed, go_on, after, start, passed, padded, locals_of, return_as, RunEnds}
-use Rattle.pv_class.proofs.Running.{after_none, after_more}
+use Rattle.pv_value.specs.IntOps.{operation, scalar_of}
+use Rattle.pv_frame.specs.declared.sort.Sort.TheVariants as sorts
+use Rattle.pv_frame.specs.declared.action.Action.{Action}
+use Rattle.pv_frame.specs.declared.action.Action.TheVariants as act
+use Rattle.pv_frame.specs.declared.program.Program.{Program}
+use Rattle.pv_machine.specs.Machine.{State, Now, running, ended, perform, perform_at, go_on, after, start, passed, padded, locals_of, given, RunEnds}
 use Rattle.pv_graph.specs.declared.node.Op.TheVariants as op
 use Rattle.pv_graph.specs.declared.node.OpSort.TheVariants as sort
 use Rattle.pv_graph.specs.Denote.{number_of}
 use Rattle.pv_graph.specs.Trees.{Tree, over, none, first}
 use Rattle.pv_graph.specs.Finite.{tree_value}
-use Rattle.pv_top.specs.Built.{leaf, Lays, LaysAll, ReturnsTree}
+use Rattle.pv_top.specs.Built.{leaf, over_two, Lays, LaysAll, IsStraight}
 
 -- ---- what the locals hold
 
@@ -76,7 +77,7 @@ gives_param : (w : World) (x : Input) (k : ℕ) (n : ℤ) → slice_get x.args k
 unfolding tree_value
 gives_param w x k n e = ap (λ (o : Option Num). Some (val.Num (number_of sort.I o))) e
 
-gives_scalar : (w : World) (x : Input) (o : IntOp) (a b : Tree) (n m : ℤ) → Gives w x a n → Gives w x b m → Gives w x (over (op.Scalar o) (first a (first b none))) (scalar_of o n m)
+gives_scalar : (w : World) (x : Input) (o : IntOp) (a b : Tree) (n m : ℤ) → Gives w x a n → Gives w x b m → Gives w x (over_two (op.Scalar o) a b) (scalar_of o n m)
 unfolding tree_value
 gives_scalar w x o a b n m p q = rw (p, q) refl
 
@@ -87,40 +88,48 @@ abbrev state : Program → Input → ℕ → List ℤ → State
 state p input at stack = record { at = at; stack = numbers stack; locals = (start p input).locals; heap = input.heap }
 
 -- what an action makes of the trees, it makes of their values
-record Steps (p : Program) (w : World) (input : Input) (at : ℕ) (act : Action) (ns : List ℤ) (t : List Tree) : Type 0 where
+record Steps (p : Program) (w : World) (input : Input) (at : ℕ) (a : Action) (ns : List ℤ) (t : List Tree) : Type 0 where
   ms : List ℤ
   give : AllGive w input t ms
-  goes : perform p (state p input at ns) act ≡ running (state p input (at + 1) ms)
+  goes : perform p w (state p input at ns) a ≡ running (state p input (suc at) ms)
 
 two_operands : (w : World) (x : Input) (a b : Tree) (rest : List Tree) (ns : List ℤ) → AllGive w x (b ∷ a ∷ rest) ns → (n : ℤ) × (m : ℤ) × (ms : List ℤ) × (ns ≡ m ∷ n ∷ ms) × Gives w x a n × Gives w x b m × AllGive w x rest ms
 two_operands w x a b rest [] h = absurd h
 two_operands w x a b rest (m ∷ []) h = absurd h.1
 two_operands w x a b rest (m ∷ n ∷ ms) h = (n, m, ms, refl, h.1.0, h.0, h.1.1)
 
-steps : (p : Program) (w : World) (input : Input) (at params : ℕ) (act : Action) (s t : List Tree) (ns : List ℤ) → ((k : ℕ) → k < params → HoldsInt p input k) → Lays params act s t → AllGive w input s ns → Steps p w input at act ns t
-steps p w input at params Nop s t ns hold lays give = record { ms = ns; give = subst (λ (l : List Tree). AllGive w input l ns) (sym lays) give; goes = refl }
-steps p w input at params (Push n) s t ns hold lays give =
+-- an operation takes its two operands from the stack
+computes : (p : Program) (w : World) (input : Input) (at : ℕ) (i : IntOp) (n m : ℤ) (ms : List ℤ) → perform p w (state p input at (m ∷ n ∷ ms)) (act.Scalar (operation i)) ≡ running (state p input (suc at) (scalar_of i n m ∷ ms))
+computes p w input at Iadd n m ms = refl
+computes p w input at Isub n m ms = refl
+computes p w input at Imul n m ms = refl
+
+steps : (p : Program) (w : World) (input : Input) (at params : ℕ) (a : Action) (s t : List Tree) (ns : List ℤ) → ((k : ℕ) → k < params → HoldsInt p input k) → Lays params a s t → AllGive w input s ns → Steps p w input at a ns t
+steps p w input at params act.Nop s t ns hold lays give = record { ms = ns; give = subst (λ (l : List Tree). AllGive w input l ns) (sym lays) give; goes = refl }
+steps p w input at params (act.Push (num.Int n)) s t ns hold lays give =
     record { ms = n ∷ ns; give = subst (λ (l : List Tree). AllGive w input l (n ∷ ns)) (sym lays) (gives_const w input n, give); goes = refl }
-steps p w input at params (Load k) s t ns hold (lt, is) give =
+steps p w input at params (act.Load sorts.Int k) s t ns hold (lt, is) give =
     let held = hold k lt in
     record {
       ms = held.n ∷ ns;
       give = subst (λ (l : List Tree). AllGive w input l (held.n ∷ ns)) (sym is) (gives_param w input k held.n held.argument, give);
-      goes = ap (loaded (state p input at ns)) held.local;
+      goes = rw held.local refl;
     }
-steps p w input at params (Scalar o) s t ns hold (a, b, rest, e, is) give =
+steps p w input at params (act.Scalar o) s t ns hold (i, is_i, a, b, rest, e, is) give =
     let given : AllGive w input (b ∷ a ∷ rest) ns = subst (λ (l : List Tree). AllGive w input l ns) e give in
     let two = two_operands w input a b rest ns given in
     let n = two.0 in
     let m = two.1 in
     let ms = two.2 in
     record {
-      ms = scalar_of o n m ∷ ms;
-      give = subst (λ (l : List Tree). AllGive w input l (scalar_of o n m ∷ ms)) (sym is) (gives_scalar w input o a b n m two.4 two.5, two.6);
-      goes = ap (λ (l : List ℤ). computed (state p input at l) o (numbers l)) two.3;
+      ms = scalar_of i n m ∷ ms;
+      give = subst (λ (l : List Tree). AllGive w input l (scalar_of i n m ∷ ms)) (sym is) (gives_scalar w input i a b n m two.4 two.5, two.6);
+      goes =
+          ap (λ (l : List ℤ). perform p w (state p input at l) (act.Scalar o)) two.3
+          ∙ ap (λ (x : ScalarOp). perform p w (state p input at (m ∷ n ∷ ms)) (act.Scalar x)) (sym is_i)
+          ∙ computes p w input at i n m ms;
     }
-steps p w input at params ReturnInt s t ns hold lays give = absurd lays
-steps p w input at params Unknown s t ns hold lays give = absurd lays
+steps p w input at params a s t ns hold lays give = absurd lays
 
 -- ---- runs
 
@@ -128,59 +137,70 @@ steps p w input at params Unknown s t ns hold lays give = absurd lays
 abbrev Comes : Program → World → Input → ℕ → List ℤ → Type 0
 Comes p w input at stack = (n : ℕ) × (after p w (start p input) n ≡ running (state p input at stack))
 
-get_behind : (done : List Insn) (insn : Insn) (rest : List Insn) → slice_get (done ++ insn ∷ rest) (length done) ≡ Some insn
-get_behind [] insn rest = refl
-get_behind (x ∷ done) insn rest = get_behind done insn rest
+after_none : (p : Program) (w : World) (s : State) → after p w s zero ≡ running s
+unfolding after
+after_none p w s = refl
 
--- one step, at an instruction that is known
-one_step : (p : Program) (w : World) (input : Input) (done rest : List Insn) (insn : Insn) (ns : List ℤ) (c : Comes p w input (length done) ns) → p.insns ≡ done ++ insn ∷ rest
-    → after p w (start p input) (suc c.0) ≡ perform p (state p input (length done) ns) (action insn)
-one_step p w input done rest insn ns c e =
-    let found : slice_get p.insns (length done) ≡ Some insn = ap (λ (l : List Insn). slice_get l (length done)) e ∙ get_behind done insn rest in
-    after_more p w (start p input) c.0 ∙ ap (go_on p w) c.1 ∙ ap (perform_at p (state p input (length done) ns)) found
+after_more : (p : Program) (w : World) (s : State) (n : ℕ) → after p w s (suc n) ≡ go_on p w (after p w s n)
+unfolding after
+after_more p w s n = refl
 
--- the machine comes behind these instructions, with the values of the trees
-record ComesBehind (p : Program) (w : World) (input : Input) (done : List Insn) (t : List Tree) : Type 0 where
+get_after : (done : List Action) (a : Action) (rest : List Action) → slice_get (done ++ a ∷ rest) (length done) ≡ Some a
+get_after [] a rest = refl
+get_after (x ∷ done) a rest = get_after done a rest
+
+-- one step, at an action that is known
+one_step : (p : Program) (w : World) (input : Input) (done rest : List Action) (a : Action) (ns : List ℤ) (c : Comes p w input (length done) ns) → p.actions ≡ done ++ a ∷ rest
+    → after p w (start p input) (suc c.0) ≡ perform p w (state p input (length done) ns) a
+one_step p w input done rest a ns c e =
+    let found : slice_get p.actions (length done) ≡ Some a = ap (λ (l : List Action). slice_get l (length done)) e ∙ get_after done a rest in
+    after_more p w (start p input) c.0 ∙ ap (go_on p w) c.1 ∙ ap (perform_at p w (state p input (length done) ns)) found
+
+-- the machine comes to the place after these actions, with the values of the trees
+record ComesAfter (p : Program) (w : World) (input : Input) (done : List Action) (t : List Tree) : Type 0 where
   ms : List ℤ
   give : AllGive w input t ms
   comes : Comes p w input (length done) ms
 
-walk : (p : Program) (w : World) (input : Input) (params : ℕ) → ((k : ℕ) → k < params → HoldsInt p input k) → (done front rest : List Insn) (s t : List Tree) → p.insns ≡ done ++ (front ++ rest) → LaysAll params front s t → ComesBehind p w input done s
-    → ComesBehind p w input (done ++ front) t
+walk : (p : Program) (w : World) (input : Input) (params : ℕ) → ((k : ℕ) → k < params → HoldsInt p input k) → (done front rest : List Action) (s t : List Tree) → p.actions ≡ done ++ (front ++ rest) → LaysAll params front s t → ComesAfter p w input done s
+    → ComesAfter p w input (done ++ front) t
 walk p w input params hold done [] rest s t e laid c =
-    subst (λ (l : List Insn). ComesBehind p w input l t) (sym (append-nil done)) (subst (λ (u : List Tree). ComesBehind p w input done u) (sym laid) c)
-walk p w input params hold done (insn ∷ front) rest s t e (m, lays, laid) c =
-    let longer : length (done ++ insn ∷ []) ≡ length done + 1 = omega (arith, length-append done (insn ∷ [])) in
-    let next = steps p w input (length done) params (action insn) s m c.ms hold lays c.give in
-    let there = one_step p w input done (front ++ rest) insn c.ms c.comes e ∙ next.goes in
-    let come : ComesBehind p w input (done ++ insn ∷ []) m = record { ms = next.ms; give = next.give; comes = (suc c.comes.0, there ∙ ap (λ (k : ℕ). running (state p input k next.ms)) (sym longer)) } in
-    let regrouped = append_assoc done (insn ∷ []) (front ++ rest) in
-    subst (λ (l : List Insn). ComesBehind p w input l t) (append_assoc done (insn ∷ []) front) (walk p w input params hold (done ++ insn ∷ []) front rest m t (e ∙ sym regrouped) laid come)
+    subst (λ (l : List Action). ComesAfter p w input l t) (sym (append-nil done)) (subst (λ (u : List Tree). ComesAfter p w input done u) (sym laid) c)
+walk p w input params hold done (a ∷ front) rest s t e (m, lays, laid) c =
+    let longer : length (done ++ a ∷ []) ≡ suc (length done) = omega (arith, length-append done (a ∷ [])) in
+    let next = steps p w input (length done) params a s m c.ms hold lays c.give in
+    let there = one_step p w input done (front ++ rest) a c.ms c.comes e ∙ next.goes in
+    let come : ComesAfter p w input (done ++ a ∷ []) m = record { ms = next.ms; give = next.give; comes = (suc c.comes.0, there ∙ ap (λ (k : ℕ). running (state p input k next.ms)) (sym longer)) } in
+    let regrouped = append_assoc done (a ∷ []) (front ++ rest) in
+    subst (λ (l : List Action). ComesAfter p w input l t) (append_assoc done (a ∷ []) front) (walk p w input params hold (done ++ a ∷ []) front rest m t (e ∙ sym regrouped) laid come)
 
--- what instructions that return a tree end with
+-- what a program that returns a tree ends with
 pub record EndsWith (p : Program) (w : World) (input : Input) (value : Tree) : Type 0 where
   pub n : ℤ
   pub gives : tree_value w input value ≡ Some (val.Num (num.Int n))
   pub ends : RunEnds p w input (Returned (Some (num.Int n)) input.heap)
 
-returns_top : (p : Program) (w : World) (input : Input) (front : List Insn) (last : Insn) (value : Tree) (below : List Tree) → p.desc.result ≡ Some type.I → p.insns ≡ front ++ last ∷ [] → action last ≡ ReturnInt → ComesBehind p w input front (value ∷ below) → EndsWith p w input value
-returns_top p w input front last value below result e act c = top c.ms c.give c.comes
+-- it returns the int on top
+gives_top : (p : Program) (w : World) (input : Input) (at : ℕ) (n : ℤ) (ms : List ℤ) → p.desc.result ≡ Some type.I → perform p w (state p input at (n ∷ ms)) (act.Give (Some sorts.Int)) ≡ ended (Returned (Some (num.Int n)) input.heap)
+gives_top p w input at n ms result = ap (λ (t : Option JType). unwrap_or (given (record (state p input at ms) { stack = numbers ms }) t (num.Int n ∷ [])) (running (state p input at (n ∷ ms)))) result
+
+returns_top : (p : Program) (w : World) (input : Input) (front : List Action) (last : Action) (value : Tree) (below : List Tree) → p.desc.result ≡ Some type.I → p.actions ≡ front ++ last ∷ [] → last ≡ act.Give (Some sorts.Int) → ComesAfter p w input front (value ∷ below) → EndsWith p w input value
+returns_top p w input front last value below result e is c = top c.ms c.give c.comes
   where
     top : (ms : List ℤ) → AllGive w input (value ∷ below) ms → Comes p w input (length front) ms → EndsWith p w input value
     top [] give comes = absurd give
     top (n ∷ ms) give comes =
-        let at = state p input (length front) (n ∷ ms) in
         record {
           n = n;
           gives = give.0;
-          ends = (suc comes.0, one_step p w input front [] last (n ∷ ms) comes e ∙ ap (perform p at) act ∙ ap (λ (t : Option JType). return_as at t (num.Int n ∷ numbers ms)) result);
+          ends = (suc comes.0, one_step p w input front [] last (n ∷ ms) comes e ∙ ap (perform p w (state p input (length front) (n ∷ ms))) is ∙ gives_top p w input (length front) n ms result);
         }
 
--- a program of ints whose instructions return a tree ends with its value, at the heap at its start
-pub returns_value : (p : Program) (w : World) (input : Input) (value : Tree) → p.instance ≡ false → AllByRecursion (λ t. t ≡ type.I) p.desc.params → p.desc.result ≡ Some type.I → Fits p.desc input → ReturnsTree (length p.desc.params) p.insns value
-    → EndsWith p w input value
-returns_value p w input value static ints result fits r =
-    let hold = λ (k : ℕ) (lt : k < length p.desc.params). holds_int p input k static ints fits lt in
-    let begin : ComesBehind p w input [] [] = record { ms = []; give = tt; comes = (0, after_none p w (start p input)) } in
+-- a straight program ends with the value of its tree, at the heap at its start
+pub returns_value : (p : Program) (w : World) (input : Input) (value : Tree) → Fits p.desc input → IsStraight p value → EndsWith p w input value
+returns_value p w input value fits is =
+    let r = is.returns in
+    let hold = λ (k : ℕ) (lt : k < length p.desc.params). holds_int p input k is.static is.ints.params fits lt in
+    let begin : ComesAfter p w input [] [] = record { ms = []; give = tt; comes = (0, after_none p w (start p input)) } in
     let come = walk p w input (length p.desc.params) hold [] r.front (r.last ∷ []) [] (value ∷ r.below) r.spelled r.laid begin in
-    returns_top p w input r.front r.last value r.below result r.spelled r.returned come
+    returns_top p w input r.front r.last value r.below is.ints.result_is r.spelled r.returned come

@@ -3,54 +3,31 @@ use Rattle.std.proofs.Common.{◌≡◌, ℕ, ◌+◌, ◌≤◌, ◌/◌, ◌%�
 use Rattle.std.specs.Prelude.{codes, decimal, nat_le, nat_lt, ◌==◌, ◌&&◌, not}
 use Rattle.std.specs.List.{AllZip, flat_map, Contains}
 use Rattle.std.proofs.lemmas.Bool.{leb-true, eq-eqb}
-use Rattle.std.proofs.lemmas.Fmt.{decimal_digit}
 use Rattle.std.proofs.lemmas.List.Concat.{flat_map-cons}
 use Rattle.std.proofs.lemmas.List.Elements.{Contains-append_right}
 use Rattle.pv_class.specs.declared.file.Method.{Method}
-use Rattle.pv_top.specs.declared.cause.Cause.{Cause}
-use Rattle.pv_top.specs.declared.cause.CauseKind.TheVariants as kind
+use Rattle.pv_class.specs.declared.file.ClassFile.{ClassFile}
+use Rattle.pv_frame.specs.declared.cause.CauseKind.{CauseKind}
+use Rattle.pv_frame.specs.declared.cause.CauseKind.TheVariants as kind
+use Rattle.pv_top.specs.declared.reason.Reason.{Reason}
+use Rattle.pv_top.specs.declared.reason.Reason.TheVariants as reason
 use Rattle.pv_top.specs.declared.verdict.Side.{Side}
 use Rattle.pv_top.specs.declared.verdict.Side.TheVariants as side
 use Rattle.pv_top.specs.declared.verdict.Verdict.{Verdict}
 use Rattle.pv_top.specs.declared.verdict.Verdict.TheVariants as verdict
 use Rattle.pv_top.specs.Verdicts.{IsVerdict}
-use Rattle.pv_top.specs.Lines.{hex_digit, shown, shown_byte, cause_text, side_word, verdict_text, line_of, line_text}
+use Rattle.pv_top.specs.Lines.{shown, kind_word, reason_word, address_of, reason_text, side_word, verdict_text, line_of, line_text}
 use Rattle.pv_top.specs.Report.{lines_of}
 use Rattle.pv_top.specs.Run.{IsLineOf, EndsWith}
 use Rattle.pv_top.proofs.WholeLines.{IsWhole, no_line_of_nothing, first_or_later}
-use Rattle.pv_top.proofs.Decimals.{last_digit}
+use Rattle.pv_top.proofs.Decimals.{last_digit, whole_decimal}
+use Rattle.pv_top.proofs.Naming.{lacks_append, shown_lacks}
 
 pub whole_append : (a b : List ℕ) → IsWhole a → IsWhole b → IsWhole (a ++ b)
-whole_append [] b p q = q
-whole_append (c ∷ a) b p q = (p.0, whole_append a b p.1 q)
-
--- ---- shown text has no line feed
-
-hex_by : (b : Bool) (n : ℕ) → cond b (48 + n) (55 + n) ≡ 10 → ⊥
-hex_by true n e = omega arith
-hex_by false n e = omega arith
-
-whole_hex : (n : ℕ) → hex_digit n ≡ 10 → ⊥
-whole_hex n e = hex_by (nat_lt n 10) n e
-
-byte_by : (shows : Bool) (b : ℕ) → (shows ≡ true → 33 ≤ b) → IsWhole (cond shows (b ∷ []) (37 ∷ hex_digit (b / 16) ∷ hex_digit (b % 16) ∷ []))
-byte_by true b low = (λ e. let at_least = low refl in omega arith, tt)
-byte_by false b low = (λ e. cc e, (whole_hex (b / 16), (whole_hex (b % 16), tt)))
-
-and_left : (a b c : Bool) → (a && b && c) ≡ true → a ≡ true
-and_left true b c e = refl
-and_left false b c e = absurd (cc e)
-
-whole_byte : (b : ℕ) → IsWhole (shown_byte b)
-whole_byte b = byte_by (nat_le 33 b && nat_le b 126 && not (b == 37)) b (λ e. leb-true 33 b (and_left (nat_le 33 b) (nat_le b 126) (not (b == 37)) e))
-
-whole_bytes : (bytes : List ℕ) → IsWhole (flat_map shown_byte bytes)
-whole_bytes [] = tt
-whole_bytes (b ∷ bytes) = subst (λ (t : List ℕ). IsWhole t) (sym (flat_map-cons shown_byte b bytes)) (whole_append (shown_byte b) (flat_map shown_byte bytes) (whole_byte b) (whole_bytes bytes))
+whole_append = lacks_append 10
 
 whole_shown : (bytes : List ℕ) → IsWhole (shown bytes)
-whole_shown [] = (λ e. cc e, (λ e. cc e, tt))
-whole_shown (b ∷ bytes) = whole_bytes (b ∷ bytes)
+whole_shown bytes = shown_lacks 10 bytes (omega arith)
 
 -- ---- a text that is known has no line feed where a test says so
 
@@ -72,47 +49,71 @@ pub whole_side : (s : Side) → IsWhole (side_word s)
 whole_side side.First = tested (codes "first") refl
 whole_side side.Second = tested (codes "second") refl
 
-whole_cause : (cause : Cause) → cause ≡ record { kind = kind.NotBuilt; at = 0 } → IsWhole (cause_text cause)
-whole_cause cause e =
-    subst (λ (c : Cause). IsWhole (cause_text c)) (sym e)
-    (subst (λ (d : List ℕ). IsWhole (codes "not-built" ++ codes " at " ++ d)) (sym (decimal_digit 0 (omega arith))) (tested (codes "not-built at 0") refl))
+whole_kind : (k : CauseKind) → IsWhole (kind_word k)
+whole_kind kind.Handler = tested (codes "handler") refl
+whole_kind kind.Monitor = tested (codes "monitor") refl
+whole_kind kind.LongCode = tested (codes "long-code") refl
+whole_kind kind.Slots = tested (codes "slots") refl
+whole_kind kind.Float = tested (codes "float") refl
+whole_kind kind.Code = tested (codes "code") refl
+whole_kind kind.Subroutine = tested (codes "subroutine") refl
+whole_kind kind.ReceiverCall = tested (codes "receiver-call") refl
+whole_kind kind.Dynamic = tested (codes "dynamic") refl
+whole_kind kind.Allocation = tested (codes "allocation") refl
+whole_kind kind.RefStore = tested (codes "ref-store") refl
+whole_kind kind.TypeTest = tested (codes "type-test") refl
+whole_kind kind.Constant = tested (codes "constant") refl
+whole_kind kind.Types = tested (codes "types") refl
+whole_kind kind.Blocks = tested (codes "blocks") refl
+whole_kind kind.Irreducible = tested (codes "irreducible") refl
+whole_kind kind.Depth = tested (codes "depth") refl
 
-whole_verdict : (m : Method) (others : List Method) (v : Verdict) → IsVerdict m others v → IsWhole (verdict_text v)
-whole_verdict m others verdict.Missing is = tested (codes "missing") refl
-whole_verdict m others (verdict.NoCode s) is = whole_append (codes "nocode ") (side_word s) (tested (codes "nocode ") refl) (whole_side s)
-whole_verdict m others (verdict.Refused side.First cause) is = whole_append (codes "refused first ") (cause_text cause) (tested (codes "refused first ") refl) (whole_cause cause is.2.2.0)
-whole_verdict m others (verdict.Refused side.Second cause) is = whole_append (codes "refused second ") (cause_text cause) (tested (codes "refused second ") refl) (whole_cause cause is.2.2.0)
-whole_verdict m others verdict.Equivalent is = tested (codes "equivalent") refl
-whole_verdict m others verdict.Apart is = tested (codes "unknown apart") refl
+whole_word : (why : Reason) → IsWhole (reason_word why)
+whole_word (reason.Met cause) = whole_kind cause.kind
+whole_word reason.NotBuilt = tested (codes "not-built") refl
 
-whole_line : (m : Method) (others : List Method) (v : Verdict) → IsVerdict m others v → IsWhole (line_of m v)
-whole_line m others v is =
+whole_reason : (why : Reason) → IsWhole (reason_text why)
+whole_reason why =
+    whole_append (reason_word why ++ codes " at ") (decimal (address_of why)) (whole_append (reason_word why) (codes " at ") (whole_word why) (tested (codes " at ") refl)) (whole_decimal (address_of why))
+
+whole_verdict : (v : Verdict) → IsWhole (verdict_text v)
+whole_verdict verdict.Missing = tested (codes "missing") refl
+whole_verdict (verdict.NoCode s) = whole_append (codes "nocode ") (side_word s) (tested (codes "nocode ") refl) (whole_side s)
+whole_verdict (verdict.Refused s why) =
+    let side = whole_append (codes "refused ") (side_word s) (tested (codes "refused ") refl) (whole_side s) in
+    let blank = whole_append (codes "refused " ++ side_word s) (codes " ") side (tested (codes " ") refl) in
+    whole_append (codes "refused " ++ side_word s ++ codes " ") (reason_text why) blank (whole_reason why)
+whole_verdict verdict.Equivalent = tested (codes "equivalent") refl
+whole_verdict verdict.Apart = tested (codes "unknown apart") refl
+
+whole_line : (m : Method) (v : Verdict) → IsWhole (line_of m v)
+whole_line m v =
     let blank = tested (codes " ") refl in
     whole_append (shown m.name ++ codes " " ++ shown m.desc ++ codes " ") (verdict_text v)
     (whole_append (shown m.name ++ codes " " ++ shown m.desc) (codes " ") (whole_append (shown m.name ++ codes " ") (shown m.desc) (whole_append (shown m.name) (codes " ") (whole_shown m.name) blank) (whole_shown m.desc)) blank)
-    (whole_verdict m others v is)
+    (whole_verdict v)
 
 -- ---- the line of a method among those of a report
 
-pub record IsLineOfMethod (methods others : List Method) (line : List ℕ) : Type 0 where
+pub record IsLineOfMethod (first second : ClassFile) (methods : List Method) (line : List ℕ) : Type 0 where
   pub method : Method
   pub among : Contains methods method
   pub verdict : Verdict
-  pub is : IsVerdict method others verdict
+  pub is : IsVerdict first second method verdict
   pub says : line ≡ line_of method verdict
 
-later : (m : Method) (methods others : List Method) (line : List ℕ) → IsLineOfMethod methods others line → IsLineOfMethod (m ∷ methods) others line
-later m methods others line l = record { method = l.method; among = Contains-append_right (m ∷ []) methods l.method l.among; verdict = l.verdict; is = l.is; says = l.says }
+later : (first second : ClassFile) (m : Method) (methods : List Method) (line : List ℕ) → IsLineOfMethod first second methods line → IsLineOfMethod first second (m ∷ methods) line
+later first second m methods line l = record { method = l.method; among = Contains-append_right (m ∷ []) methods l.method l.among; verdict = l.verdict; is = l.is; says = l.says }
 
-pub line_of_method : (methods others : List Method) (verdicts : List Verdict) (line : List ℕ) → AllZip (λ m v. IsVerdict m others v) methods verdicts → IsLineOf (flat_map line_text (lines_of methods verdicts)) line → IsLineOfMethod methods others line
-line_of_method [] others [] line each l = absurd (no_line_of_nothing line l)
-line_of_method [] others (v ∷ verdicts) line each l = absurd each
-line_of_method (m ∷ methods) others [] line each l = absurd each
-line_of_method (m ∷ methods) others (v ∷ verdicts) line each l =
+pub line_of_method : (first second : ClassFile) (methods : List Method) (verdicts : List Verdict) (line : List ℕ) → AllZip (IsVerdict first second) methods verdicts → IsLineOf (flat_map line_text (lines_of methods verdicts)) line → IsLineOfMethod first second methods line
+line_of_method first second [] [] line each l = absurd (no_line_of_nothing line l)
+line_of_method first second [] (v ∷ verdicts) line each l = absurd each
+line_of_method first second (m ∷ methods) [] line each l = absurd each
+line_of_method first second (m ∷ methods) (v ∷ verdicts) line each l =
     let parts : IsLineOf (line_text (line_of m v) ++ flat_map line_text (lines_of methods verdicts)) line = subst (λ (t : List ℕ). IsLineOf t line) (flat_map-cons line_text (line_of m v) (lines_of methods verdicts)) l in
-    elim (first_or_later (line_of m v) (flat_map line_text (lines_of methods verdicts)) line (whole_line m others v each.0) parts) [
+    elim (first_or_later (line_of m v) (flat_map line_text (lines_of methods verdicts)) line (whole_line m v) parts) [
       | inl e ↦ record { method = m; among = (0, omega arith, refl); verdict = v; is = each.0; says = e }
-      | inr rest ↦ later m methods others line (line_of_method methods others verdicts line each.1 rest)
+      | inr rest ↦ later first second m methods line (line_of_method first second methods verdicts line each.1 rest)
     ]
 
 -- ---- only one verdict ends a line in `equivalent`
@@ -158,17 +159,18 @@ digit_last line front said n e f =
 abbrev front_of : Method → List ℕ
 front_of m = shown m.name ++ codes " " ++ shown m.desc ++ codes " "
 
-refused_apart : (m : Method) (said : List ℕ) (cause : Cause) (line front : List ℕ) → cause ≡ record { kind = kind.NotBuilt; at = 0 } → line ≡ front_of m ++ (said ++ cause_text cause) → line ≡ front ++ codes " equivalent" → ⊥
-refused_apart m said cause line front e says ends =
-    let text : cause_text cause ≡ codes "not-built at 0" = ap cause_text e ∙ ap (λ (d : List ℕ). codes "not-built" ++ codes " at " ++ d) (decimal_digit 0 (omega arith)) in
-    let whole : line ≡ (front_of m ++ said) ++ (codes "not-built at" ++ 32 ∷ 48 ∷ []) = says ∙ ap (λ (t : List ℕ). front_of m ++ (said ++ t)) text ∙ sym (append_assoc (front_of m) said (codes "not-built at 0")) in
-    differ 48 116 refl (last_two line front (front_of m ++ said) (codes "not-built at") 32 48 whole ends).1
+refused_apart : (m : Method) (s : Side) (why : Reason) (line front : List ℕ) → line ≡ line_of m (verdict.Refused s why) → line ≡ front ++ codes " equivalent" → ⊥
+refused_apart m s why line front says ends =
+    let said = codes "refused " ++ side_word s ++ codes " " in
+    let word = reason_word why ++ codes " at " in
+    let number = decimal (address_of why) in
+    let whole : line ≡ (front_of m ++ (said ++ word)) ++ number = says ∙ ap (λ (t : List ℕ). front_of m ++ t) (sym (append_assoc said word number)) ∙ sym (append_assoc (front_of m) (said ++ word) number) in
+    digit_last line front (front_of m ++ (said ++ word)) (address_of why) whole ends
 
-pub only_equivalent : (m : Method) (others : List Method) (v : Verdict) (line : List ℕ) → IsVerdict m others v → line ≡ line_of m v → EndsWith line (codes " equivalent") → v ≡ verdict.Equivalent
-only_equivalent m others verdict.Missing line is says ends = absurd (differ 103 116 refl ((last_two line ends.0 (front_of m) (codes "missi") 110 103 says ends.1).1))
-only_equivalent m others (verdict.NoCode side.First) line is says ends = absurd (differ 115 110 refl ((last_two line ends.0 (front_of m) (codes "nocode fir") 115 116 says ends.1).0))
-only_equivalent m others (verdict.NoCode side.Second) line is says ends = absurd (differ 100 116 refl ((last_two line ends.0 (front_of m) (codes "nocode seco") 110 100 says ends.1).1))
-only_equivalent m others (verdict.Refused side.First cause) line is says ends = absurd (refused_apart m (codes "refused first ") cause line ends.0 is.2.2.0 says ends.1)
-only_equivalent m others (verdict.Refused side.Second cause) line is says ends = absurd (refused_apart m (codes "refused second ") cause line ends.0 is.2.2.0 says ends.1)
-only_equivalent m others verdict.Equivalent line is says ends = refl
-only_equivalent m others verdict.Apart line is says ends = absurd (differ 114 110 refl ((last_two line ends.0 (front_of m) (codes "unknown apa") 114 116 says ends.1).0))
+pub only_equivalent : (m : Method) (v : Verdict) (line : List ℕ) → line ≡ line_of m v → EndsWith line (codes " equivalent") → v ≡ verdict.Equivalent
+only_equivalent m verdict.Missing line says ends = absurd (differ 103 116 refl ((last_two line ends.0 (front_of m) (codes "missi") 110 103 says ends.1).1))
+only_equivalent m (verdict.NoCode side.First) line says ends = absurd (differ 115 110 refl ((last_two line ends.0 (front_of m) (codes "nocode fir") 115 116 says ends.1).0))
+only_equivalent m (verdict.NoCode side.Second) line says ends = absurd (differ 100 116 refl ((last_two line ends.0 (front_of m) (codes "nocode seco") 110 100 says ends.1).1))
+only_equivalent m (verdict.Refused s why) line says ends = absurd (refused_apart m s why line ends.0 says ends.1)
+only_equivalent m verdict.Equivalent line says ends = refl
+only_equivalent m verdict.Apart line says ends = absurd (differ 114 110 refl ((last_two line ends.0 (front_of m) (codes "unknown apa") 114 116 says ends.1).0))

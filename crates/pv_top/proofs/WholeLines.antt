@@ -3,6 +3,7 @@ use Rattle.std.proofs.Common.{◌≡◌, ◌⊎◌, ℕ, List, [], ◌∷◌, �
 use Rattle.std.specs.List.{AllByRecursion}
 use Rattle.pv_top.specs.Lines.{line_text}
 use Rattle.pv_top.specs.Run.{EndsLine, IsLineOf}
+use Rattle.pv_top.proofs.Naming.{one_front}
 
 -- no line feed is in it
 abbrev pub IsWhole : List ℕ → Type 0
@@ -17,17 +18,6 @@ line_of_front text taken rest line e l = record {
   starts = l.starts;
   whole = l.whole;
 }
-
--- where a line without feed and its feed stand in front of two texts, the lines are one
-one_front : (a b x y : List ℕ) → IsWhole a → IsWhole b → a ++ 10 ∷ x ≡ b ++ 10 ∷ y → (a ≡ b) × (x ≡ y)
-one_front [] [] x y p q e = (refl, cc e)
-one_front [] (d ∷ b) x y p q e = absurd (q.0 (cc e))
-one_front (c ∷ a) [] x y p q e = absurd (p.0 (cc e))
-one_front (c ∷ a) (d ∷ b) x y p q e =
-    let head : c ≡ d = cc e in
-    let rest : a ++ 10 ∷ x ≡ b ++ 10 ∷ y = cc e in
-    let one = one_front a b x y p.1 q.1 rest in
-    (cc (head, one.0), one.1)
 
 -- text that ends a line, in front of something, begins with the first line or is empty
 past_first : (line before rest more : List ℕ) → IsWhole line → EndsLine before → line ++ 10 ∷ rest ≡ before ++ more → (before ≡ []) ⊎ ((b : List ℕ) × EndsLine b × (rest ≡ b ++ more))
@@ -53,6 +43,6 @@ pub first_or_later : (first : List ℕ) (rest line : List ℕ) → IsWhole first
 first_or_later first rest line whole l =
     let same : first ++ 10 ∷ rest ≡ l.before ++ (line ++ 10 ∷ l.after) = sym (append_assoc first (10 ∷ []) rest) ∙ l.spelled in
     elim (past_first first l.before rest (line ++ 10 ∷ l.after) whole l.starts same) [
-      | inl e ↦ inl (sym (one_front first line rest l.after whole l.whole (same ∙ ap (λ (b : List ℕ). b ++ (line ++ 10 ∷ l.after)) e)).0)
+      | inl e ↦ inl (sym (one_front 10 first line rest l.after whole l.whole (same ∙ ap (λ (b : List ℕ). b ++ (line ++ 10 ∷ l.after)) e)).0)
       | inr e ↦ inr (record { before = e.0; after = l.after; spelled = e.2; starts = e.1; whole = l.whole })
     ]

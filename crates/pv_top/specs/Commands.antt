@@ -3,8 +3,8 @@ use Rattle.std.specs.Prelude.{ℕ, List, Option, Some, None}
 use Rattle.std.specs.Borrow.{Bor}
 use Rattle.pv_top.specs.declared.words.Command.{Command}
 use Rattle.pv_top.specs.declared.words.Command.TheVariants.{Validate}
-use Rattle.pv_top.specs.Words.{IsValidate, IsNoCommand}
+use Rattle.pv_top.specs.Words.{IsValidate, IsNoCommand, texts}
 
 abbrev pub IsCommand : List (Bor (List ℕ)) → Option Command → Type 0
-IsCommand words None = IsNoCommand words
-IsCommand words (Some (Validate first second)) = IsValidate words first.now second.now
+IsCommand words None = IsNoCommand (texts words)
+IsCommand words (Some (Validate first second)) = IsValidate (texts words) first.now second.now

@@ -1,10 +1,9 @@
 -- What the conversion of a method gives.
-use Rattle.std.specs.Prelude.{◌≡◌, ◌↔◌, ℕ, List, [], ◌∷◌, Some, Bool, true, false, Result, Ok, Err, bit_and, slice_get}
+use Rattle.std.specs.Prelude.{◌≡◌, ℕ, List, [], ◌∷◌, Some, Bool, true, false, Result, Ok, Err, slice_get}
 use Rattle.std.specs.List.{AllByRecursion, AllZip}
+use Rattle.pv_class.specs.declared.file.ClassFile.{ClassFile}
 use Rattle.pv_class.specs.declared.file.Method.{Method}
-use Rattle.pv_class.specs.declared.instruction.Insn.{Insn}
-use Rattle.pv_class.specs.declared.instruction.Action.{Action}
-use Rattle.pv_class.specs.Machine.{is_instance}
+use Rattle.pv_frame.specs.declared.action.Action.{Action}
 use Rattle.pv_graph.specs.declared.node.Node.{Node}
 use Rattle.pv_graph.specs.declared.node.Op.{Op}
 use Rattle.pv_graph.specs.declared.node.Op.TheVariants as op
@@ -15,30 +14,26 @@ use Rattle.pv_graph.specs.Sorts.{sort_over}
 use Rattle.pv_graph.specs.Growth.{Extends}
 use Rattle.pv_graph.specs.Trees.{Tree}
 use Rattle.pv_graph.specs.Finite.{IsTree}
-use Rattle.pv_top.specs.declared.cause.Refused.{Refused}
-use Rattle.pv_top.specs.declared.cause.Refused.TheVariants as refused
-use Rattle.pv_top.specs.Built.{IsBuilt, ReturnsTree, Lays, leaf}
+use Rattle.pv_top.specs.declared.reason.Stop.{Stop}
+use Rattle.pv_top.specs.declared.reason.Stop.TheVariants as stop
+use Rattle.pv_top.specs.Built.{ReturnsTree, Lays, leaf}
 use Rattle.pv_top.specs.Roots.{IsRootOf, returning}
 use Rattle.pv_top.specs.Verdicts.{Meets}
 
--- a root, or a cause
-abbrev pub Converts : List Node → Method → Result ℕ Refused → Type 0
-Converts g m (Ok root) = IsRootOf g root m
-Converts g m (Err (refused.Cause cause)) = Meets m cause
-Converts g m (Err refused.Memory) = Unit {0}
+-- a root, or why there is none
+abbrev pub Converts : List Node → ClassFile → Method → Result ℕ Stop → Type 0
+Converts g file m (Ok root) = IsRootOf g root file m
+Converts g file m (Err (stop.Reason why)) = Meets file m why
+Converts g file m (Err stop.Memory) = Unit {0}
+
+-- so it is for the method at a place
+abbrev pub ConvertsAt : List Node → ClassFile → ℕ → Result ℕ Stop → Type 0
+ConvertsAt g file place result = (m : Method) → slice_get file.methods place ≡ Some m → Converts g file m result
 
 -- a graph that keeps its nodes, with their values and their trees
 pub record Grows (old new : List Node) : Type 0 where
   pub graph : IsGraph new
   pub extends : Extends old new
-
-pub record IsPlainStatic (flags : ℕ) : Type 0 where
-  pub static : is_instance flags ≡ false
-  pub unsynchronized : bit_and flags 0x0020 ≡ 0
-
--- a method of these instructions and so many parameters is built exactly where the instructions return a tree
-abbrev pub HasForm : Method → List Insn → ℕ → Type 0
-HasForm m insns params = (value : Tree) → IsBuilt m value ↔ ReturnsTree params insns value
 
 -- an operation whose value is an int
 abbrev pub GivesInt : Op → Type 0
@@ -84,10 +79,10 @@ pub record TopsLeaf (o : Op) (old new : List Node) (ns ms : List ℕ) : Type 0 w
   pub trees : (s : List Tree) → HaveTrees old ns s → HaveTrees new ms (leaf o ∷ s)
   pub ints : AreInts new ms
 
--- the node of a tree that the instructions return
-pub record IsReturned (g : List Node) (params : ℕ) (insns : List Insn) (n : ℕ) : Type 0 where
+-- the node of a tree that the actions return
+pub record IsReturned (g : List Node) (params : ℕ) (actions : List Action) (n : ℕ) : Type 0 where
   pub value : Tree
-  pub returns : ReturnsTree params insns value
+  pub returns : ReturnsTree params actions value
   pub is : IsTree g n value
   pub int : IsInt g n
 

@@ -1,6 +1,6 @@
 -- What a fetch of the top call gives.
 use Rattle.std.specs.Prelude.{◌≡◌, ◌⊎◌, ℕ, List, [], ◌∷◌, Option, Result, Err}
-use Rattle.pv_base.specs.Stored.{Stored}
+use Rattle.pv_base.specs.Stored.{Stored, AreBytes}
 use Rattle.pv_base.specs.Outside.{more}
 use Rattle.pv_base.specs.declared.outside.Asked.{Asked}
 use Rattle.pv_top.specs.declared.report.Fetched.{Fetched}
@@ -11,14 +11,14 @@ use Rattle.pv_top.specs.Run.{Holds}
 
 -- bytes that the store has under the name were fetched
 abbrev pub HoldsFetched : Option Stored → List ℕ → Fetched → Type 0
-HoldsFetched held name fetched = (bytes : List ℕ) × Holds held name bytes × IsFetched fetched bytes
+HoldsFetched held name fetched = (bytes : List ℕ) × Holds held name bytes × AreBytes bytes × IsFetched fetched bytes
 
 abbrev pub ReadFailed : Status → Type 0 → Type 0
 ReadFailed status.ReadFault rose = rose
 ReadFailed status.Memory rose = Unit {0}
 ReadFailed s rose = ⊥
 
--- a fetch is in the record; one that answers want of memory may not be
+-- a fetch is in the record; one for which memory runs out may not be
 abbrev pub Asks : {T : Type 0} → Option (List Asked) → Option (List Asked) → Asked → Result T Status → Type 0
 Asks old new call (Err status.Memory) = (new ≡ old) ⊎ (new ≡ more old (call ∷ []))
 Asks old new call result = new ≡ more old (call ∷ [])

@@ -1,16 +1,17 @@
 -- What is said of two files that were fetched.
-use Rattle.std.specs.Prelude.{◌≡◌, ◌<◌, ℕ, List, Result, length}
+use Rattle.std.specs.Prelude.{◌≡◌, ◌<◌, ℕ, List, Some, Result, length, slice_get}
 use Rattle.std.specs.List.{AllZip, flat_map}
 use Rattle.pv_class.specs.declared.file.Method.{Method}
 use Rattle.pv_class.specs.declared.file.ClassFile.{ClassFile}
 use Rattle.pv_class.specs.declared.fault.ClassFault.{ClassFault}
+use Rattle.pv_class.specs.ClassFiles.{IsClass}
 use Rattle.pv_class.specs.Answers.{IsAnswer}
 use Rattle.pv_top.specs.declared.report.Fetched.{Fetched}
 use Rattle.pv_top.specs.declared.report.Fetched.TheVariants.{Bytes, TooLong}
 use Rattle.pv_top.specs.declared.status.Status.{Status}
 use Rattle.pv_top.specs.declared.status.Status.TheVariants as status
 use Rattle.pv_top.specs.declared.verdict.Verdict.{Verdict}
-use Rattle.pv_top.specs.Verdicts.{IsVerdict}
+use Rattle.pv_top.specs.Verdicts.{IsLike, IsVerdict, IsVerdictOn}
 use Rattle.pv_top.specs.Lines.{line_text}
 use Rattle.pv_top.specs.Report.{lines_of, AreEquivalent, Judged}
 
@@ -27,12 +28,29 @@ ReadsFetched fetched read = (bytes : List ℕ) → IsFetched fetched bytes → I
 abbrev pub JudgesFetched : Fetched → Fetched → List ℕ → Status → Type 0
 JudgesFetched first second text s = (a b : List ℕ) → IsFetched first a → IsFetched second b → Judged a b text s
 
--- the lines of methods with these verdicts
-pub record Told (methods others : List Method) (verdicts : List Verdict) (text : List ℕ) : Type 0 where
-  pub each : AllZip (λ m v. IsVerdict m others v) methods verdicts
+-- a class file that was read
+abbrev pub IsRead : ClassFile → Type 0
+IsRead file = (bytes : List ℕ) × IsClass bytes file
+
+-- the verdict on the method at a place of the first class
+abbrev pub IsVerdictAt : ClassFile → ℕ → ClassFile → Verdict → Type 0
+IsVerdictAt first place second v = (m : Method) → slice_get first.methods place ≡ Some m → IsVerdict first second m v
+
+-- the verdict on two methods at their places
+abbrev pub IsVerdictOnPlaces : ClassFile → ℕ → ClassFile → ℕ → Verdict → Type 0
+IsVerdictOnPlaces first place second other v = (m p : Method) → slice_get first.methods place ≡ Some m → slice_get second.methods other ≡ Some p → IsVerdictOn first m second p v
+
+-- the method at this place is like this one
+abbrev pub IsLikeAt : Method → List Method → ℕ → Type 0
+IsLikeAt m others place = (p : Method) × (slice_get others place ≡ Some p) × IsLike m p
+
+-- the lines of methods of the first class with these verdicts
+pub record Told (first second : ClassFile) (methods : List Method) (verdicts : List Verdict) (text : List ℕ) : Type 0 where
+  pub each : AllZip (IsVerdict first second) methods verdicts
   pub text_is : text ≡ flat_map line_text (lines_of methods verdicts)
 
-abbrev pub Compares : List Method → List Method → List ℕ → Status → Type 0
-Compares methods others text status.AllEquivalent = (verdicts : List Verdict) × Told methods others verdicts text × AreEquivalent verdicts
-Compares methods others text status.Others = (verdicts : List Verdict) × Told methods others verdicts text × (AreEquivalent verdicts → ⊥)
-Compares methods others text s = ⊥
+-- the lines of all methods of the first class
+abbrev pub Compares : ClassFile → ClassFile → List ℕ → Status → Type 0
+Compares first second text status.AllEquivalent = (verdicts : List Verdict) × Told first second first.methods verdicts text × AreEquivalent verdicts
+Compares first second text status.Others = (verdicts : List Verdict) × Told first second first.methods verdicts text × (AreEquivalent verdicts → ⊥)
+Compares first second text s = ⊥

@@ -10,3 +10,4 @@ pub mod Judging
 pub mod Run
 pub mod Fetching
 pub mod Conversion
+pub mod Laws

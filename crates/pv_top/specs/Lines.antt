@@ -6,9 +6,10 @@ use Rattle.pv_class.specs.declared.fault.ClassFault.{ClassFault}
 use Rattle.pv_class.specs.declared.fault.ClassFault.TheVariants as fault
 use Rattle.pv_class.specs.declared.fault.PoolWord.{PoolWord}
 use Rattle.pv_class.specs.declared.fault.PoolWord.TheVariants as pool
-use Rattle.pv_top.specs.declared.cause.Cause.{Cause}
-use Rattle.pv_top.specs.declared.cause.CauseKind.{CauseKind}
-use Rattle.pv_top.specs.declared.cause.CauseKind.TheVariants as kind
+use Rattle.pv_frame.specs.declared.cause.CauseKind.{CauseKind}
+use Rattle.pv_frame.specs.declared.cause.CauseKind.TheVariants as kind
+use Rattle.pv_top.specs.declared.reason.Reason.{Reason}
+use Rattle.pv_top.specs.declared.reason.Reason.TheVariants as reason
 use Rattle.pv_top.specs.declared.verdict.Side.{Side}
 use Rattle.pv_top.specs.declared.verdict.Side.TheVariants as side
 use Rattle.pv_top.specs.declared.verdict.Verdict.{Verdict}
@@ -32,15 +33,40 @@ side_word side.First = codes "first"
 side_word side.Second = codes "second"
 
 abbrev pub kind_word : CauseKind → List ℕ
-kind_word kind.NotBuilt = codes "not-built"
+kind_word kind.Handler = codes "handler"
+kind_word kind.Monitor = codes "monitor"
+kind_word kind.LongCode = codes "long-code"
+kind_word kind.Slots = codes "slots"
+kind_word kind.Float = codes "float"
+kind_word kind.Code = codes "code"
+kind_word kind.Subroutine = codes "subroutine"
+kind_word kind.ReceiverCall = codes "receiver-call"
+kind_word kind.Dynamic = codes "dynamic"
+kind_word kind.Allocation = codes "allocation"
+kind_word kind.RefStore = codes "ref-store"
+kind_word kind.TypeTest = codes "type-test"
+kind_word kind.Constant = codes "constant"
+kind_word kind.Types = codes "types"
+kind_word kind.Blocks = codes "blocks"
+kind_word kind.Irreducible = codes "irreducible"
+kind_word kind.Depth = codes "depth"
 
-abbrev pub cause_text : Cause → List ℕ
-cause_text cause = kind_word cause.kind ++ codes " at " ++ decimal cause.at
+abbrev pub reason_word : Reason → List ℕ
+reason_word (reason.Met cause) = kind_word cause.kind
+reason_word reason.NotBuilt = codes "not-built"
+
+-- the address of an instruction, 0 where the reason is in no single one
+abbrev pub address_of : Reason → ℕ
+address_of (reason.Met cause) = cause.at
+address_of reason.NotBuilt = 0
+
+abbrev pub reason_text : Reason → List ℕ
+reason_text why = reason_word why ++ codes " at " ++ decimal (address_of why)
 
 abbrev pub verdict_text : Verdict → List ℕ
 verdict_text verdict.Missing = codes "missing"
 verdict_text (verdict.NoCode s) = codes "nocode " ++ side_word s
-verdict_text (verdict.Refused s cause) = codes "refused " ++ side_word s ++ codes " " ++ cause_text cause
+verdict_text (verdict.Refused s why) = codes "refused " ++ side_word s ++ codes " " ++ reason_text why
 verdict_text verdict.Equivalent = codes "equivalent"
 verdict_text verdict.Apart = codes "unknown apart"
 

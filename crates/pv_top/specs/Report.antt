@@ -25,7 +25,7 @@ pub record IsReport (a b : List ℕ) (verdicts : List Verdict) (text : List ℕ)
   pub second : ClassFile
   pub first_is : IsClass a first
   pub second_is : IsClass b second
-  pub each : AllZip (λ m v. IsVerdict m second.methods v) first.methods verdicts
+  pub each : AllZip (IsVerdict first second) first.methods verdicts
   pub text_is : text ≡ flat_map line_text (lines_of first.methods verdicts)
 
 abbrev pub AreEquivalent : List Verdict → Type 0

@@ -2,14 +2,14 @@
 use Rattle.std.specs.Prelude.{◌≡◌, ◌⊎◌, ℕ, List, [], ◌∷◌, ◌++◌, take, Option, Some, None, codes}
 use Rattle.std.specs.List.{Contains, AllByRecursion}
 use Rattle.std.specs.FinMap.{get}
-use Rattle.pv_base.specs.Stored.{Stored}
+use Rattle.pv_base.specs.Stored.{Stored, AreBytes}
 use Rattle.pv_base.specs.Outside.{more}
 use Rattle.pv_base.specs.declared.outside.Asked.{Asked}
 use Rattle.pv_base.specs.declared.outside.Asked.TheVariants.{Fetch}
 use Rattle.pv_class.specs.declared.file.Method.{Method}
 use Rattle.pv_class.specs.declared.file.ClassFile.{ClassFile}
 use Rattle.pv_class.specs.ClassFiles.{IsClass}
-use Rattle.pv_class.specs.Machine.{SameMeaning}
+use Rattle.pv_machine.specs.Machine.{AreEquivalentMethods}
 use Rattle.pv_top.specs.declared.status.Status.{Status}
 use Rattle.pv_top.specs.declared.status.Status.TheVariants as status
 use Rattle.pv_top.specs.declared.verdict.Verdict.TheVariants.{Equivalent}
@@ -21,6 +21,10 @@ use Rattle.pv_top.specs.Report.{Judged}
 abbrev pub Holds : Option Stored → List ℕ → List ℕ → Type 0
 Holds None name bytes = Unit {0}
 Holds (Some m) name bytes = get m name ≡ Some bytes
+
+-- some bytes stand under the name
+abbrev pub IsThere : Option Stored → List ℕ → Type 0
+IsThere held name = (bytes : List ℕ) × Holds held name bytes
 
 -- the text was taken, and the status goes with it; or the sink failed, and took a front of the text
 abbrev pub Puts : Option (List ℕ) → Option (List ℕ) → List ℕ → Status → Status → Type 0 → Type 0
@@ -37,6 +41,8 @@ pub record SaidOf (held : Option Stored) (a b : List ℕ) (old new : Option (Lis
   pub second : List ℕ
   pub first_held : Holds held a first
   pub second_held : Holds held b second
+  pub first_bytes : AreBytes first
+  pub second_bytes : AreBytes second
   pub text : List ℕ
   pub meant : Status
   pub judged : Judged first second text meant
@@ -48,11 +54,11 @@ Answered held a b old new read_rose write_rose status.ReadFault = read_rose × (
 Answered held a b old new read_rose write_rose status.Memory = new ≡ old
 Answered held a b old new read_rose write_rose result = SaidOf held a b old new write_rose result
 
--- The record of calls grows by the two fetches; by the first of them or both where one fails, of which it is the last; and by any front of them where memory runs out.
-abbrev pub AskedFor : Option (List Asked) → Option (List Asked) → List ℕ → List ℕ → Status → Type 0
-AskedFor old new a b status.Memory = (new ≡ old) ⊎ (new ≡ more old (Fetch a ∷ [])) ⊎ (new ≡ more old (Fetch a ∷ Fetch b ∷ []))
-AskedFor old new a b status.ReadFault = (new ≡ more old (Fetch a ∷ [])) ⊎ (new ≡ more old (Fetch a ∷ Fetch b ∷ []))
-AskedFor old new a b result = new ≡ more old (Fetch a ∷ Fetch b ∷ [])
+-- The record of calls grows by the two fetches; by the first alone where it fails, and by both where the first name is there and the second fetch fails; and by any front of them where memory runs out.
+abbrev pub AskedFor : Option Stored → Option (List Asked) → Option (List Asked) → List ℕ → List ℕ → Status → Type 0
+AskedFor held old new a b status.Memory = (new ≡ old) ⊎ (new ≡ more old (Fetch a ∷ [])) ⊎ (new ≡ more old (Fetch a ∷ Fetch b ∷ []))
+AskedFor held old new a b status.ReadFault = (new ≡ more old (Fetch a ∷ [])) ⊎ (IsThere held a × (new ≡ more old (Fetch a ∷ Fetch b ∷ [])))
+AskedFor held old new a b result = new ≡ more old (Fetch a ∷ Fetch b ∷ [])
 
 abbrev pub EndsLine : List ℕ → Type 0
 EndsLine text = (text ≡ []) ⊎ ((line : List ℕ) × (text ≡ line ++ 10 ∷ []))
@@ -68,7 +74,7 @@ pub record IsLineOf (text line : List ℕ) : Type 0 where
 abbrev pub EndsWith : List ℕ → List ℕ → Type 0
 EndsWith line end = (front : List ℕ) × (line ≡ front ++ end)
 
--- the line says of a method of the first file that it is equivalent to its partner in the second, and the two have the same meaning
+-- the line says of a method of the first file that it is equivalent to its partner in the second, and so they are: each has a program, and the two have the same meaning
 pub record HaveOneMeaning (held : Option Stored) (a b line : List ℕ) : Type 0 where
   pub first : List ℕ
   pub second : List ℕ
@@ -83,7 +89,7 @@ pub record HaveOneMeaning (held : Option Stored) (a b line : List ℕ) : Type 0 
   pub partner : Method
   pub partner_is : IsPartner method second_file.methods partner
   pub says : line ≡ line_of method Equivalent
-  pub same : SameMeaning method partner
+  pub equivalent : AreEquivalentMethods first_file method second_file partner
 
 -- so it is for each whole line that says `equivalent` among the bytes that the sink took in this call
 abbrev pub EachEquivalent : Option Stored → List ℕ → List ℕ → Option (List ℕ) → Option (List ℕ) → Type 0

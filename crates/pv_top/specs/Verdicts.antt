@@ -1,15 +1,19 @@
 -- What is said of a method: the first of these cases that holds.
-use Rattle.std.specs.Prelude.{◌≡◌, ◌≢◌, List, Some, None, zero}
+use Rattle.std.specs.Prelude.{◌≡◌, ◌≢◌, List, Some, None}
 use Rattle.std.specs.List.{Contains}
+use Rattle.pv_class.specs.declared.file.ClassFile.{ClassFile}
 use Rattle.pv_class.specs.declared.file.Method.{Method}
 use Rattle.pv_class.specs.declared.file.Code.{Code}
-use Rattle.pv_class.specs.Machine.{is_instance}
+use Rattle.pv_frame.specs.declared.program.Program.{Program}
+use Rattle.pv_frame.specs.Programs.{is_instance}
+use Rattle.pv_frame.specs.Causes.{IsRefused, IsAccepted}
 use Rattle.pv_graph.specs.Trees.{Tree}
-use Rattle.pv_top.specs.declared.cause.Cause.{Cause}
-use Rattle.pv_top.specs.declared.cause.CauseKind.TheVariants as kind
+use Rattle.pv_top.specs.declared.reason.Reason.{Reason}
+use Rattle.pv_top.specs.declared.reason.Reason.TheVariants as reason
 use Rattle.pv_top.specs.declared.verdict.Side.TheVariants as side
 use Rattle.pv_top.specs.declared.verdict.Verdict.{Verdict}
 use Rattle.pv_top.specs.declared.verdict.Verdict.TheVariants as verdict
+use Rattle.pv_top.specs.Built.{IsStraight}
 use Rattle.pv_top.specs.Roots.{HasTree}
 
 -- the same name, the same descriptor, and static where this one is
@@ -26,21 +30,22 @@ pub record IsPartner (m : Method) (others : List Method) (partner : Method) : Ty
 abbrev pub HasCode : Method → Type 0
 HasCode m = (code : Code) × (m.code ≡ Some code)
 
--- why a method is refused: its form is not built yet
-abbrev pub Meets : Method → Cause → Type 0
-Meets m cause = (cause ≡ record { kind = kind.NotBuilt; at = zero }) × ((t : Tree) → HasTree m t → ⊥)
+-- why a method is refused: for a cause; or none holds, and its form is not built yet
+abbrev pub Meets : ClassFile → Method → Reason → Type 0
+Meets file m (reason.Met cause) = IsRefused file m cause
+Meets file m reason.NotBuilt = (p : Program) × IsAccepted file m p × ((value : Tree) → IsStraight p value → ⊥)
 
--- the verdict on a method and its partner
-abbrev pub IsVerdictOn : Method → Method → Verdict → Type 0
-IsVerdictOn m p verdict.Missing = ⊥
-IsVerdictOn m p (verdict.NoCode side.First) = m.code ≡ None
-IsVerdictOn m p (verdict.NoCode side.Second) = HasCode m × (p.code ≡ None)
-IsVerdictOn m p (verdict.Refused side.First cause) = HasCode m × HasCode p × Meets m cause
-IsVerdictOn m p (verdict.Refused side.Second cause) = ((t : Tree) × HasTree m t) × HasCode p × Meets p cause
-IsVerdictOn m p verdict.Equivalent = (t : Tree) × HasTree m t × HasTree p t
-IsVerdictOn m p verdict.Apart = (t u : Tree) × HasTree m t × HasTree p u × (t ≢ u)
+-- the verdict on a method of a class and its partner in another
+abbrev pub IsVerdictOn : ClassFile → Method → ClassFile → Method → Verdict → Type 0
+IsVerdictOn first m second p verdict.Missing = ⊥
+IsVerdictOn first m second p (verdict.NoCode side.First) = m.code ≡ None
+IsVerdictOn first m second p (verdict.NoCode side.Second) = HasCode m × (p.code ≡ None)
+IsVerdictOn first m second p (verdict.Refused side.First why) = HasCode p × Meets first m why
+IsVerdictOn first m second p (verdict.Refused side.Second why) = ((t : Tree) × HasTree first m t) × Meets second p why
+IsVerdictOn first m second p verdict.Equivalent = (t : Tree) × HasTree first m t × HasTree second p t
+IsVerdictOn first m second p verdict.Apart = (t u : Tree) × HasTree first m t × HasTree second p u × (t ≢ u)
 
--- the verdict on a method, where these are the methods of the other file
-abbrev pub IsVerdict : Method → List Method → Verdict → Type 0
-IsVerdict m others verdict.Missing = (p : Method) → IsPartner m others p → ⊥
-IsVerdict m others v = (p : Method) × IsPartner m others p × IsVerdictOn m p v
+-- the verdict on a method of the first class
+abbrev pub IsVerdict : ClassFile → ClassFile → Method → Verdict → Type 0
+IsVerdict first second m verdict.Missing = (p : Method) → IsPartner m second.methods p → ⊥
+IsVerdict first second m v = (p : Method) × IsPartner m second.methods p × IsVerdictOn first m second p v

@@ -7,14 +7,15 @@ abbrev pub IsFileName : List ℕ → Type 0
 IsFileName [] = ⊥
 IsFileName (b ∷ rest) = b ≢ 45
 
+-- what borrowed words are
 abbrev pub texts : List (Bor (List ℕ)) → List (List ℕ)
 texts words = map (λ w. w.now) words
 
 -- the words of `validate A B`
-pub record IsValidate (words : List (Bor (List ℕ))) (a b : List ℕ) : Type 0 where
-  pub spelled : texts words ≡ codes "validate" ∷ a ∷ b ∷ []
+pub record IsValidate (words : List (List ℕ)) (a b : List ℕ) : Type 0 where
+  pub spelled : words ≡ codes "validate" ∷ a ∷ b ∷ []
   pub first : IsFileName a
   pub second : IsFileName b
 
-abbrev pub IsNoCommand : List (Bor (List ℕ)) → Type 0
+abbrev pub IsNoCommand : List (List ℕ) → Type 0
 IsNoCommand words = (a b : List ℕ) → IsValidate words a b → ⊥

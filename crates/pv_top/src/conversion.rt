@@ -1,32 +1,52 @@
 //! From a method to the root of a graph.
 
+ghost use Rattle.std.specs.Prelude.{◌↔◌, IsTrue};
+ghost use Rattle.pv_frame.specs.Answers.{HasCode, HasReferences};
 ghost use Rattle.pv_graph.specs.Nodes.{IsGraph};
-ghost use Rattle.pv_top.specs.Conversion.{Converts, Grows};
+ghost use Rattle.pv_top.specs.Built.{IsOfInts};
+ghost use Rattle.pv_top.specs.Conversion.{ConvertsAt, Grows};
 
-use crate::built::form_of;
-use crate::cause::{Cause, CauseKind, Refused};
 use crate::laying::returned_node;
 use crate::nodes::root_of;
-use pv_class::Method;
+use crate::reason::{Reason, Stop};
+use pv_class::ClassFile;
+use pv_frame::{Refused, infer};
 use pv_graph::{Graph, NodeId};
+use pv_value::{Descriptor, JType};
 use std::alloc::Global;
 
-const NOT_BUILT: Refused = Refused::Cause(Cause {
-    kind: CauseKind::NotBuilt,
-    at: 0,
-});
-
-/// Adds the root of a method to a graph, whose old nodes stand.
-pub fn convert(alloc: Global, method: &Method, g: &mut Graph) -> Result<NodeId, Refused>
-    requires { IsGraph g.old }
-    ensures converted { Converts g.new method.now result }
+/// Adds the root of the method at a place of a class to a graph, whose old nodes stand.
+pub(crate) fn convert(
+    alloc: Global,
+    class: &ClassFile,
+    method: usize,
+    g: &mut Graph,
+) -> Result<NodeId, Stop>
+    requires code { HasCode class.now method }
+    requires references { HasReferences class.now }
+    requires graph { IsGraph g.old }
+    ensures converted { ConvertsAt g.new class.now method result }
     ensures grows { Grows g.old g.new }
 {
-    let Some(form) = form_of(alloc, method)? else {
-        return Err(NOT_BUILT);
+    let typed = match infer(alloc, class, method) {
+        Ok(typed) => typed,
+        Err(Refused::Cause(cause)) => return Err(Stop::Reason(Reason::Met(cause))),
+        Err(Refused::Memory) => return Err(Stop::Memory),
     };
-    let Some(value) = returned_node(alloc, form.insns.as_slice(), form.params, g)? else {
-        return Err(NOT_BUILT);
-    };
-    Ok(root_of(alloc, value, g)?)
+    let program = typed.program;
+    if program.instance || !is_of_ints(&program.desc) {
+        return Err(Stop::Reason(Reason::NotBuilt));
+    }
+    let params = program.desc.params.as_slice().len();
+    match returned_node(alloc, program.actions.as_slice(), params, g)? {
+        Some(value) => Ok(root_of(alloc, value, g)?),
+        None => Err(Stop::Reason(Reason::NotBuilt)),
+    }
+}
+
+// Whether every parameter and the result is an int.
+fn is_of_ints(desc: &Descriptor) -> bool
+    ensures { IsTrue result ↔ IsOfInts desc.now }
+{
+    desc.result == Some(JType::I) && desc.params.as_slice().iter().all(|t| *t == JType::I)
 }

@@ -1,6 +1,8 @@
-//! From the instructions of a method to the node of what they return.
+//! From the actions of a method to the node of what they return.
 
-ghost use Rattle.std.specs.Prelude.{IfOk, OnOk, MatchOption};
+ghost use Rattle.std.specs.Prelude.{◌≡◌, IfOk, OnOk, MatchOption};
+ghost use Rattle.pv_value.specs.IntOps.{operation};
+ghost use Rattle.pv_value.specs.declared.int_op.IntOp.{IntOp};
 ghost use Rattle.pv_graph.specs.Nodes.{IsGraph};
 ghost use Rattle.pv_graph.specs.Trees.{Tree};
 ghost use Rattle.pv_top.specs.Built.{ReturnsTree};
@@ -8,32 +10,32 @@ ghost use Rattle.pv_top.specs.Conversion.{Grows, GivesInt, IsLeaf, AreInts, Lays
 
 use crate::nodes::{computed, leaf};
 use crate::operands::Operands;
-use pv_class::{Action, Insn};
+use pv_frame::{Action, Sort};
 use pv_graph::{Graph, NodeId, Op, OpSort};
-use pv_value::{Memory, IntOp};
+use pv_value::{IntOp, Memory, Num, ScalarOp};
 use std::alloc::Global;
 
-/// The node of what the instructions return, `None` where the last of them, and no other, isn't one
+/// The node of what the actions return, `None` where the last of them, and no other, isn't one
 /// that returns an int, or one doesn't find what it needs.
-pub fn returned_node(
+pub(crate) fn returned_node(
     alloc: Global,
-    insns: &[Insn],
+    actions: &[Action],
     params: usize,
     g: &mut Graph,
 ) -> Result<Option<NodeId>, Memory>
     requires { IsGraph g.old }
-    ensures node { IfOk result (λ found. MatchOption found ((value : Tree) → ReturnsTree params insns.now value → ⊥) (λ n. IsReturned g.new params insns.now n)) }
+    ensures node { IfOk result (λ found. MatchOption found ((value : Tree) → ReturnsTree params actions.now value → ⊥) (λ n. IsReturned g.new params actions.now n)) }
     ensures grows { Grows g.old g.new }
 {
-    let Some((last, front)) = insns.split_last() else {
+    let Some((last, front)) = actions.split_last() else {
         return Ok(None);
     };
-    let Action::ReturnInt = last.action() else {
+    let Action::Give(Some(Sort::Int)) = last else {
         return Ok(None);
     };
     let mut operands = Operands::new(alloc);
-    for insn in front {
-        if !lay(alloc, insn.action(), params, &mut operands, g)? {
+    for action in front {
+        if !lay(alloc, action, params, &mut operands, g)? {
             return Ok(None);
         }
     }
@@ -43,27 +45,27 @@ pub fn returned_node(
 // What an action makes of the operand stack; false where it doesn't find what it needs.
 fn lay(
     alloc: Global,
-    action: Action,
+    action: &Action,
     params: usize,
     operands: &mut Operands,
     g: &mut Graph,
 ) -> Result<bool, Memory>
     requires graph { IsGraph g.old }
     requires ints { AreInts g.old operands.old }
-    ensures lays { IfOk result (λ on. LaysNodes params action g.old g.new operands.old operands.new on) }
+    ensures lays { IfOk result (λ on. LaysNodes params action.now g.old g.new operands.old operands.new on) }
     ensures grows { Grows g.old g.new }
 {
     match action {
         Action::Nop => Ok(true),
-        Action::Push(number) => {
-            lay_leaf(alloc, Op::Int(number), operands, g)?;
+        Action::Push(Num::Int(number)) => {
+            lay_leaf(alloc, Op::Int(*number), operands, g)?;
             Ok(true)
         }
-        Action::Load(local) if usize::from(local) < params => {
-            lay_leaf(alloc, Op::Param(u32::from(local), OpSort::I), operands, g)?;
+        Action::Load(Sort::Int, local) if usize::from(*local) < params => {
+            lay_leaf(alloc, Op::Param(u32::from(*local), OpSort::I), operands, g)?;
             Ok(true)
         }
-        Action::Scalar(op) => lay_scalar(alloc, op, operands, g),
+        Action::Scalar(op) => lay_scalar(alloc, *op, operands, g),
         _ => Ok(false),
     }
 }
@@ -85,7 +87,7 @@ fn lay_leaf(alloc: Global, op: Op, operands: &mut Operands, g: &mut Graph) -> Re
 // Puts the node of an operation in the place of its two operands, of which the second is on top.
 fn lay_scalar(
     alloc: Global,
-    op: IntOp,
+    op: ScalarOp,
     operands: &mut Operands,
     g: &mut Graph,
 ) -> Result<bool, Memory>
@@ -94,6 +96,9 @@ fn lay_scalar(
     ensures lays { IfOk result (λ on. LaysNodes 0 (Action.Scalar op) g.old g.new operands.old operands.new on) }
     ensures grows { Grows g.old g.new }
 {
+    let Some(op) = int_op(op) else {
+        return Ok(false);
+    };
     let Some(second) = operands.pop() else {
         return Ok(false);
     };
@@ -103,4 +108,16 @@ fn lay_scalar(
     let node = computed(alloc, op, first, second, g)?;
     operands.push(node)?;
     Ok(true)
+}
+
+// The operation on two ints that this is, where it is one that is built.
+fn int_op(op: ScalarOp) -> Option<IntOp>
+    ensures { MatchOption result ((i : IntOp) → operation i ≡ op → ⊥) (λ i. operation i ≡ op) }
+{
+    match op {
+        ScalarOp::Iadd => Some(IntOp::Iadd),
+        ScalarOp::Isub => Some(IntOp::Isub),
+        ScalarOp::Imul => Some(IntOp::Imul),
+        _ => None,
+    }
 }

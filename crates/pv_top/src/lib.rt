@@ -10,20 +10,19 @@
 //! `bad_words`), and what was asked of the outside (`asked`, `none_asked`, `held`).
 #![tactic(auto)]
 
-mod built;
-mod cause;
 mod conversion;
+mod laws;
 mod laying;
 mod line;
 mod nodes;
 mod operands;
+mod reason;
 mod report;
 mod status;
 mod top;
 mod verdict;
 mod words;
 
-pub use cause::{Cause, CauseKind, Refused};
+pub use laws::law_lines;
 pub use status::Status;
 pub use top::run;
-pub use verdict::{Side, Verdict};

@@ -1,11 +1,12 @@
 //! The lines of a report.
 
 ghost use Rattle.std.specs.Prelude.{◌≡◌, ◌++◌, ◌<◌, OnOk};
-ghost use Rattle.pv_top.specs.Lines.{shown, shown_byte, hex_digit, side_word, kind_word, cause_text, verdict_text, line_of, line_text, pool_word, word_at, fault_text, bad_class};
+ghost use Rattle.pv_top.specs.Lines.{shown, shown_byte, hex_digit, side_word, kind_word, reason_word, address_of, reason_text, verdict_text, line_of, line_text, pool_word, word_at, fault_text, bad_class};
 
-use crate::cause::{Cause, CauseKind};
+use crate::reason::Reason;
 use crate::verdict::{Side, Verdict};
 use pv_class::{ClassFault, Method, PoolWord};
+use pv_frame::CauseKind;
 use std::alloc::{AllocError, Global};
 
 /// The line that says that a file has no reading, with its fault.
@@ -87,32 +88,67 @@ fn push_verdict(alloc: Global, out: &mut Vec<u8>, verdict: Verdict) -> Result<()
             out.extend_from_slice(b"nocode ")?;
             out.extend_from_slice(side_word(side))
         }
-        Verdict::Refused(side, cause) => {
+        Verdict::Refused(side, why) => {
             out.extend_from_slice(b"refused ")?;
             out.extend_from_slice(side_word(side))?;
             out.extend_from_slice(b" ")?;
-            push_cause(alloc, out, cause)
+            push_reason(alloc, out, why)
         }
         Verdict::Equivalent => out.extend_from_slice(b"equivalent"),
         Verdict::Apart => out.extend_from_slice(b"unknown apart"),
     }
 }
 
-fn push_cause(alloc: Global, out: &mut Vec<u8>, cause: Cause) -> Result<(), AllocError>
-    ensures { OnOk result (out.new.items ≡ out.old.items ++ cause_text cause) }
+fn push_reason(alloc: Global, out: &mut Vec<u8>, why: Reason) -> Result<(), AllocError>
+    ensures { OnOk result (out.new.items ≡ out.old.items ++ reason_text why) }
 {
-    let at = cause.at;
-    out.extend_from_slice(kind_word(cause.kind))?;
+    let at = address_of(why);
+    out.extend_from_slice(reason_word(why))?;
     out.extend_from_slice(b" at ")?;
     let at = format!(in alloc; "{at}")?;
     out.extend_from_slice(at.as_bytes())
+}
+
+// The address of an instruction, 0 where the reason is in no single one.
+fn address_of(why: Reason) -> u32
+    ensures { result ≡ address_of why }
+{
+    match why {
+        Reason::Met(cause) => cause.at,
+        Reason::NotBuilt => 0,
+    }
+}
+
+fn reason_word(why: Reason) -> &'static [u8]
+    ensures { result.now ≡ reason_word why }
+{
+    match why {
+        Reason::Met(cause) => kind_word(cause.kind),
+        Reason::NotBuilt => b"not-built",
+    }
 }
 
 fn kind_word(kind: CauseKind) -> &'static [u8]
     ensures { result.now ≡ kind_word kind }
 {
     match kind {
-        CauseKind::NotBuilt => b"not-built",
+        CauseKind::Handler => b"handler",
+        CauseKind::Monitor => b"monitor",
+        CauseKind::LongCode => b"long-code",
+        CauseKind::Slots => b"slots",
+        CauseKind::Float => b"float",
+        CauseKind::Code => b"code",
+        CauseKind::Subroutine => b"subroutine",
+        CauseKind::ReceiverCall => b"receiver-call",
+        CauseKind::Dynamic => b"dynamic",
+        CauseKind::Allocation => b"allocation",
+        CauseKind::RefStore => b"ref-store",
+        CauseKind::TypeTest => b"type-test",
+        CauseKind::Constant => b"constant",
+        CauseKind::Types => b"types",
+        CauseKind::Blocks => b"blocks",
+        CauseKind::Irreducible => b"irreducible",
+        CauseKind::Depth => b"depth",
     }
 }
 

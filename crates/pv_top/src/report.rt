@@ -2,12 +2,12 @@
 
 ghost use Rattle.std.specs.Prelude.{◌≡◌, ◌↔◌, IfOk, IsTrue};
 ghost use Rattle.pv_top.specs.Lines.{bad_class};
-ghost use Rattle.pv_top.specs.Judging.{ReadsFetched, JudgesFetched, Compares};
+ghost use Rattle.pv_top.specs.Judging.{IsRead, ReadsFetched, JudgesFetched, Compares};
 
 use crate::line::{push_bad_class, push_line};
 use crate::status::Status;
 use crate::verdict::{Side, Verdict, verdict_on};
-use pv_class::{ClassFault, ClassFile, Method, read_class};
+use pv_class::{ClassFault, ClassFile, read_class};
 use pv_value::Memory;
 use std::alloc::{AllocError, Global};
 
@@ -33,12 +33,13 @@ pub fn judge(alloc: Global, first: &Fetched, second: &Fetched) -> Result<(Vec<u8
         Ok(file) => file,
         Err(fault) => return Ok((bad_class(alloc, Side::Second, fault)?, Status::BadClass)),
     };
-    compare(alloc, one.methods.as_slice(), two.methods.as_slice())
+    compare(alloc, &one, &two)
 }
 
 // The class that a file holds, or its fault.
 fn class_of(alloc: Global, fetched: &Fetched) -> Result<Result<ClassFile, ClassFault>, Memory>
-    ensures { IfOk result (λ read. ReadsFetched fetched.now read) }
+    ensures reads { IfOk result (λ read. ReadsFetched fetched.now read) }
+    ensures class { IfOk result (λ read. IfOk read (λ file. IsRead file)) }
 {
     let Fetched::Bytes(bytes) = fetched else {
         return Ok(Err(ClassFault::TooLong(LONGEST_FILE)));
@@ -60,19 +61,22 @@ fn bad_class(alloc: Global, side: Side, fault: ClassFault) -> Result<Vec<u8>, Al
     Ok(text)
 }
 
-// The lines of the methods of the first file, and whether each says `equivalent`.
+// The lines of the methods of the first class, and whether each says `equivalent`.
 fn compare(
     alloc: Global,
-    methods: &[Method],
-    others: &[Method],
+    first: &ClassFile,
+    second: &ClassFile,
 ) -> Result<(Vec<u8>, Status), Memory>
-    ensures { IfOk result (λ said. Compares methods.now others.now said.0.items said.1) }
+    requires first { IsRead first.now }
+    requires second { IsRead second.now }
+    ensures { IfOk result (λ said. Compares first.now second.now said.0.items said.1) }
 {
     let mut text = Vec::new(alloc);
     let mut all_equivalent = true;
-    for method in methods {
-        let verdict = verdict_on(alloc, method, others)?;
-        push_line(alloc, &mut text, method, verdict)?;
+    let methods = first.methods.as_slice();
+    for place in 0..methods.len() {
+        let verdict = verdict_on(alloc, first, place, second)?;
+        push_line(alloc, &mut text, &methods[place], verdict)?;
         if !is_equivalent(verdict) {
             all_equivalent = false;
         }

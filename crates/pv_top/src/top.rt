@@ -2,8 +2,9 @@
 
 ghost use Rattle.std.specs.Prelude.{◌≡◌, ◌≤◌, IfOk, IfErr, List, ℕ};
 ghost use Rattle.pv_base.specs.Outside.{Rose};
+ghost use Rattle.pv_base.specs.Stored.{AreBytes};
 ghost use Rattle.pv_base.specs.declared.outside.Asked.TheVariants.{Fetch};
-ghost use Rattle.pv_top.specs.Words.{IsValidate, IsNoCommand};
+ghost use Rattle.pv_top.specs.Words.{IsValidate, IsNoCommand, texts};
 ghost use Rattle.pv_top.specs.Lines.{bad_words};
 ghost use Rattle.pv_top.specs.Run.{Answered, AskedFor, EachEquivalent, Says};
 ghost use Rattle.pv_top.specs.Fetching.{Asks, HoldsFetched, ReadFailed};
@@ -30,15 +31,15 @@ pub fn run<R: Threads + Sync, F: Files, K: Sink, G: Gate>(
     _gate: &G,
 ) -> Status
     // Whatever else happened, each whole line `.. equivalent` that the sink took is true.
-    ensures equivalent { (a b : List ℕ) → IsValidate words.now a b → EachEquivalent (F.held files.old) a b (K.sent out.old) (K.sent out.new) }
+    ensures equivalent { (a b : List ℕ) → IsValidate (texts words.now) a b → EachEquivalent (F.held files.old) a b (K.sent out.old) (K.sent out.new) }
 
     // What is said, and with which status.
-    ensures answered { (a b : List ℕ) → IsValidate words.now a b → Answered (F.held files.old) a b (K.sent out.old) (K.sent out.new) (Rose (F.faults files.old) (F.faults files.new)) (Rose (K.faults out.old) (K.faults out.new)) result }
-    ensures bad_words { IsNoCommand words.now → Says (K.sent out.old) (K.sent out.new) bad_words Status.BadWords result (Rose (K.faults out.old) (K.faults out.new)) }
+    ensures answered { (a b : List ℕ) → IsValidate (texts words.now) a b → Answered (F.held files.old) a b (K.sent out.old) (K.sent out.new) (Rose (F.faults files.old) (F.faults files.new)) (Rose (K.faults out.old) (K.faults out.new)) result }
+    ensures bad_words { IsNoCommand (texts words.now) → Says (K.sent out.old) (K.sent out.new) bad_words Status.BadWords result (Rose (K.faults out.old) (K.faults out.new)) }
 
     // What is asked of the files, and what they hold afterwards.
-    ensures asked { (a b : List ℕ) → IsValidate words.now a b → AskedFor (F.asked files.old) (F.asked files.new) a b result }
-    ensures none_asked { IsNoCommand words.now → F.asked files.new ≡ F.asked files.old }
+    ensures asked { (a b : List ℕ) → IsValidate (texts words.now) a b → AskedFor (F.held files.old) (F.asked files.old) (F.asked files.new) a b result }
+    ensures none_asked { IsNoCommand (texts words.now) → F.asked files.new ≡ F.asked files.old }
     ensures held { F.held files.new ≡ F.held files.old }
 {
     match read_words(words) {
@@ -56,7 +57,7 @@ fn validate<F: Files, K: Sink>(
     out: &mut K,
 ) -> Status
     ensures answered { Answered (F.held files.old) a.now b.now (K.sent out.old) (K.sent out.new) (Rose (F.faults files.old) (F.faults files.new)) (Rose (K.faults out.old) (K.faults out.new)) result }
-    ensures asked { AskedFor (F.asked files.old) (F.asked files.new) a.now b.now result }
+    ensures asked { AskedFor (F.held files.old) (F.asked files.old) (F.asked files.new) a.now b.now result }
     ensures held { F.held files.new ≡ F.held files.old }
 {
     let first = match fetched(alloc, a, files) {
@@ -82,11 +83,21 @@ fn fetched<F: Files>(alloc: Global, name: &str, files: &mut F) -> Result<Fetched
     ensures held { F.held files.new ≡ F.held files.old }
 {
     match files.fetch(alloc, name, MAX_CLASS) {
-        Ok(bytes) => Ok(Fetched::Bytes(bytes)),
+        Ok(bytes) => {
+            law_bytes(&bytes);
+            Ok(Fetched::Bytes(bytes))
+        }
         Err(FileFault::TooLong) => Ok(Fetched::TooLong),
         Err(FileFault::Failed) => Err(Status::ReadFault),
         Err(FileFault::Memory) => Err(Status::Memory),
     }
+}
+
+// What a slice of bytes holds are bytes: a law, for its caller's proof.
+fn law_bytes(bytes: &[u8])
+    ensures { AreBytes bytes.now }
+{
+    let _count = bytes.len();
 }
 
 // Says a text, where there is one, and answers the status that goes with it.

@@ -18,8 +18,11 @@ bad_file bytes (fault.Trailing at) has h = h
 bad_file bytes (fault.TooLong at) has h = h
 bad_file bytes fault.Memory has h = absurd (has refl)
 
-pub returns-in_default-fault : goal.returns-in_default-fault
-returns-in_default-fault c bytes is =
+pub returns-in_default-fault-clause-reads : goal.returns-in_default-fault-clause-reads
+returns-in_default-fault-clause-reads c bytes is =
     let same : c.in-Bytes.bytes.items ≡ bytes = rw c.in-Bytes.is at is in
     let bad = bad_file c.deref.result.now c.in-Err.fault c.in_default-fault.not-Memory c.in-Err.ensures.exact in
     subst (λ (b : List ℕ). IsBad b c.in-Err.fault) (c.deref.ensures.value ∙ same) bad
+
+pub returns-in-Ok-clause-class : goal.returns-in-Ok-clause-class
+returns-in-Ok-clause-class c = (_, c.in-Ok.ensures.exact)

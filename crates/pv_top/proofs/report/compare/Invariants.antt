@@ -1,5 +1,5 @@
 use Rattle.pv_top.proofs.SoFar.{SoFar}
 use Rattle.pv_top.proofs.report.compare.Given as goal
 
-abbrev pub invariant-loop-method : goal.invariant-loop-method
-invariant-loop-method l = SoFar l.methods l.others l.method-index l.text.items l.all_equivalent
+abbrev pub invariant-loop-place : goal.invariant-loop-place
+invariant-loop-place l = SoFar l.first l.second l.place l.text.items l.all_equivalent

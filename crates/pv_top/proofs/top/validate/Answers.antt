@@ -16,4 +16,4 @@ returns-in-Ok-judge-clause-answered g c =
     answered_said _ c.args.a.now c.args.b.now _ _ _ _ c.say.result said
 
 pub returns-in-Ok-judge-clause-asked : goal.returns-in-Ok-judge-clause-asked
-returns-in-Ok-judge-clause-asked g c = asked_both _ _ _ c.args.a.now c.args.b.now c.say.result c.in-Ok.ensures.asked c.in-Ok-fetched.ensures.asked
+returns-in-Ok-judge-clause-asked g c = asked_both _ _ _ _ c.args.a.now c.args.b.now c.say.result (c.in-Ok.ensures.content.0, c.in-Ok.ensures.content.1) c.in-Ok.ensures.asked c.in-Ok-fetched.ensures.asked

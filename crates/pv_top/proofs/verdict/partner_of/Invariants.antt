@@ -1,5 +1,5 @@
 use Rattle.pv_top.proofs.Partners.{NoneLike}
 use Rattle.pv_top.proofs.verdict.partner_of.Given as goal
 
-abbrev pub invariant-loop-other : goal.invariant-loop-other
-invariant-loop-other l = NoneLike l.method l.others l.other-index
+abbrev pub invariant-loop-k : goal.invariant-loop-k
+invariant-loop-k l = NoneLike l.method l.others l.k

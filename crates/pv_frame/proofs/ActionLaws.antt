@@ -1,0 +1,181 @@
+-- An instruction with a use does one thing, and has then no cause; a method has one program.
+use Rattle.std.proofs.Common.{◌≡◌, ℕ, ◌≤◌, true, false, refl, List, [], ◌∷◌, Some, ◌∙◌, ap, sym, subst, inl, inr, arith, lit≤}
+use Rattle.std.specs.Prelude.{◌⊎◌, ◌==◌, if◌then◌else◌}
+use Rattle.std.specs.List.{AllZip, AllByRecursion}
+use Rattle.std.proofs.lemmas.Bool.{eqb-true}
+use Rattle.pv_value.specs.declared.name.Sym.{Sym}
+use Rattle.pv_value.specs.declared.descriptor.JType.{JType}
+use Rattle.pv_value.specs.declared.descriptor.Descriptor.{Descriptor}
+use Rattle.pv_value.specs.declared.descriptor.JType.TheVariants.{Z, B, C, S, I, J, F, D, A}
+use Rattle.pv_value.specs.Descriptors.{IsLetter, IsFieldType, IsMethodType}
+use Rattle.pv_value.specs.Once.{field_type_once, method_type_once}
+use Rattle.pv_pool.specs.declared.entry.Entry.{Entry}
+use Rattle.pv_pool.specs.declared.constant.Constant.{Constant}
+use Rattle.pv_pool.specs.declared.constant.Constant.TheVariants as constant
+use Rattle.pv_pool.specs.declared.constant.Member.{Member}
+use Rattle.pv_insn.specs.declared.insn.Insn.{Insn}
+use Rattle.pv_insn.specs.declared.insn.Insn.TheVariants as insn
+use Rattle.pv_insn.specs.declared.insn.Placed.{Placed}
+use Rattle.pv_frame.specs.declared.used.Use.{Use}
+use Rattle.pv_frame.specs.declared.used.Use.TheVariants as used
+use Rattle.pv_frame.specs.declared.cause.CauseKind.{CauseKind}
+use Rattle.pv_frame.specs.declared.cause.CauseKind.TheVariants as kind
+use Rattle.pv_frame.specs.declared.action.Action.{Action}
+use Rattle.pv_frame.specs.declared.action.Action.TheVariants as act
+use Rattle.pv_frame.specs.Actions.{field_rows, row_of, IsUse, IsFloatless, IsFloatlessMethod, LoadsConstant, AccessesField, CallsStatic, ActsWith, Acts}
+use Rattle.pv_frame.specs.Programs.{Does}
+use Rattle.pv_frame.specs.Causes.{HasFloatType, AccessesFields, IsCauseWith, IsCauseOf}
+use Rattle.pv_frame.proofs.FrameLaws.{some_of, no_some}
+
+-- ---- one action
+
+one_constant : (pool : List Entry) (opcode : ℕ) (c : Constant) (a b : Action) → LoadsConstant pool opcode c a → LoadsConstant pool opcode c b → a ≡ b
+one_constant pool opcode (constant.Int n) a b p q = p.1 ∙ sym q.1
+one_constant pool opcode (constant.Text i) a b p q =
+    let same_text : p.1.0 ≡ q.1.0 = some_of _ _ (sym p.1.1 ∙ q.1.1) in
+    p.1.2 ∙ ap act.Literal same_text ∙ sym q.1.2
+one_constant pool opcode (constant.Long n) a b p q = p.1 ∙ sym q.1
+one_constant pool opcode c a b p q = elim p [ ]
+
+one_field : (opcode : ℕ) (m : Member) (a b : Action) → AccessesField opcode m a → AccessesField opcode m b → a ≡ b
+one_field opcode m a b p q =
+    let same_access : p.access ≡ q.access = some_of _ _ (sym p.row ∙ q.row) in
+    let same_type : p.type ≡ q.type = field_type_once m.sym.desc p.type q.type p.typed q.typed in
+    p.is ∙ ap (λ (f : JType → Sym → Action). f p.type m.sym) same_access ∙ ap (λ (t : JType). q.access t m.sym) same_type ∙ sym q.is
+
+one_call : (opcode : ℕ) (m : Member) (a b : Action) → CallsStatic opcode m a → CallsStatic opcode m b → a ≡ b
+one_call opcode m a b p q =
+    let same_type : p.desc ≡ q.desc = method_type_once m.sym.desc p.desc q.desc p.typed q.typed in
+    p.is ∙ ap (λ (d : Descriptor). act.Call d m.sym) same_type ∙ sym q.is
+
+field_or_call : {P : Type 0} (opcode : ℕ) (m : Member) (a b : Action) → AccessesField opcode m a → CallsStatic opcode m b → P
+field_or_call opcode m a b p q = elim q.kind [
+  | inl ten ↦ let e : 9 ≡ 10 = sym p.kind ∙ ten in absurd (omega arith)
+  | inr eleven ↦ let e : 9 ≡ 11 = sym p.kind ∙ eleven in absurd (omega arith)
+]
+
+one_member : (opcode : ℕ) (m : Member) (a b : Action) → AccessesField opcode m a ⊎ CallsStatic opcode m a → AccessesField opcode m b ⊎ CallsStatic opcode m b → a ≡ b
+one_member opcode m a b (inl p) (inl q) = one_field opcode m a b p q
+one_member opcode m a b (inl p) (inr q) = field_or_call opcode m a b p q
+one_member opcode m a b (inr p) (inl q) = field_or_call opcode m b a q p
+one_member opcode m a b (inr p) (inr q) = one_call opcode m a b p q
+
+one_with : (pool : List Entry) (opcode : ℕ) (u : Use) (a b : Action) → ActsWith pool opcode u a → ActsWith pool opcode u b → a ≡ b
+one_with pool opcode (used.Constant c) a b p q = one_constant pool opcode c a b p q
+one_with pool opcode (used.Member m) a b p q = one_member opcode m a b p q
+one_with pool opcode used.None a b p q = elim p [ ]
+
+-- an instruction with a use does one thing
+pub one_action : (pool : List Entry) (i : Insn) (u : Use) (a b : Action) → Acts pool i u a → Acts pool i u b → a ≡ b
+one_action pool (insn.Plain opcode) u a b p q = some_of _ _ (sym p ∙ q)
+one_action pool (insn.Push opcode n) u a b p q = p ∙ sym q
+one_action pool (insn.Local opcode n) u a b p q = some_of _ _ (sym p ∙ q)
+one_action pool (insn.Iinc n k) u a b p q = p ∙ sym q
+one_action pool (insn.Pool opcode i) u a b p q = one_with pool opcode u a b p q
+one_action pool (insn.Branch opcode target) u a b p q = some_of _ _ (sym p ∙ q)
+one_action pool (insn.Table default low targets) u a b p q = p ∙ sym q
+one_action pool (insn.Lookup default cases) u a b p q = p ∙ sym q
+one_action pool (insn.Refused opcode) u a b p q = elim p [ ]
+
+pub one_done : (pool : List Entry) (placed : Placed) (a b : Action) → Does pool placed a → Does pool placed b → a ≡ b
+one_done pool placed a b (u, p) (v, q) =
+    let same_use : v ≡ u = q.0 ∙ sym p.0 in
+    one_action pool placed.insn u a b p.1 (subst (λ (x : Use). Acts pool placed.insn x b) same_use q.1)
+
+-- a code of one list of instructions has one list of actions
+pub one_list : (pool : List Entry) (placed : List Placed) (a b : List Action) → AllZip (Does pool) placed a → AllZip (Does pool) placed b → a ≡ b
+one_list pool [] [] [] p q = refl
+one_list pool [] (x ∷ a) b p q = elim p [ ]
+one_list pool [] [] (y ∷ b) p q = elim q [ ]
+one_list pool (i ∷ placed) [] b p q = elim p [ ]
+one_list pool (i ∷ placed) (x ∷ a) [] p q = elim q [ ]
+one_list pool (i ∷ placed) (x ∷ a) (y ∷ b) p q =
+    let first = one_done pool i x y p.0 q.0 in
+    let others = one_list pool placed a b p.1 q.1 in
+    cc (first, others)
+
+-- ---- no cause
+
+-- no text is both a field descriptor and a method descriptor
+no_letter : (b : ℕ) (t : JType) → b ≡ 40 → IsLetter b t → ⊥
+no_letter b Z e h = omega arith
+no_letter b B e h = omega arith
+no_letter b C e h = omega arith
+no_letter b S e h = omega arith
+no_letter b I e h = omega arith
+no_letter b J e h = omega arith
+no_letter b F e h = omega arith
+no_letter b D e h = omega arith
+no_letter b A e h = h
+
+first_of_list : (a b : ℕ) (x y : List ℕ) → a ∷ x ≡ b ∷ y → a ≡ b
+first_of_list a b x y e = cc
+
+apart_from : (text : List ℕ) (t : JType) (rest : List ℕ) → IsFieldType text t → text ≡ 40 ∷ rest → ⊥
+apart_from [] t rest f e = elim f [ ]
+apart_from (b ∷ text) t rest (inl h) e = no_letter b t (first_of_list b 40 text rest e) h.0
+apart_from (b ∷ text) t rest (inr (inl h)) e = let is = first_of_list b 40 text rest e in let l = h.0 in omega arith
+apart_from (b ∷ text) t rest (inr (inr h)) e = let is = first_of_list b 40 text rest e in let l = h.0 in omega arith
+
+pub apart : (text : List ℕ) (t : JType) (d : Descriptor) → IsFieldType text t → IsMethodType text d → ⊥
+apart text t d f m = apart_from text t _ f m.spelled
+
+-- the rows of field accesses are those from getstatic to putfield
+accesses : (opcode : ℕ) (access : JType → Sym → Action) → row_of field_rows opcode ≡ Some access → AccessesFields opcode
+accesses opcode access e = among field_rows ((lit≤ tt, lit≤ tt), ((lit≤ tt, lit≤ tt), ((lit≤ tt, lit≤ tt), ((lit≤ tt, lit≤ tt), tt)))) opcode access e
+  where
+    among : (rows : List (ℕ × (JType → Sym → Action))) → AllByRecursion (λ r. (178 ≤ r.0) × (r.0 ≤ 181)) rows → (opcode : ℕ) (access : JType → Sym → Action) → row_of rows opcode ≡ Some access → AccessesFields opcode
+    among [] all opcode access e = no_some access e
+    among (r ∷ rows) all opcode access e =
+        elim (r.0 == opcode) as (λ b. (r.0 == opcode) ≡ b → (if b then Some r.1 else row_of rows opcode) ≡ Some access → AccessesFields opcode) [
+          | true ↦ λ is e. subst AccessesFields (eqb-true r.0 opcode is) all.0
+          | false ↦ λ is e. among rows all.1 opcode access e
+        ] refl e
+
+no_float_field : (opcode : ℕ) (m : Member) (a : Action) → AccessesField opcode m a → HasFloatType m.sym.desc → ⊥
+no_float_field opcode m a p (inl (t, typed, float)) = float (subst IsFloatless (field_type_once m.sym.desc p.type t p.typed typed) p.floatless)
+no_float_field opcode m a p (inr (d, typed, float)) = apart m.sym.desc p.type d p.typed typed
+
+no_float_call : (opcode : ℕ) (m : Member) (a : Action) → CallsStatic opcode m a → HasFloatType m.sym.desc → ⊥
+no_float_call opcode m a p (inl (t, typed, float)) = apart m.sym.desc t p.desc typed p.typed
+no_float_call opcode m a p (inr (d, typed, float)) = float (subst IsFloatlessMethod (method_type_once m.sym.desc p.desc d p.typed typed) p.floatless)
+
+clean_member : (opcode : ℕ) (m : Member) (a : Action) (k : CauseKind) → AccessesField opcode m a ⊎ CallsStatic opcode m a → IsCauseWith opcode (used.Member m) k → ⊥
+clean_member opcode m a kind.Float (inl p) h = no_float_field opcode m a p h
+clean_member opcode m a kind.Float (inr p) h = no_float_call opcode m a p h
+clean_member opcode m a kind.Code (inl p) h = h.1 (inl (accesses opcode p.access p.row, (p.kind, (p.type, p.typed))))
+clean_member opcode m a kind.Code (inr p) h = h.1 (inr (p.invokestatic, (p.kind, (p.desc, p.typed))))
+clean_member opcode m a kind.Constant p h = h.2
+clean_member opcode m a k p h = elim h [ ]
+
+clean_constant : (pool : List Entry) (opcode : ℕ) (c : Constant) (a : Action) (k : CauseKind) → LoadsConstant pool opcode c a → IsCauseWith opcode (used.Constant c) k → ⊥
+clean_constant pool opcode (constant.Int n) a kind.Code p h = h.1 p.0
+clean_constant pool opcode (constant.Text i) a kind.Code p h = h.1 p.0
+clean_constant pool opcode (constant.Long n) a kind.Code p h = h.1 p.0
+clean_constant pool opcode (constant.Int n) a kind.Float p h = h
+clean_constant pool opcode (constant.Text i) a kind.Float p h = h
+clean_constant pool opcode (constant.Long n) a kind.Float p h = h
+clean_constant pool opcode (constant.Int n) a kind.Constant p h = h.2
+clean_constant pool opcode (constant.Text i) a kind.Constant p h = h.2
+clean_constant pool opcode (constant.Long n) a kind.Constant p h = h.2
+clean_constant pool opcode constant.Float a k p h = elim p [ ]
+clean_constant pool opcode constant.Double a k p h = elim p [ ]
+clean_constant pool opcode (constant.Other tag) a k p h = elim p [ ]
+clean_constant pool opcode c a k p h = elim h [ ]
+
+clean_with : (pool : List Entry) (opcode : ℕ) (u : Use) (a : Action) (k : CauseKind) → ActsWith pool opcode u a → IsCauseWith opcode u k → ⊥
+clean_with pool opcode (used.Constant c) a k p h = clean_constant pool opcode c a k p h
+clean_with pool opcode (used.Member m) a k p h = clean_member opcode m a k p h
+clean_with pool opcode used.None a k p h = elim p [ ]
+
+-- an instruction that does something has no cause
+pub clean : (pool : List Entry) (i : Insn) (a : Action) (k : CauseKind) → (u : Use) → IsUse pool i u → Acts pool i u a → IsCauseOf pool i k → ⊥
+clean pool (insn.Pool opcode i) a k u is p h = clean_with pool opcode u a k p (subst (λ (x : Use). IsCauseWith opcode x k) (sym is) h)
+clean pool (insn.Refused opcode) a k u is p h = elim p [ ]
+clean pool (insn.Plain opcode) a k u is p h = h
+clean pool (insn.Push opcode n) a k u is p h = h
+clean pool (insn.Local opcode n) a k u is p h = h
+clean pool (insn.Iinc n by) a k u is p h = h
+clean pool (insn.Branch opcode target) a k u is p h = h
+clean pool (insn.Table default low targets) a k u is p h = h
+clean pool (insn.Lookup default cases) a k u is p h = h

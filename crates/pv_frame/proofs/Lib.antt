@@ -1,0 +1,4 @@
+pub mod StackLaws
+pub mod FrameLaws
+pub mod ActionLaws
+pub mod CauseLaws

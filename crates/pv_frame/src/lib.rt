@@ -1,0 +1,33 @@
+//! Typed frames of methods, and the causes for which methods are refused.
+//!
+//! A method's code is read into what its instructions do (`Action`), by one table from an
+//! instruction and what it names in the constant pool (`specs/Actions`), so that the layers above
+//! know neither opcodes nor the pool. A `Program` is those actions with the method's type and its
+//! limits (`specs/Programs`). Operand stacks and locals are one text for numbers and for sorts
+//! (`specs/Stacks`, `specs/Effects`); frames are the sorts before each instruction, and agree along
+//! each edge (`specs/Frames`). `specs/Causes` has the causes in their order.
+//!
+//! This layer stands on `pv_value`, `pv_pool`, `pv_insn` and `pv_class`. The layers above use `infer`:
+//! it is Ok exactly where the method is accepted, with its program and the frames that have the
+//! fewest unknown locals, and else names the first cause and its address (`specs/Answers`).
+#![tactic(auto)]
+
+mod action;
+mod cause;
+mod frame;
+mod inference;
+mod items;
+mod program;
+mod sort;
+mod typed;
+mod used;
+
+pub use action::{Action, Comparison, Move, Test};
+pub use cause::{Cause, CauseKind, Refused};
+pub use frame::Frame;
+pub use inference::infer;
+pub use items::Items;
+pub use program::Program;
+pub use sort::Sort;
+pub use typed::Typed;
+pub use used::Use;

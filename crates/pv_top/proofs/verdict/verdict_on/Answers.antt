@@ -1,0 +1,13 @@
+use Rattle.std.proofs.Common.{List, length, ◌≡◌, ◌<◌, ◌∙◌, subst, ap, sym}
+use Rattle.pv_class.specs.declared.file.Method.{Method}
+use Rattle.pv_top.specs.Judging.{IsLikeAt}
+use Rattle.pv_top.proofs.Places.{here_again}
+use Rattle.pv_top.proofs.Partners.{verdict_at}
+use Rattle.pv_top.proofs.verdict.verdict_on.Goals as goal
+
+pub returns-in-Some : goal.returns-in-Some
+returns-in-Some c =
+    let one = c.index-as_slice-method.result in
+    let here = here_again c.args.first.now.methods c.args.method one c.requires.there (rw (← c.as_slice.ensures) c.index-as_slice-method.is) in
+    let like : IsLikeAt one c.args.second.now.methods c.in-Some.partner = rw (← c.as_slice-2.ensures) c.in-Some.ensures in
+    verdict_at c.args.first.now c.args.second.now c.args.method c.in-Some.partner one c.verdict_with.result here like c.verdict_with.ensures

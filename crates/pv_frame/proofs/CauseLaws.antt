@@ -51,7 +51,7 @@ one_program file m p q bytes a b =
 -- ---- a program, or a cause
 
 -- each instruction that does something has no cause
-all_clean : (pool : List Entry) (before : List Placed) (here : Placed) (after : List Placed) (actions : List Action) (k : CauseKind) → AllZip (Does pool) (before ++ here ∷ after) actions → IsCauseOf pool here.insn k → ⊥
+pub all_clean : (pool : List Entry) (before : List Placed) (here : Placed) (after : List Placed) (actions : List Action) (k : CauseKind) → AllZip (Does pool) (before ++ here ∷ after) actions → IsCauseOf pool here.insn k → ⊥
 all_clean pool [] here after [] k all h = elim all [ ]
 all_clean pool [] here after (a ∷ actions) k all h = clean pool here.insn a k all.0.0 all.0.1.0 all.0.1.1 h
 all_clean pool (i ∷ before) here after [] k all h = elim all [ ]

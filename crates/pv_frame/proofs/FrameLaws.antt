@@ -113,7 +113,7 @@ flows_flows f g h p q = record { stack = q.stack ∙ p.stack; locals = all_less_
 
 -- ---- an instruction from a frame that tells more
 
-abbrev framed : List Sort → List Sort → Frame
+abbrev pub framed : List Sort → List Sort → Frame
 framed stack locals = record { stack = stack; locals = locals }
 
 pub record Goes (a : Action) (f h : Frame) : Type 0 where

@@ -59,9 +59,11 @@ Said (Err refused.Memory) P = Unit {0}
 
 -- what is said of the method at a place is its answer
 abbrev pub Answers : ClassFile → ℕ → Result Typed Refused → Type 0
-Answers file place result = (m : Method) → slice_get file.methods place ≡ Some m → Said result (λ said. IsAnswer file m said)
+Answers file place result = (m : Method) → slice_get file.methods place ≡ Some m → Said result (IsAnswer file m)
 
--- and no other answer is right
+-- no other answer is right
+abbrev pub IsOnly : ClassFile → Method → Result Typed Cause → Type 0
+IsOnly file m said = (other : Result Typed Cause) → IsAnswer file m other → said ≡ other
+
 abbrev pub AnswersOnly : ClassFile → ℕ → Result Typed Refused → Type 0
-AnswersOnly file place result =
-    (m : Method) → slice_get file.methods place ≡ Some m → Said result (λ said. (other : Result Typed Cause) → IsAnswer file m other → said ≡ other)
+AnswersOnly file place result = (m : Method) → slice_get file.methods place ≡ Some m → Said result (IsOnly file m)

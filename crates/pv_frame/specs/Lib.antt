@@ -5,3 +5,8 @@ pub mod Programs
 pub mod Frames
 pub mod Causes
 pub mod Answers
+pub mod Acting
+pub mod Inferring
+pub mod Stops
+pub mod Stacking
+pub mod Rows

@@ -12,13 +12,20 @@
 //! fewest unknown locals, and else names the first cause and its address (`specs/Answers`).
 #![tactic(auto)]
 
+mod acting;
 mod action;
 mod cause;
+mod effect;
+mod flow;
 mod frame;
 mod inference;
 mod items;
+mod plain;
 mod program;
 mod sort;
+mod spreading;
+mod stack;
+mod stop;
 mod typed;
 mod used;
 

@@ -14,7 +14,7 @@ use Rattle.pv_insn.specs.declared.insn.Insn.{Insn}
 use Rattle.pv_insn.specs.declared.insn.Insn.TheVariants as insn
 use Rattle.pv_insn.specs.declared.insn.Placed.{Placed}
 use Rattle.pv_insn.specs.Forms.{form_of}
-use Rattle.pv_insn.specs.Pieces.{Piece, instruction, unknown, ill, Widened, Operands, Behind}
+use Rattle.pv_insn.specs.Pieces.{Piece, instruction, unknown, ill, Widened, Operands, AfterOpcode}
 use Rattle.pv_insn.specs.Codes.{IsInstruction, Leads, AreFrom, IsPlaced, Resolves, IsCode}
 
 -- an instruction as the table of forms has it; the numbers of a tableswitch end below 2 ^ 31
@@ -53,28 +53,28 @@ module _ (raws : List RawPlaced) (from : ℕ) (i : Insn) where
   widened o (Some form.SkippedLocal) r rest byte is w l = refused o byte (inr is) (subst Leads' (raw_of r _ w.1) l)
   widened o f r rest byte is w l = absurd (cc (w.0))
 
-  behind : (at o : ℕ) (f : Option Form) (r : Raw) (rest : List ℕ) → o < 256 → form_of o ≡ f → Behind at o f (instruction r) rest → Leads' r → IsFormed i
-  behind at o None r rest byte is b l = absurd (cc (b.0))
-  behind at o (Some form.Plain) r rest byte is b l = plainly o byte is (subst Leads' (raw_of r _ b.0) l)
-  behind at o (Some form.Byte) r rest byte is b l = subst IsFormed (sym (subst Leads' (raw_of r _ b.is) l)) tt
-  behind at o (Some form.Short) r rest byte is b l = subst IsFormed (sym (subst Leads' (raw_of r _ b.is) l)) tt
-  behind at o (Some form.Local) r rest byte is b l = locally o b.number byte is (subst Leads' (raw_of r _ b.is) l)
-  behind at o (Some form.Increment) r rest byte is b l = subst IsFormed (sym (subst Leads' (raw_of r _ b.is) l)) tt
-  behind at o (Some form.Index1) r rest byte is b l = subst IsFormed (sym (subst Leads' (raw_of r _ b.is) l)) tt
-  behind at o (Some form.Index2) r rest byte is b l = subst IsFormed (sym (subst Leads' (raw_of r _ b.is) l)) tt
-  behind at o (Some form.Branch2) r rest byte is b l = let to = subst Leads' (raw_of r _ b.is) l in subst IsFormed (sym to.2) (byte, inl is)
-  behind at o (Some form.Branch4) r rest byte is b l = let to = subst Leads' (raw_of r _ b.is) l in subst IsFormed (sym to.2) (byte, inr is)
-  behind at o (Some form.Table) r rest byte is (inl b) l =
+  after_opcode : (at o : ℕ) (f : Option Form) (r : Raw) (rest : List ℕ) → o < 256 → form_of o ≡ f → AfterOpcode at o f (instruction r) rest → Leads' r → IsFormed i
+  after_opcode at o None r rest byte is b l = absurd (cc (b.0))
+  after_opcode at o (Some form.Plain) r rest byte is b l = plainly o byte is (subst Leads' (raw_of r _ b.0) l)
+  after_opcode at o (Some form.Byte) r rest byte is b l = subst IsFormed (sym (subst Leads' (raw_of r _ b.is) l)) tt
+  after_opcode at o (Some form.Short) r rest byte is b l = subst IsFormed (sym (subst Leads' (raw_of r _ b.is) l)) tt
+  after_opcode at o (Some form.Local) r rest byte is b l = locally o b.number byte is (subst Leads' (raw_of r _ b.is) l)
+  after_opcode at o (Some form.Increment) r rest byte is b l = subst IsFormed (sym (subst Leads' (raw_of r _ b.is) l)) tt
+  after_opcode at o (Some form.Index1) r rest byte is b l = subst IsFormed (sym (subst Leads' (raw_of r _ b.is) l)) tt
+  after_opcode at o (Some form.Index2) r rest byte is b l = subst IsFormed (sym (subst Leads' (raw_of r _ b.is) l)) tt
+  after_opcode at o (Some form.Branch2) r rest byte is b l = let to = subst Leads' (raw_of r _ b.is) l in subst IsFormed (sym to.2) (byte, inl is)
+  after_opcode at o (Some form.Branch4) r rest byte is b l = let to = subst Leads' (raw_of r _ b.is) l in subst IsFormed (sym to.2) (byte, inr is)
+  after_opcode at o (Some form.Table) r rest byte is (inl b) l =
       let to = subst Leads' (raw_of r _ b.is) l in
       let many : length b.offsets ≡ length to.targets = sym (AllZip-long (Leads raws from) b.offsets to.targets to.others) in
       let few : (b.low +ℤ pos (length b.offsets)) ≤ℤ pos (2 ^ 31) = highest b.low b.high (length b.offsets) b.stands.fits.1.1.0 b.counted in
       subst IsFormed (sym to.is) (subst (λ (n : ℕ). (b.low +ℤ pos n) ≤ℤ pos (2 ^ 31)) many few)
-  behind at o (Some form.Table) r rest byte is (inr b) l = let no = b.is in absurd (cc)
-  behind at o (Some form.Lookup) r rest byte is (inl b) l = let to = subst Leads' (raw_of r _ b.is) l in subst IsFormed (sym to.is) tt
-  behind at o (Some form.Lookup) r rest byte is (inr b) l = let no = b.is in absurd (cc)
-  behind at o (Some (form.Skipped n)) r rest byte is b l = refused o byte (inl (n, is)) (subst Leads' (raw_of r _ b.1) l)
-  behind at o (Some form.SkippedLocal) r rest byte is b l = refused o byte (inr is) (subst Leads' (raw_of r _ b.1) l)
-  behind at o (Some form.Wide) r rest byte is b l = widened b.op (form_of b.op) r b.rest b.byte refl b.operands l
+  after_opcode at o (Some form.Table) r rest byte is (inr b) l = let no = b.is in absurd (cc)
+  after_opcode at o (Some form.Lookup) r rest byte is (inl b) l = let to = subst Leads' (raw_of r _ b.is) l in subst IsFormed (sym to.is) tt
+  after_opcode at o (Some form.Lookup) r rest byte is (inr b) l = let no = b.is in absurd (cc)
+  after_opcode at o (Some (form.Skipped n)) r rest byte is b l = refused o byte (inl (n, is)) (subst Leads' (raw_of r _ b.1) l)
+  after_opcode at o (Some form.SkippedLocal) r rest byte is b l = refused o byte (inr is) (subst Leads' (raw_of r _ b.1) l)
+  after_opcode at o (Some form.Wide) r rest byte is b l = widened b.op (form_of b.op) r b.rest b.byte refl b.operands l
 
 all_formed : (raws here : List RawPlaced) (placed : List Placed) (at : ℕ) (bytes : List ℕ) → AreFrom at here bytes → AllZip (IsPlaced raws) here placed → AllByRecursion (λ p. IsFormed p.insn) placed
 all_formed raws [] [] at bytes from all = tt
@@ -82,7 +82,7 @@ all_formed raws [] (p ∷ placed) at bytes from all = elim all [ ]
 all_formed raws (r ∷ here) [] at bytes from all = elim all [ ]
 all_formed raws (r ∷ here) (p ∷ placed) at bytes (text, rest, parts, stands, from) (placed_so, all) =
     let s = stands.spells in
-    (behind raws r.at p.insn (at + 1) s.op (form_of s.op) r.raw s.rest s.byte refl s.operands placed_so.1, all_formed raws here placed _ rest from all)
+    (after_opcode raws r.at p.insn (at + 1) s.op (form_of s.op) r.raw s.rest s.byte refl s.operands placed_so.1, all_formed raws here placed _ rest from all)
 
 pub formed : (code : List ℕ) (placed : List Placed) → IsCode code placed → AllByRecursion (λ p. IsFormed p.insn) placed
 formed code placed is = all_formed is.raws is.raws placed 0 code is.read is.resolved

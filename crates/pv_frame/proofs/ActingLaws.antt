@@ -1,0 +1,135 @@
+-- Laws of actions, as the functions that find them need them.
+use Rattle.std.proofs.Common.{◌≡◌, ℕ, ◌+◌, ◌≤◌, ◌<◌, ℤ, pos, ◌+ℤ◌, List, [], ◌∷◌, ◌++◌, length, get_or, drop, refl, sym, ap, ◌∙◌, subst, inl, inr, arith, append_assoc, ◌^◌, ◌≤ℤ◌, w32, w64, FitsSigned, to_z, of_z}
+use Rattle.std.proofs.lemmas.Int.{ints, to_z-of_z, to_z_pos}
+use Rattle.std.proofs.lemmas.List.{drop_more, drop_all, append-nil}
+use Rattle.std.specs.Prelude.{◌≢◌, ◌⊎◌, ◌==◌, ok_or, option_map, IsSome, if◌then◌else◌, Bool, true, false, Option, Some, None, Result}
+use Rattle.std.specs.Option.{option_or}
+use Rattle.std.proofs.Common.{rules}
+use Rattle.pv_value.specs.declared.name.Sym.{Sym}
+use Rattle.pv_value.specs.declared.descriptor.JType.{JType}
+use Rattle.pv_value.specs.declared.descriptor.Descriptor.{Descriptor}
+use Rattle.pv_value.specs.Descriptors.{IsFieldType, IsMethodType}
+use Rattle.pv_value.specs.Once.{field_type_once, method_type_once}
+use Rattle.pv_pool.specs.declared.constant.Member.{Member}
+use Rattle.pv_insn.specs.declared.insn.Case.{Case}
+use Rattle.pv_frame.specs.declared.action.Action.{Action}
+use Rattle.pv_frame.specs.declared.cause.CauseKind.TheVariants as kind
+use Rattle.pv_frame.specs.declared.stop.Stop.{Stop}
+use Rattle.pv_frame.specs.declared.stop.Stop.TheVariants as stop
+use Rattle.pv_frame.specs.Actions.{cases_from, row_of, field_rows, IsFloatless, IsFloatlessMethod}
+use Rattle.pv_frame.specs.Causes.{HasFloatType, AccessesFields, IsField, IsStatic}
+use Rattle.pv_frame.specs.Acting.{IsAccessOr}
+use Rattle.pv_frame.proofs.ActionLaws.{apart}
+use Rattle.pv_frame.proofs.Complete.{field_row}
+
+-- ---- the cases of a tableswitch
+
+-- the cases so far, and those of the targets that are left, are all
+pub record CasesSoFar (low : ℤ) (targets : List ℕ) (i : ℕ) (front : List Case) : Type 0 where
+  pub total : front ++ cases_from (low +ℤ pos i) (drop i targets) ≡ cases_from low targets
+
+pub cases_start : (low : ℤ) (targets : List ℕ) → CasesSoFar low targets 0 []
+cases_start low targets =
+    let e : low +ℤ pos 0 ≡ low = omega (arith, ints) in
+    record { total = ap (λ (n : ℤ). cases_from n targets) e }
+
+pub cases_on : (low : ℤ) (targets : List ℕ) (i d : ℕ) (key : ℤ) (front now : List Case) → now ≡ front ++ record { key = key; target = get_or targets i d } ∷ [] → i < length targets → key ≡ low +ℤ pos i → CasesSoFar low targets i front → CasesSoFar low targets (i + 1) now
+cases_on low targets i d key front now pushed lt is s =
+    let more : low +ℤ pos (i + 1) ≡ (low +ℤ pos i) +ℤ pos 1 = omega (arith, ints) in
+    let first : Case = record { key = low +ℤ pos i; target = get_or targets i d } in
+    let others : List Case = cases_from ((low +ℤ pos i) +ℤ pos 1) (drop (i + 1) targets) in
+    let step : cases_from (low +ℤ pos i) (drop i targets) ≡ first ∷ others = ap (cases_from (low +ℤ pos i)) (drop_more targets i d lt) in
+    let last : now ≡ front ++ first ∷ [] = pushed ∙ ap (λ (k : ℤ). front ++ record { key = k; target = get_or targets i d } ∷ []) is in
+    record {
+      total =
+          ap (λ (l : List Case). l ++ cases_from (low +ℤ pos (i + 1)) (drop (i + 1) targets)) last ∙ ap (λ (n : ℤ). (front ++ first ∷ []) ++ cases_from n (drop (i + 1) targets)) more ∙ append_assoc front (first ∷ []) others
+          ∙ ap (λ (l : List Case). front ++ l) (sym step) ∙ s.total;
+    }
+
+pub cases_done : (low : ℤ) (targets : List ℕ) (i : ℕ) (front : List Case) → length targets ≤ i → CasesSoFar low targets i front → front ≡ cases_from low targets
+cases_done low targets i front le s =
+    let none : cases_from (low +ℤ pos i) (drop i targets) ≡ [] = ap (cases_from (low +ℤ pos i)) (drop_all i targets le) in
+    sym (append-nil front) ∙ ap (λ (l : List Case). front ++ l) (sym none) ∙ s.total
+
+-- the key of a case, as it is computed
+pub key_is : (low from : ℤ) (i n : ℕ) → FitsSigned w32 low → (low +ℤ pos n) ≤ℤ pos (2 ^ 31) → i < n → from ≡ to_z w32 (of_z w32 low) → to_z w32 (of_z w32 (to_z w64 (of_z w64 (to_z w64 (of_z w64 from) +ℤ to_z w64 i)))) ≡ to_z w32 (of_z w32 low) +ℤ pos i
+key_is low from i n fits few lt from_is =
+    let low_is : to_z w32 (of_z w32 low) ≡ low = to_z-of_z w32 low fits in
+    let same : from ≡ low = from_is ∙ low_is in
+    let wide : FitsSigned w64 from = omega (arith, ints) in
+    let from_same : to_z w64 (of_z w64 from) ≡ from = to_z-of_z w64 from wide in
+    let short : i < 2 ^ 63 = omega (arith, ints) in
+    let i_is : to_z w64 i ≡ pos i = to_z_pos w64 i short in
+    let sum_is : to_z w64 (of_z w64 from) +ℤ to_z w64 i ≡ low +ℤ pos i = cc in
+    let sum_fits : FitsSigned w32 (low +ℤ pos i) = omega (arith, ints) in
+    let sum_wide : FitsSigned w64 (low +ℤ pos i) = omega (arith, ints) in
+    let inner : to_z w64 (of_z w64 (low +ℤ pos i)) ≡ low +ℤ pos i = to_z-of_z w64 (low +ℤ pos i) sum_wide in
+    let outer : to_z w32 (of_z w32 (low +ℤ pos i)) ≡ low +ℤ pos i = to_z-of_z w32 (low +ℤ pos i) sum_fits in
+    cc
+
+-- ---- rows
+
+row_of-append : {A : Type 0} (rows others : List (ℕ × A)) (o : ℕ) → row_of (rows ++ others) o ≡ option_or (row_of rows o) (row_of others o)
+row_of-append [] others o = refl
+row_of-append (r ∷ rows) others o =
+    elim (r.0 == o) as (λ b. (if b then Some r.1 else row_of (rows ++ others) o) ≡ option_or (if b then Some r.1 else row_of rows o) (row_of others o)) [ true ↦ refl | false ↦ row_of-append rows others o ]
+
+-- a row of some more tables
+pub more_rows : {A : Type 0} (rows others : List (ℕ × A)) (o : ℕ) (x y z : Option A) → x ≡ row_of rows o → y ≡ row_of others o → z ≡ option_or x y → z ≡ row_of (rows ++ others) o
+more_rows rows others o x y z p q r = r ∙ ap (λ u. option_or u y) p ∙ ap (λ u. option_or (row_of rows o) u) q ∙ sym (row_of-append rows others o)
+
+pub is_some_at : {A : Type 0} (o : Option A) (x : A) → o ≡ Some x → IsSome o
+is_some_at (Some y) x e = search rules
+is_some_at None x e = absurd (cc)
+
+-- ---- members
+
+abbrev pub NamesBadly : ℕ → Member → Type 0
+NamesBadly opcode m = (HasFloatType m.sym.desc → ⊥) × ((AccessesFields opcode × IsField m) ⊎ ((opcode ≡ 184) × IsStatic m) → ⊥)
+
+no_float_field : (text : List ℕ) (t : JType) → IsFieldType text t → IsFloatless t → HasFloatType text → ⊥
+no_float_field text t typed floatless (inl (u, is, float)) = float (subst IsFloatless (field_type_once text t u typed is) floatless)
+no_float_field text t typed floatless (inr (d, is, float)) = apart text t d typed is
+
+no_float_method : (text : List ℕ) (d : Descriptor) → IsMethodType text d → IsFloatlessMethod d → HasFloatType text → ⊥
+no_float_method text d typed floatless (inl (t, is, float)) = apart text t d is typed
+no_float_method text d typed floatless (inr (e, is, float)) = float (subst IsFloatlessMethod (method_type_once text d e typed is) floatless)
+
+pub bad_tag : (opcode : ℕ) (m : Member) (t : JType) → IsFieldType m.sym.desc t → IsFloatless t → m.kind ≢ 9 → NamesBadly opcode m
+bad_tag opcode m t typed floatless other = (no_float_field m.sym.desc t typed floatless, named)
+  where
+    named : (AccessesFields opcode × IsField m) ⊎ ((opcode ≡ 184) × IsStatic m) → ⊥
+    named (inl (a, (tag, b))) = other tag
+    named (inr (a, (tag, (d, is)))) = apart m.sym.desc t d typed is
+
+bad_access : (opcode : ℕ) (m : Member) (t : JType) → IsFieldType m.sym.desc t → IsFloatless t → row_of field_rows opcode ≡ None → NamesBadly opcode m
+bad_access opcode m t typed floatless none = (no_float_field m.sym.desc t typed floatless, named)
+  where
+    named : (AccessesFields opcode × IsField m) ⊎ ((opcode ≡ 184) × IsStatic m) → ⊥
+    named (inl (a, b)) = let row = (field_row opcode a).1 in cc
+    named (inr (a, (tag, (d, is)))) = apart m.sym.desc t d typed is
+
+pub bad_call : (opcode : ℕ) (m : Member) (d : Descriptor) → IsMethodType m.sym.desc d → IsFloatlessMethod d → ((opcode ≡ 184) × ((m.kind ≡ 10) ⊎ (m.kind ≡ 11)) → ⊥) → NamesBadly opcode m
+bad_call opcode m d typed floatless other = (no_float_method m.sym.desc d typed floatless, named)
+  where
+    named : (AccessesFields opcode × IsField m) ⊎ ((opcode ≡ 184) × IsStatic m) → ⊥
+    named (inl (a, (tag, (t, is)))) = apart m.sym.desc t d is typed
+    named (inr (a, (tag, b))) = other (a, tag)
+
+pub bad_text : (opcode : ℕ) (m : Member) → ((t : JType) → IsFieldType m.sym.desc t → ⊥) → ((d : Descriptor) → IsMethodType m.sym.desc d → ⊥) → NamesBadly opcode m
+bad_text opcode m no_field no_method = (float, named)
+  where
+    float : HasFloatType m.sym.desc → ⊥
+    float (inl (t, is, h)) = no_field t is
+    float (inr (d, is, h)) = no_method d is
+
+    named : (AccessesFields opcode × IsField m) ⊎ ((opcode ≡ 184) × IsStatic m) → ⊥
+    named (inl (a, (tag, (t, is)))) = no_field t is
+    named (inr (a, (tag, (d, is)))) = no_method d is
+
+pub field_answer : (opcode : ℕ) (m : Member) (t : JType) → IsFieldType m.sym.desc t → IsFloatless t → m.kind ≡ 9 → (r : Result Action Stop) → r ≡ ok_or (option_map (λ (access : JType → Sym → Action). access t m.sym) (row_of field_rows opcode)) (stop.Cause kind.Code) → IsAccessOr opcode m r
+field_answer opcode m t typed floatless tag r is =
+    elim (row_of field_rows opcode) as (λ row. row_of field_rows opcode ≡ row → r ≡ ok_or (option_map (λ (access : JType → Sym → Action). access t m.sym) row) (stop.Cause kind.Code) → IsAccessOr opcode m r) [
+      | None ↦ λ none e. subst (IsAccessOr opcode m) (sym e) (bad_access opcode m t typed floatless none)
+      | Some access ↦ λ row e. subst (IsAccessOr opcode m) (sym e) (inl (record { kind = tag; type = t; typed = typed; floatless = floatless; access = access; row = row; is = refl }))
+    ] refl is

@@ -1,0 +1,84 @@
+-- The constants of a well-formed pool: each String has its text.
+use Rattle.std.proofs.Common.{◌≡◌, ℕ, zero, suc, Bool, true, false, List, [], ◌∷◌, ◌++◌, Option, Some, None, refl, sym, ap, ◌∙◌, subst}
+use Rattle.std.specs.Prelude.{◌||◌, if◌then◌else◌, slice_get}
+use Rattle.std.specs.List.{AllByRecursion, flat_map}
+use Rattle.pv_pool.specs.declared.entry.Entry.{Entry}
+use Rattle.pv_pool.specs.declared.entry.Entry.TheVariants.{Utf8, Long, Double, Text}
+use Rattle.pv_pool.specs.declared.constant.Constant.{Constant}
+use Rattle.pv_pool.specs.declared.constant.Constant.TheVariants as constant
+use Rattle.pv_pool.specs.declared.constant.Member.{Member}
+use Rattle.pv_pool.specs.Pools.{cells, indices, cell_of, entry_under, HasText, Refers}
+use Rattle.pv_pool.specs.Readers.{◌>>=◌, text_of, text_under, constant_of, constant_under, member_under}
+use Rattle.pv_insn.specs.declared.insn.Insn.{Insn}
+use Rattle.pv_insn.specs.declared.insn.Insn.TheVariants as insn
+use Rattle.pv_frame.specs.declared.used.Use.{Use}
+use Rattle.pv_frame.specs.declared.used.Use.TheVariants as used
+use Rattle.pv_frame.specs.Actions.{use_of, use_of_constant, use_of_member, loads_narrow, loads_wide}
+use Rattle.pv_frame.specs.Acting.{HasItsText}
+use Rattle.pv_frame.proofs.Complete.{HasTexts}
+
+-- ---- entries under their indices
+
+same_entry : (x e : Entry) → Some (Some x) ≡ Some (Some e) → x ≡ e
+same_entry x e is = cc
+
+in_cells : (P : Entry → Type 0) (x : Entry) (others : List (Option Entry)) → P x → ((k : ℕ) (e : Entry) → slice_get others k ≡ Some (Some e) → P e) → (k : ℕ) (e : Entry) → slice_get (cells x ++ others) k ≡ Some (Some e) → P e
+in_cells P (Long bits) others p rest zero e is = subst P (same_entry (Long bits) e is) p
+in_cells P (Long bits) others p rest (suc zero) e is = absurd (cc)
+in_cells P (Long bits) others p rest (suc (suc k)) e is = rest k e is
+in_cells P (Double bits) others p rest zero e is = subst P (same_entry (Double bits) e is) p
+in_cells P (Double bits) others p rest (suc zero) e is = absurd (cc)
+in_cells P (Double bits) others p rest (suc (suc k)) e is = rest k e is
+in_cells P x others p rest zero e is = subst P (same_entry x e is) p
+in_cells P x others p rest (suc k) e is = rest k e is
+
+in_entries : (P : Entry → Type 0) (pool : List Entry) → AllByRecursion P pool → (k : ℕ) (e : Entry) → slice_get (flat_map cells pool) k ≡ Some (Some e) → P e
+in_entries P [] all k e is = absurd (cc)
+in_entries P (x ∷ pool) all k e is = in_cells P x (flat_map cells pool) all.0 (in_entries P pool all.1) k e is
+
+cell_is : (o : Option (Option Entry)) (e : Entry) → cell_of o ≡ Some e → o ≡ Some (Some e)
+cell_is (Some c) e is = ap Some is
+cell_is None e is = absurd (cc)
+
+-- what holds of each entry holds of the one under an index
+under_holds : (P : Entry → Type 0) (pool : List Entry) → AllByRecursion P pool → (i : ℕ) (e : Entry) → entry_under pool i ≡ Some e → P e
+under_holds P pool all zero e is = absurd (cc)
+under_holds P pool all (suc i) e is = in_entries P pool all i e (cell_is (slice_get (flat_map cells pool) i) e is)
+
+-- ---- Strings
+
+only_text : (e : Entry) (j : ℕ) → constant_of e ≡ Some (constant.Text j) → e ≡ Text j
+only_text (Text t) j is = cc
+only_text e j is = absurd (cc)
+
+string_under : (o : Option Entry) (j : ℕ) → (o >>= constant_of) ≡ Some (constant.Text j) → o ≡ Some (Text j)
+string_under (Some e) j is = ap Some (only_text e j is)
+string_under None j is = absurd (cc)
+
+pub has_texts : (pool : List Entry) → AllByRecursion (Refers pool) pool → HasTexts pool
+has_texts pool refers i j is =
+    let text : HasText pool j = under_holds (Refers pool) pool refers i (Text j) (string_under (entry_under pool i) j is) in
+    (text.0, ap (λ (o : Option Entry). o >>= text_of) text.1)
+
+-- ---- uses
+
+constant_text : (pool : List Entry) (o : Option Constant) → ((j : ℕ) → o ≡ Some (constant.Text j) → (text : List ℕ) × (text_under pool j ≡ Some text)) → HasItsText pool (use_of_constant o)
+constant_text pool None texts = tt
+constant_text pool (Some (constant.Text j)) texts = texts j refl
+constant_text pool (Some c) texts = tt
+
+member_text : (pool : List Entry) (o : Option Member) → HasItsText pool (use_of_member o)
+member_text pool None = tt
+member_text pool (Some m) = tt
+
+index_text : (pool : List Entry) → HasTexts pool → (opcode i : ℕ) → HasItsText pool (use_of pool (insn.Pool opcode i))
+index_text pool texts opcode i =
+    elim (loads_narrow opcode || loads_wide opcode) as (λ b. HasItsText pool (if b then use_of_constant (constant_under pool i) else use_of_member (member_under pool i))) [
+      | true ↦ constant_text pool (constant_under pool i) (λ j is. texts i j is)
+      | false ↦ member_text pool (member_under pool i)
+    ]
+
+-- what an instruction names has its text
+pub use_text : (pool : List Entry) → HasTexts pool → (i : Insn) → HasItsText pool (use_of pool i)
+use_text pool texts (insn.Pool opcode i) = index_text pool texts opcode i
+use_text pool texts i = tt

@@ -1,0 +1,212 @@
+//! What actions take from the operand stack and put there, by sorts, and where they lead.
+
+ghost use Rattle.std.specs.Prelude.{◌≡◌, ◌+◌, ◌<◌, ◌^◌, IfOk, map, ◌∷◌};
+ghost use Rattle.pv_value.specs.Operations as operation;
+ghost use Rattle.pv_frame.specs.Effects.{sort_of, sort_of_type, sort_of_kind, sort_of_word, sorts_given, test_takes, takes, gives, successors};
+
+use crate::action::{Action, Test};
+use crate::items::Items;
+use crate::sort::Sort;
+use pv_insn::Case;
+use pv_value::{JType, JTypes, Kind, Num, ScalarOp};
+use std::alloc::{AllocError, Global};
+
+/// The sort of a number.
+fn sort_of(number: Num) -> Sort
+    ensures { result ≡ sort_of number }
+{
+    match number {
+        Num::Int(_) => Sort::Int,
+        Num::Long(_) => Sort::Long,
+        Num::Ref(_) => Sort::Ref,
+    }
+}
+
+/// The sort of the values of a type; of floats and doubles none is known.
+pub(crate) fn sort_of_type(jtype: JType) -> Sort
+    ensures { result ≡ sort_of_type jtype }
+{
+    match jtype {
+        JType::Z | JType::B | JType::C | JType::S | JType::I => Sort::Int,
+        JType::J => Sort::Long,
+        JType::F | JType::D => Sort::Unknown,
+        JType::A => Sort::Ref,
+    }
+}
+
+/// The sort of the elements of an array.
+fn sort_of_kind(kind: Kind) -> Sort
+    ensures { result ≡ sort_of_kind kind }
+{
+    match kind {
+        Kind::Long => Sort::Long,
+        Kind::Ref => Sort::Ref,
+        Kind::Int | Kind::Byte | Kind::Char | Kind::Short => Sort::Int,
+    }
+}
+
+/// The sorts of the operands of an operation.
+fn operands(op: ScalarOp) -> &'static [Sort]
+    ensures { result.now ≡ map sort_of_word (operation.takes op) }
+{
+    match op {
+        ScalarOp::Iadd | ScalarOp::Isub | ScalarOp::Imul | ScalarOp::Idiv | ScalarOp::Irem => {
+            &[Sort::Int, Sort::Int]
+        }
+        ScalarOp::Ishl | ScalarOp::Ishr | ScalarOp::Iushr => &[Sort::Int, Sort::Int],
+        ScalarOp::Iand | ScalarOp::Ior | ScalarOp::Ixor => &[Sort::Int, Sort::Int],
+        ScalarOp::Ieq | ScalarOp::Ilt => &[Sort::Int, Sort::Int],
+        ScalarOp::Ineg | ScalarOp::I2b | ScalarOp::I2c | ScalarOp::I2s | ScalarOp::I2l => {
+            &[Sort::Int]
+        }
+        ScalarOp::Ladd | ScalarOp::Lsub | ScalarOp::Lmul | ScalarOp::Ldiv | ScalarOp::Lrem => {
+            &[Sort::Long, Sort::Long]
+        }
+        ScalarOp::Lshl | ScalarOp::Lshr | ScalarOp::Lushr => &[Sort::Long, Sort::Int],
+        ScalarOp::Land | ScalarOp::Lor | ScalarOp::Lxor => &[Sort::Long, Sort::Long],
+        ScalarOp::Leq | ScalarOp::Lcmp => &[Sort::Long, Sort::Long],
+        ScalarOp::Lneg | ScalarOp::L2i => &[Sort::Long],
+    }
+}
+
+/// The sort of the value of an operation.
+fn value_sort(op: ScalarOp) -> Sort
+    ensures { result ≡ sort_of_word (operation.gives op) }
+{
+    match op {
+        ScalarOp::I2l
+        | ScalarOp::Ladd
+        | ScalarOp::Lsub
+        | ScalarOp::Lmul
+        | ScalarOp::Ldiv
+        | ScalarOp::Lrem
+        | ScalarOp::Lshl
+        | ScalarOp::Lshr
+        | ScalarOp::Lushr
+        | ScalarOp::Land
+        | ScalarOp::Lor
+        | ScalarOp::Lxor
+        | ScalarOp::Lneg => Sort::Long,
+        _ => Sort::Int,
+    }
+}
+
+/// The sorts that a test asks for.
+fn test_takes(test: Test) -> &'static [Sort]
+    ensures { result.now ≡ test_takes test }
+{
+    match test {
+        Test::Zero(_) => &[Sort::Int],
+        Test::Ints(_) => &[Sort::Int, Sort::Int],
+        Test::Same | Test::Other => &[Sort::Ref, Sort::Ref],
+        Test::Null | Test::NonNull => &[Sort::Ref],
+    }
+}
+
+/// The sorts of parameters.
+fn parameter_sorts(alloc: Global, params: &JTypes) -> Result<Vec<Sort>, AllocError>
+    ensures { IfOk result (λ v. v.items ≡ map sort_of_type params.now) }
+{
+    let mut sorts = Vec::new(alloc);
+    for param in params.as_slice() {
+        sorts.push(sort_of_type(*param))?;
+    }
+    Ok(sorts)
+}
+
+/// The sorts of the operands, in the order in which they are pushed; none for a move.
+pub(crate) fn takes(alloc: Global, action: &Action) -> Result<Vec<Sort>, AllocError>
+    ensures { IfOk result (λ v. v.items ≡ takes action.now) }
+{
+    match action {
+        Action::Store(sort, _) => [*sort].to_vec(alloc),
+        Action::Scalar(op) | Action::Divide(op) => operands(*op).to_vec(alloc),
+        Action::Branch(test, _) => test_takes(*test).to_vec(alloc),
+        Action::Switch(_, _) => [Sort::Int].to_vec(alloc),
+        Action::Give(Some(sort)) => [*sort].to_vec(alloc),
+        Action::Throw | Action::GetField(_, _) | Action::Length => [Sort::Ref].to_vec(alloc),
+        Action::PutStatic(field, _) => [sort_of_type(*field)].to_vec(alloc),
+        Action::PutField(field, _) => [Sort::Ref, sort_of_type(*field)].to_vec(alloc),
+        Action::LoadElement(_) => [Sort::Ref, Sort::Int].to_vec(alloc),
+        Action::StoreElement(kind) => { [Sort::Ref, Sort::Int, sort_of_kind(*kind)].to_vec(alloc) }
+        Action::Call(desc, _) => parameter_sorts(alloc, &desc.params),
+        Action::Nop
+        | Action::Push(_)
+        | Action::Literal(_)
+        | Action::Load(_, _)
+        | Action::Increase(_, _)
+        | Action::Move(_)
+        | Action::Jump(_)
+        | Action::Give(None)
+        | Action::GetStatic(_, _) => Ok(Vec::new(alloc)),
+    }
+}
+
+/// The sort of the value that is pushed, if one is; none for a move.
+pub(crate) fn gives(action: &Action) -> Option<Sort>
+    ensures { sorts_given result ≡ gives action.now }
+{
+    match action {
+        Action::Push(number) => Some(sort_of(*number)),
+        Action::Literal(_) => Some(Sort::Ref),
+        Action::Load(sort, _) => Some(*sort),
+        Action::Scalar(op) | Action::Divide(op) => Some(value_sort(*op)),
+        Action::GetStatic(field, _) | Action::GetField(field, _) => Some(sort_of_type(*field)),
+        Action::LoadElement(kind) => Some(sort_of_kind(*kind)),
+        Action::Length => Some(Sort::Int),
+        Action::Call(desc, _) => desc.result.map(|value| sort_of_type(value)),
+        Action::Nop
+        | Action::Store(_, _)
+        | Action::Increase(_, _)
+        | Action::Move(_)
+        | Action::Branch(_, _)
+        | Action::Jump(_)
+        | Action::Switch(_, _)
+        | Action::Give(_)
+        | Action::Throw
+        | Action::PutStatic(_, _)
+        | Action::PutField(_, _)
+        | Action::StoreElement(_) => None,
+    }
+}
+
+/// The places to which the instruction at a place may lead.
+pub(crate) fn successors(alloc: Global, place: u32, action: &Action) -> Result<Vec<u32>, AllocError>
+    requires { place + 1 < 2 ^ 32 }
+    ensures { IfOk result (λ v. v.items ≡ successors place action.now) }
+{
+    match action {
+        Action::Branch(_, target) => [*target, place + 1].to_vec(alloc),
+        Action::Jump(target) => [*target].to_vec(alloc),
+        Action::Switch(default, cases) => switch_targets(alloc, *default, cases),
+        Action::Give(_) | Action::Throw => Ok(Vec::new(alloc)),
+        Action::Nop
+        | Action::Push(_)
+        | Action::Literal(_)
+        | Action::Load(_, _)
+        | Action::Store(_, _)
+        | Action::Increase(_, _)
+        | Action::Move(_)
+        | Action::Scalar(_)
+        | Action::Divide(_)
+        | Action::GetStatic(_, _)
+        | Action::PutStatic(_, _)
+        | Action::GetField(_, _)
+        | Action::PutField(_, _)
+        | Action::LoadElement(_)
+        | Action::StoreElement(_)
+        | Action::Length
+        | Action::Call(_, _) => [place + 1].to_vec(alloc),
+    }
+}
+
+/// The default target of a switch, and the targets of its cases.
+fn switch_targets(alloc: Global, default: u32, cases: &Items<Case>) -> Result<Vec<u32>, AllocError>
+    ensures { IfOk result (λ v. v.items ≡ default ∷ map (λ c. c.target) cases.now) }
+{
+    let mut targets = [default].to_vec(alloc)?;
+    for case in cases.as_slice() {
+        targets.push(case.target)?;
+    }
+    Ok(targets)
+}

@@ -44,7 +44,7 @@ pub use int_op::IntOp;
 pub use memory::Memory;
 pub use name::{Name, Sym};
 pub use number::{Num, Nums};
-pub use operation::ScalarOp;
+pub use operation::{ScalarOp, scalar};
 pub use outcome::{Fault, Input, Outcome, Val};
 pub use tables::{Booleans, Homes, Lengths, Literals};
 pub use world::{Call, CallKey, Calls, World};

@@ -1,22 +1,22 @@
 -- What is read as a type is a value of it, and what was written as a type is read again.
-use Rattle.std.proofs.Common.{◌≡◌, ◌≢◌, ℕ, ◌%◌, ◌<◌, ◌≤◌, ℤ, pos, negsuc, Option, Some, None, refl, sym, ap, subst, ◌∙◌, FitsSigned, arith}
-use Rattle.std.specs.Prelude.{option_map, ◌≤ℤ◌}
-use Rattle.std.specs.Int.{w8, w16, w32, w64, int_wrap, int_rem_euclid, cast_signed, cast_unsigned}
+use Rattle.std.proofs.Common.{◌≡◌, ℕ, ◌%◌, ◌<◌, ℤ, pos, negsuc, Option, Some, None, refl, sym, ap, subst, ◌∙◌, FitsSigned, arith}
+use Rattle.std.specs.Prelude.{option_map}
+use Rattle.std.specs.Int.{w8, w16, w32, w64, int_wrap, int_rem_euclid, cast_unsigned}
 use Rattle.std.specs.FinMap.{FinMap, get}
 use Rattle.std.proofs.lemmas.Int.{SFits-int_wrap, int_wrap_fits, of_z-to_z, ints}
 use Rattle.std.specs.Option.{unwrap_or}
 use Rattle.std.proofs.Math.Facts.{Fits-of_z, sfits_to_z}
 use Rattle.std.proofs.Math.Nat.{mod-lt, mod-eq_of_lt}
 use Rattle.pv_value.specs.declared.descriptor.JType.{JType}
-use Rattle.pv_value.specs.declared.descriptor.JType.TheVariants.{Z, B, C, S, I, J, F, D, A}
+use Rattle.pv_value.specs.declared.descriptor.JType.TheVariants.{Z, B, C, S, I, J, A}
 use Rattle.pv_value.specs.declared.number.Num.{Num}
 use Rattle.pv_value.specs.declared.number.Num.TheVariants.{Int, Long, Ref}
 use Rattle.pv_value.specs.declared.heap.Loc.{Loc}
 use Rattle.pv_value.specs.Order.{loc_cmp}
-use Rattle.pv_value.specs.Numbers.{IsRef, IsNum}
+use Rattle.pv_value.specs.Numbers.{IsNum}
 use Rattle.pv_value.specs.Inputs.{IsBetween, IsOfType}
-use Rattle.pv_value.specs.Heaps.{read, written, IsLoc, IsHeap}
-use Rattle.pv_value.specs.Narrowing.{narrowed, as_type, heap_number, kept, shown, read_as, written_as}
+use Rattle.pv_value.specs.Heaps.{read, written, IsHeap}
+use Rattle.pv_value.specs.Narrowing.{narrowed, as_type, heap_number, shown, written_as}
 use Rattle.pv_value.specs.Laws.{NarrowingKept}
 use Rattle.pv_value.proofs.Fitting.{type_num}
 use Rattle.pv_value.proofs.Writes.{read_same, read_other, IsHeap-written}

@@ -2,7 +2,7 @@
 use Rattle.std.proofs.Common.{◌≡◌, ℕ, ◌+◌, ◌≤◌, ◌<◌, ℤ, pos, ◌+ℤ◌, List, [], ◌∷◌, ◌++◌, length, get_or, drop, refl, sym, ap, ◌∙◌, subst, inl, inr, arith, append_assoc, ◌^◌, ◌≤ℤ◌, w32, w64, FitsSigned, to_z, of_z}
 use Rattle.std.proofs.lemmas.Int.{ints, to_z-of_z, to_z_pos}
 use Rattle.std.proofs.lemmas.List.{drop_more, drop_all, append-nil}
-use Rattle.std.specs.Prelude.{◌≢◌, ◌⊎◌, ◌==◌, ok_or, option_map, IsSome, if◌then◌else◌, Bool, true, false, Option, Some, None, Result}
+use Rattle.std.specs.Prelude.{◌≢◌, ◌⊎◌, ◌==◌, ok_or, option_map, IsSome, if◌then◌else◌, true, false, Option, Some, None, Result}
 use Rattle.std.specs.Option.{option_or}
 use Rattle.std.proofs.Common.{rules}
 use Rattle.pv_value.specs.declared.name.Sym.{Sym}

@@ -1,8 +1,8 @@
 -- Answers: a method has one, and each is found where nothing comes before it.
-use Rattle.std.proofs.Common.{◌≡◌, ◌≢◌, ℕ, ◌+◌, ◌≤◌, ◌<◌, ◌^◌, refl, List, [], ◌∷◌, ◌++◌, length, get_or, Some, ◌∙◌, ap, sym, subst, arith}
+use Rattle.std.proofs.Common.{◌≡◌, ℕ, ◌≤◌, ◌<◌, ◌^◌, refl, List, [], ◌∷◌, length, get_or, Some, ◌∙◌, ap, sym, subst, arith}
 use Rattle.std.specs.Prelude.{Result, Ok, Err, slice_get}
 use Rattle.std.proofs.lemmas.Option.{slice_get_read, slice_get_within}
-use Rattle.std.specs.List.{AllZip, AllByRecursion}
+use Rattle.std.specs.List.{AllZip}
 use Rattle.std.proofs.lemmas.Slice.Zip.{AllZip-long}
 use Rattle.pv_value.specs.declared.descriptor.Descriptor.{Descriptor}
 use Rattle.pv_value.specs.Descriptors.{IsMethodType}
@@ -27,12 +27,11 @@ use Rattle.pv_frame.specs.declared.cause.Cause.{Cause}
 use Rattle.pv_frame.specs.declared.cause.Refused.{Refused}
 use Rattle.pv_frame.specs.declared.cause.Refused.TheVariants as refused
 use Rattle.pv_frame.specs.declared.program.Program.{Program}
-use Rattle.pv_frame.specs.declared.frame.Frame.{Frame}
 use Rattle.pv_frame.specs.declared.typed.Typed.{Typed}
 use Rattle.pv_frame.specs.Actions.{IsUse, IsFloatlessMethod}
-use Rattle.pv_frame.specs.Programs.{is_instance, IsUnsynchronized, Does, IsProgramOf}
+use Rattle.pv_frame.specs.Programs.{is_instance, Does, IsProgramOf}
 use Rattle.pv_frame.specs.Frames.{HasFrames, IsInferred}
-use Rattle.pv_frame.specs.Causes.{address_of, IsFirst, HasNoCause, IsCauseOf, cause, Row, handler, synchronized, long_code, slots, float, bad_code, instruction, untyped, IsRefused, IsAccepted}
+use Rattle.pv_frame.specs.Causes.{address_of, IsFirst, cause, Row, handler, synchronized, long_code, slots, float, bad_code, instruction, untyped, IsRefused}
 use Rattle.pv_frame.specs.Acting.{AreActing, IsFirstOf, OnCause}
 use Rattle.pv_frame.specs.Answers.{HasCode, IsTyping, IsAnswer, Said, IsOnly}
 use Rattle.pv_frame.specs.Rows.{IsPlain, IsEarly, refused_for, IsCoded}

@@ -1,4 +1,4 @@
--- Laws of frames: operands are those that are asked for, and an instruction that goes on from a frame goes on from each that tells more of the locals.
+-- Laws of frames: operands are those that are asked for, and an instruction that goes on from a frame goes on from each that knows more of the locals.
 use Rattle.std.proofs.Common.{◌≡◌, ℕ, zero, suc, Bool, true, false, List, [], ◌∷◌, length, Some, None, ◌∙◌, refl, ap, sym, subst, inl, inr}
 use Rattle.std.specs.Prelude.{◌⊎◌, map, reverse, option_map, if◌then◌else◌, nat_lt, slice_get}
 use Rattle.std.specs.List.{AllZip}
@@ -111,7 +111,7 @@ all_less_less (r ∷ l) (s ∷ m) (t ∷ n) p q = (less_less r s t p.0 q.0, all_
 pub flows_flows : (f g h : Frame) → Flows f g → Flows g h → Flows f h
 flows_flows f g h p q = record { stack = q.stack ∙ p.stack; locals = all_less_less f.locals g.locals h.locals p.locals q.locals }
 
--- ---- an instruction from a frame that tells more
+-- ---- an instruction from a frame that knows more
 
 abbrev pub framed : List Sort → List Sort → Frame
 framed stack locals = record { stack = stack; locals = locals }
@@ -193,7 +193,7 @@ after_more a stack l m h all e =
           record { after = d.after; is = ap (λ (o : Taken Sort). o >>= λ x. frame_done a (framed x.1 l)) is ∙ d.is; flows = d.flows }
     ] refl e
 
--- from a frame that tells more of the locals
+-- from a frame that knows more of the locals
 pub goes_from : (a : Action) (f g h : Frame) → Flows f g → frame_after a g ≡ Some h → Goes a f h
 goes_from a f g h flows e =
     let same_stack : frame_after a (framed f.stack g.locals) ≡ Some h = ap (λ (stack : List Sort). frame_after a (framed stack g.locals)) (sym flows.stack) ∙ e in

@@ -1,7 +1,7 @@
 -- The frames so far, from the entry on until no place waits.
-use Rattle.std.proofs.Common.{◌≡◌, ◌≢◌, ℕ, zero, suc, ◌+◌, ◌-◌, ◌≤◌, ◌<◌, Bool, true, false, List, [], ◌∷◌, ◌++◌, length, replicate, Option, Some, None, refl, sym, ap, ◌∙◌, subst, inl, inr, arith, get_or, length-append}
+use Rattle.std.proofs.Common.{◌≡◌, ◌≢◌, ℕ, zero, suc, ◌+◌, ◌-◌, ◌≤◌, ◌<◌, true, false, List, [], ◌∷◌, ◌++◌, length, replicate, Option, Some, None, refl, sym, ap, ◌∙◌, subst, inl, inr, arith, get_or, length-append}
 use Rattle.std.specs.Prelude.{◌⊎◌, slice_get, sum_by, option_map, Contains, if◌then◌else◌, Result, Ok, Err}
-use Rattle.std.specs.List.{AllZip, AllByRecursion}
+use Rattle.std.specs.List.{AllByRecursion}
 use Rattle.std.proofs.lemmas.List.{length-replicate}
 use Rattle.std.proofs.lemmas.List.Elements.{Contains-push_cases}
 use Rattle.std.proofs.lemmas.Option.{slice_get_within, slice_get_read}
@@ -15,15 +15,15 @@ use Rattle.pv_frame.specs.declared.frame.Frame.{Frame}
 use Rattle.pv_frame.specs.Stacks.{is_wide, width, popped, moved, first_cleared, has_room, set_local}
 use Rattle.pv_frame.specs.Effects.{takes, gives, successors}
 use Rattle.pv_frame.specs.Programs.{IsAt}
-use Rattle.pv_frame.specs.Frames.{same, pushed, holds, padded_sorts, passed_to, entry_frame, frame_done, frame_after, Flows, IsFrameAt, LeadsTo, IsEnd, Finds, Leaves, GoesOn, IsTyped, Agrees, HasFrames, Reached, first, next, IsInferred}
+use Rattle.pv_frame.specs.Frames.{same, pushed, holds, padded_sorts, passed_to, entry_frame, frame_done, frame_after, Flows, IsFrameAt, LeadsTo, Leaves, GoesOn, IsTyped, Agrees, HasFrames, Reached, first, next, IsInferred}
 use Rattle.pv_frame.specs.declared.stop.Untyped.{Untyped}
 use Rattle.pv_frame.specs.declared.stop.Untyped.TheVariants as untyped
 use Rattle.pv_frame.specs.Inferring as Infers
 use Rattle.pv_frame.specs.Inferring.{weight, HaveLocals, Below, Within, Follows, Clashes, Inferring, Visits}
-use Rattle.pv_frame.proofs.FrameLaws.{some_of, no_some, if_some, framed, Goes, goes_from}
+use Rattle.pv_frame.proofs.FrameLaws.{some_of, no_some, if_some, framed, goes_from}
 use Rattle.pv_frame.proofs.Inferred.{typed_goes, leads_nowhere}
 use Rattle.pv_frame.proofs.Lists.{all_map, contains_first, contains_more, contains_cases, contains_none}
-use Rattle.pv_frame.proofs.Edges.{leads_from, leads_below, follows_none}
+use Rattle.pv_frame.proofs.Edges.{leads_from, leads_below}
 
 -- ---- the number of locals stays
 

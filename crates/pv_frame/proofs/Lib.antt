@@ -17,3 +17,4 @@ pub mod StackSteps
 pub mod FlowLaws
 pub mod InferenceLaws
 pub mod AnswerLaws
+pub mod CauseExamples

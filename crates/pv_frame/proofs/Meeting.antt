@@ -1,5 +1,5 @@
 -- What two lists of locals both know is the most that flows from both.
-use Rattle.std.proofs.Common.{◌≡◌, ℕ, zero, suc, ◌+◌, ◌≤◌, ◌<◌, Bool, true, false, List, [], ◌∷◌, length, Option, Some, None, refl, sym, ap, ◌∙◌, subst, inl, inr, arith}
+use Rattle.std.proofs.Common.{◌≡◌, suc, ◌≤◌, ◌<◌, true, false, List, [], ◌∷◌, length, Option, Some, None, refl, sym, ap, ◌∙◌, subst, inl, inr, arith}
 use Rattle.std.specs.Prelude.{◌⊎◌, if◌then◌else◌}
 use Rattle.std.specs.List.{AllZip}
 use Rattle.pv_frame.specs.declared.sort.Sort.{Sort}
@@ -8,7 +8,7 @@ use Rattle.pv_frame.specs.declared.frame.Frame.{Frame}
 use Rattle.pv_frame.specs.Stacks.{fits}
 use Rattle.pv_frame.specs.Frames.{Flows}
 use Rattle.pv_frame.specs.Inferring.{met, merged, SameStack, known, known_in, weight_of}
-use Rattle.pv_frame.proofs.FrameLaws.{Less, fits_same, flows_flows, some_of}
+use Rattle.pv_frame.proofs.FrameLaws.{Less, fits_same, some_of}
 
 abbrev meet : Sort → Sort → Sort
 meet s t = if fits s t then t else sort.Unknown

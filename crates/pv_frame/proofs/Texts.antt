@@ -1,18 +1,16 @@
 -- The constants of a well-formed pool: each String has its text.
-use Rattle.std.proofs.Common.{◌≡◌, ℕ, zero, suc, Bool, true, false, List, [], ◌∷◌, ◌++◌, Option, Some, None, refl, sym, ap, ◌∙◌, subst}
+use Rattle.std.proofs.Common.{◌≡◌, ℕ, zero, suc, true, false, List, [], ◌∷◌, ◌++◌, Option, Some, None, refl, ap, subst}
 use Rattle.std.specs.Prelude.{◌||◌, if◌then◌else◌, slice_get}
 use Rattle.std.specs.List.{AllByRecursion, flat_map}
 use Rattle.pv_pool.specs.declared.entry.Entry.{Entry}
-use Rattle.pv_pool.specs.declared.entry.Entry.TheVariants.{Utf8, Long, Double, Text}
+use Rattle.pv_pool.specs.declared.entry.Entry.TheVariants.{Long, Double, Text}
 use Rattle.pv_pool.specs.declared.constant.Constant.{Constant}
 use Rattle.pv_pool.specs.declared.constant.Constant.TheVariants as constant
 use Rattle.pv_pool.specs.declared.constant.Member.{Member}
-use Rattle.pv_pool.specs.Pools.{cells, indices, cell_of, entry_under, HasText, Refers}
+use Rattle.pv_pool.specs.Pools.{cells, cell_of, entry_under, HasText, Refers}
 use Rattle.pv_pool.specs.Readers.{◌>>=◌, text_of, text_under, constant_of, constant_under, member_under}
 use Rattle.pv_insn.specs.declared.insn.Insn.{Insn}
 use Rattle.pv_insn.specs.declared.insn.Insn.TheVariants as insn
-use Rattle.pv_frame.specs.declared.used.Use.{Use}
-use Rattle.pv_frame.specs.declared.used.Use.TheVariants as used
 use Rattle.pv_frame.specs.Actions.{use_of, use_of_constant, use_of_member, loads_narrow, loads_wide}
 use Rattle.pv_frame.specs.Acting.{HasItsText}
 use Rattle.pv_frame.proofs.Complete.{HasTexts}

@@ -1,5 +1,5 @@
 -- What the functions of this crate answer of instructions; private to it.
-use Rattle.std.specs.Prelude.{◌≡◌, ◌⊎◌, ℕ, Some, List, [], ◌∷◌, ◌++◌, Result, Ok, Err}
+use Rattle.std.specs.Prelude.{◌≡◌, ◌⊎◌, ℕ, Some, List, ◌∷◌, ◌++◌, Result, Ok, Err}
 use Rattle.std.specs.List.{AllZip, AllByRecursion}
 use Rattle.pv_pool.specs.declared.entry.Entry.{Entry}
 use Rattle.pv_insn.specs.declared.insn.Insn.{Insn}

@@ -8,7 +8,7 @@ use Rattle.pv_frame.specs.declared.program.Program.{Program}
 use Rattle.pv_frame.specs.declared.stop.Untyped.{Untyped}
 use Rattle.pv_frame.specs.declared.stop.Untyped.TheVariants as untyped
 use Rattle.pv_frame.specs.Stacks.{fits}
-use Rattle.pv_frame.specs.Frames.{entry_frame, passed_to, Flows, IsFrameAt, LeadsTo, IsTyped, Agrees, Reached}
+use Rattle.pv_frame.specs.Frames.{entry_frame, passed_to, IsFrameAt, LeadsTo, IsTyped, Agrees, Reached}
 
 -- what a call found, or that there is nothing to find, unless it ran out of memory
 abbrev pub Finds : {A : Type 0} → Result A Untyped → (A → Type 0) → Type 0 → Type 0
@@ -19,8 +19,8 @@ Finds (Err untyped.Memory) P Q = Unit {0}
 -- ---- frames of which two know the same
 
 -- along an edge each local of the target is the source's or unknown
-abbrev pub TellsLess : List Sort → List Sort → Type 0
-TellsLess source target = AllZip (λ s t. (t ≡ s) ⊎ (t ≡ sort.Unknown)) source target
+abbrev pub KnowsLess : List Sort → List Sort → Type 0
+KnowsLess source target = AllZip (λ s t. (t ≡ s) ⊎ (t ≡ sort.Unknown)) source target
 
 -- what both of two lists of locals know
 abbrev pub met : List Sort → List Sort → List Sort

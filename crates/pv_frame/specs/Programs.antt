@@ -1,7 +1,6 @@
 -- Programs: what there is to run of a method (JVMS 2.6, 4.6, 4.7.3).
 use Rattle.std.specs.Prelude.{◌≡◌, ℕ, Bool, List, Some, bit_and, ◌==◌, slice_get}
 use Rattle.std.specs.List.{AllZip}
-use Rattle.pv_value.specs.declared.descriptor.Descriptor.{Descriptor}
 use Rattle.pv_value.specs.Descriptors.{IsMethodType}
 use Rattle.pv_pool.specs.declared.entry.Entry.{Entry}
 use Rattle.pv_class.specs.declared.file.ClassFile.{ClassFile}

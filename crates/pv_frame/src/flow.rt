@@ -5,7 +5,7 @@ ghost use Rattle.std.specs.List.{AllZip};
 ghost use Rattle.std.specs.Option.{option_map};
 ghost use Rattle.pv_frame.specs.Effects.{takes, gives, sorts_given};
 ghost use Rattle.pv_frame.specs.Frames.{Flows, frame_done, frame_after, passed_to, entry_frame, IsEnd, Leaves};
-ghost use Rattle.pv_frame.specs.Inferring.{Finds, TellsLess, met, merged, SameStack};
+ghost use Rattle.pv_frame.specs.Inferring.{Finds, KnowsLess, met, merged, SameStack};
 
 use crate::action::Action;
 use crate::effect::{gives, sort_of_type, takes};
@@ -26,8 +26,8 @@ fn same_sorts(first: &[Sort], second: &[Sort]) -> bool
 }
 
 /// Whether each of the second locals is the first's or unknown.
-fn tells_less(source: &[Sort], target: &[Sort]) -> bool
-    ensures { IsTrue result ↔ TellsLess source.now target.now }
+fn knows_less(source: &[Sort], target: &[Sort]) -> bool
+    ensures { IsTrue result ↔ KnowsLess source.now target.now }
 {
     let mut left = source;
     let mut others = target;
@@ -49,7 +49,7 @@ pub(crate) fn flows(source: &Frame, target: &Frame) -> bool
     ensures { IsTrue result ↔ Flows source.now target.now }
 {
     same_sorts(target.stack.as_slice(), source.stack.as_slice())
-        && tells_less(source.locals.as_slice(), target.locals.as_slice())
+        && knows_less(source.locals.as_slice(), target.locals.as_slice())
 }
 
 /// What two lists of locals both know.

@@ -1,6 +1,4 @@
 use Rattle.std.proofs.Common.{List, ℕ, ◌≡◌, sym, subst}
-use Rattle.pv_value.specs.declared.descriptor.JType.{JType}
-use Rattle.pv_value.specs.declared.descriptor.Descriptor.{Descriptor}
 use Rattle.pv_value.specs.Descriptors.{IsFieldType, IsMethodType}
 use Rattle.pv_frame.proofs.ActingLaws.{bad_text}
 use Rattle.pv_frame.proofs.acting.access.Goals as goal

@@ -1,4 +1,4 @@
-use Rattle.std.proofs.Common.{◌≡◌, ℕ, List, ◌∙◌, ap, sym, subst, refl, arith}
+use Rattle.std.proofs.Common.{List, ap, sym, subst, refl, arith}
 use Rattle.std.specs.Prelude.{Err, length}
 use Rattle.std.specs.List.{AllZip, AllByRecursion}
 use Rattle.std.proofs.lemmas.Result.{err_from_is_err_and}
@@ -7,8 +7,7 @@ use Rattle.pv_insn.proofs.Formed.{IsFormed, formed}
 use Rattle.pv_insn.specs.Codes.{IsCode}
 use Rattle.pv_frame.specs.declared.action.Action.{Action}
 use Rattle.pv_frame.specs.Programs.{is_instance, Does}
-use Rattle.pv_frame.specs.Acting.{AreActing}
-use Rattle.pv_frame.specs.Answers.{Said, IsAnswer, IsOnly}
+use Rattle.pv_frame.specs.Answers.{Said, IsAnswer}
 use Rattle.pv_frame.proofs.AnswerLaws.{said_only, typing_only, refused_only, has_bytes, early_refused, fault_answers, first_answers, few_actions, types_refused, typing_is}
 use Rattle.pv_frame.proofs.inference.infer_method.Goals as goal
 

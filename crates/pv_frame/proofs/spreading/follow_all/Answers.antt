@@ -1,5 +1,5 @@
 use Rattle.std.proofs.lemmas.Result.{err_from_is_err_and}
-use Rattle.pv_frame.proofs.Edges.{follows_none, follows_next, follows_all, clashes_next}
+use Rattle.pv_frame.proofs.Edges.{follows_none, follows_next, clashes_next}
 use Rattle.pv_frame.proofs.spreading.follow_all.Goals as goal
 
 pub loop-place-init : goal.loop-place-init

@@ -1,4 +1,4 @@
-use Rattle.std.proofs.Common.{◌∙◌, ◌≡◌, ℕ, List, length, ap, subst, arith}
+use Rattle.std.proofs.Common.{ℕ, List, length, ap, subst, arith}
 use Rattle.std.proofs.lemmas.Result.{err_from_is_err_and}
 use Rattle.pv_frame.specs.Inferring.{Inferring}
 use Rattle.pv_frame.proofs.InferenceLaws.{start_answers, start_follows, next_waits, inferred}

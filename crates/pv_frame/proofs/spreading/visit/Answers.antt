@@ -1,4 +1,4 @@
-use Rattle.std.proofs.Common.{◌≤◌, List, sum_by, ◌∙◌, sym, ap, subst}
+use Rattle.std.proofs.Common.{◌≤◌, List, sum_by, ◌∙◌, sym, subst}
 use Rattle.pv_frame.specs.declared.sort.Sort.{Sort}
 use Rattle.pv_frame.specs.Stacks.{width}
 use Rattle.pv_frame.proofs.InferenceLaws.{frame_at, action_at, visits_end, no_room, no_after, after_have, visit_answers}

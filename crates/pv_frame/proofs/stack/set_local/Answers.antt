@@ -1,5 +1,4 @@
-use Rattle.std.proofs.Common.{List, ap, sym, ◌∙◌}
-use Rattle.pv_frame.specs.declared.sort.Sort.{Sort}
+use Rattle.std.proofs.Common.{ap, sym, ◌∙◌}
 use Rattle.pv_frame.specs.Stacking.{lost_before}
 use Rattle.pv_frame.proofs.StackSteps.{stored_wide, stored_narrow, set_local_is}
 use Rattle.pv_frame.proofs.stack.set_local.Goals as goal

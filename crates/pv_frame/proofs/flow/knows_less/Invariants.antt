@@ -1,10 +1,10 @@
 use Rattle.std.proofs.Common.{length}
 use Rattle.std.specs.Prelude.{◌↔◌}
-use Rattle.pv_frame.specs.Inferring.{TellsLess}
-use Rattle.pv_frame.proofs.flow.tells_less.Given as goal
+use Rattle.pv_frame.specs.Inferring.{KnowsLess}
+use Rattle.pv_frame.proofs.flow.knows_less.Given as goal
 
 abbrev pub invariant-loop-left : goal.invariant-loop-left
-invariant-loop-left l = TellsLess l.left l.others ↔ TellsLess l.source l.target
+invariant-loop-left l = KnowsLess l.left l.others ↔ KnowsLess l.source l.target
 
 abbrev pub decreases-loop-left : goal.decreases-loop-left
 decreases-loop-left l = length l.left

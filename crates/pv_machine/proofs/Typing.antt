@@ -159,11 +159,15 @@ never_stuck file m p is w world input fits n s e =
 
 -- ---- ends
 
-after_more : (p : Program) (w : World) (s : State) (n : ℕ) → after p w s (suc n) ≡ go_on p w (after p w s n)
+pub after_more : (p : Program) (w : World) (s : State) (n : ℕ) → after p w s (suc n) ≡ go_on p w (after p w s n)
 unfolding after
 after_more p w s n = refl
 
-ended_later : (p : Program) (w : World) (s : State) (n k : ℕ) (o : Outcome) → after p w s n ≡ ended o → after p w s (k + n) ≡ ended o
+pub after_none : (p : Program) (w : World) (s : State) → after p w s zero ≡ running s
+unfolding after
+after_none p w s = refl
+
+pub ended_later : (p : Program) (w : World) (s : State) (n k : ℕ) (o : Outcome) → after p w s n ≡ ended o → after p w s (k + n) ≡ ended o
 ended_later p w s n zero o e = subst (λ (m : ℕ). after p w s m ≡ ended o) (omega arith) e
 ended_later p w s n (suc k) o e =
     let next : suc (k + n) ≡ suc k + n = omega arith in

@@ -101,8 +101,11 @@ of_sort s (Some n) = if fits (sort_of n) s then Some n else None
 of_sort s None = None
 
 -- the value in a local, where it has this sort
+abbrev pub held : List (Option Num) → ℕ → Sort → Option Num
+held locals k t = slice_get locals k >>= of_sort t
+
 abbrev pub local : State → ℕ → Sort → Option Num
-local s k t = slice_get s.locals k >>= of_sort t
+local s k t = held s.locals k t
 
 abbrev pub stored : State → ℕ → Num → Option State
 stored s k n = if has_room (sort_of n) k s.locals then Some (record s { locals = set_local sort_of_local None k (Some n) s.locals }) else None

@@ -10,9 +10,9 @@ use Rattle.pv_loops.proofs.Grouping.{source_within}
 -- one more number in one list
 pub contains_push : (xs : List ℕ) (n a : ℕ) → Contains (xs ++ n ∷ []) a ↔ (Contains xs a ⊎ (a ≡ n))
 contains_push xs n a = (
-    (λ h. ⊎_elim (λ (c : Contains xs a). inl c) (λ (e : n ≡ a). inr (sym e)) (Contains-push_cases xs n a h)),
-    (λ h. ⊎_elim (λ (c : Contains xs a). Contains-append_left xs (n ∷ []) a c) (λ (e : a ≡ n). subst (λ (v : ℕ). Contains (xs ++ n ∷ []) v) (sym e) (Contains-push xs n)) h)
-  )
+  (λ h. ⊎_elim (λ (c : Contains xs a). inl c) (λ (e : n ≡ a). inr (sym e)) (Contains-push_cases xs n a h)),
+  (λ h. ⊎_elim (λ (c : Contains xs a). Contains-append_left xs (n ∷ []) a c) (λ (e : a ≡ n). subst (λ (v : ℕ). Contains (xs ++ n ∷ []) v) (sym e) (Contains-push xs n)) h),
+)
 
 -- one more element of a list that is gone through
 pub contains_more : (xs : List ℕ) (i a : ℕ) → i < length xs → Contains (take (i + 1) xs) a ↔ (Contains (take i xs) a ⊎ (a ≡ get_or xs i 0))
@@ -21,42 +21,44 @@ contains_more xs i a h = subst (λ (l : List ℕ). Contains l a ↔ (Contains (t
 -- the lists after a push to one of them
 pub push_edge : (g : List (List ℕ)) (t n b a : ℕ) → t < length g → Edge (set g t (get_or g t [] ++ n ∷ [])) b a ↔ (Edge g b a ⊎ (a ≡ n) × (b ≡ t))
 push_edge g t n b a h = ⊎_elim
-  (λ (e : b ≡ t).
+    (λ (e : b ≡ t).
     let at : targets (set g t (get_or g t [] ++ n ∷ [])) b ≡ get_or g b [] ++ n ∷ [] = ap (λ v. get_or (set g t (get_or g t [] ++ n ∷ [])) v []) e ∙ get_or-set_same g t (get_or g t [] ++ n ∷ []) [] h ∙ ap (λ v. get_or g v [] ++ n ∷ []) (sym e) in
-    let p = contains_push (get_or g b []) n a in
-    ((λ x. ⊎_elim (λ (c : Edge g b a). inl c) (λ (q : a ≡ n). inr (q, e)) (p.0 (subst (λ (l : List ℕ). Contains l a) at x))),
-     (λ x. subst (λ (l : List ℕ). Contains l a) (sym at) (p.1 (⊎_elim (λ (c : Edge g b a). inl c) (λ (q : (a ≡ n) × (b ≡ t)). inr q.0) x)))))
-  (λ (ne : b ≢ t).
-    let at : targets (set g t (get_or g t [] ++ n ∷ [])) b ≡ get_or g b [] = get_or-set_other g t b (get_or g t [] ++ n ∷ []) [] ne in
-    ((λ x. inl (subst (λ (l : List ℕ). Contains l a) at x)),
-     (λ x. ⊎_elim (λ (c : Edge g b a). subst (λ (l : List ℕ). Contains l a) (sym at) c) (λ (q : (a ≡ n) × (b ≡ t)). absurd (ne q.1)) x)))
-  (cases_eq b t)
+    let p = contains_push (get_or g b []) n a in (
+      (λ x. ⊎_elim (λ (c : Edge g b a). inl c) (λ (q : a ≡ n). inr (q, e)) (p.0 (subst (λ (l : List ℕ). Contains l a) at x))),
+      (λ x. subst (λ (l : List ℕ). Contains l a) (sym at) (p.1 (⊎_elim (λ (c : Edge g b a). inl c) (λ (q : (a ≡ n) × (b ≡ t)). inr q.0) x))),
+    ))
+    (λ (ne : b ≢ t).
+    let at : targets (set g t (get_or g t [] ++ n ∷ [])) b ≡ get_or g b [] = get_or-set_other g t b (get_or g t [] ++ n ∷ []) [] ne in (
+      (λ x. inl (subst (λ (l : List ℕ). Contains l a) at x)),
+      (λ x. ⊎_elim (λ (c : Edge g b a). subst (λ (l : List ℕ). Contains l a) (sym at) c) (λ (q : (a ≡ n) × (b ≡ t)). absurd (ne q.1)) x),
+    ))
+    (cases_eq b t)
 
 -- nothing is gone through
 pub adds_none : (old : List (List ℕ)) (n : ℕ) (nodes : List ℕ) → AddsSources old old n (take 0 nodes)
 adds_none old n nodes = record {
-    size = refl;
-    edges = λ a b. ((λ h. inl h), (λ h. ⊎_elim (λ (e : Edge old b a). e) (λ (c : (a ≡ n) × Contains (take 0 nodes) b). absurd (omega (arith, c.1.1))) h));
-  }
+  size = refl;
+  edges = λ a b. ((λ h. inl h), (λ h. ⊎_elim (λ (e : Edge old b a). e) (λ (c : (a ≡ n) × Contains (take 0 nodes) b). absurd (omega (arith, c.1.1))) h));
+}
 
 -- one more target
 pub adds_more : (old mid : List (List ℕ)) (n t : ℕ) (nodes : List ℕ) (i : ℕ) → i < length nodes → t ≡ get_or nodes i 0 → t < length mid → AddsSources old mid n (take i nodes) → AddsSources old (set mid t (get_or mid t [] ++ n ∷ [])) n (take (i + 1) nodes)
 adds_more old mid n t nodes i h is lt A = record {
-    size = length-set mid t (get_or mid t [] ++ n ∷ []) ∙ A.size;
-    edges = λ a b. let p = push_edge mid t n b a lt in let q = contains_more nodes i b h in let r = A.edges a b in (
-      (λ x. ⊎_elim
+  size = length-set mid t (get_or mid t [] ++ n ∷ []) ∙ A.size;
+  edges = λ a b. let p = push_edge mid t n b a lt in let q = contains_more nodes i b h in let r = A.edges a b in (
+    (λ x. ⊎_elim
         (λ (e : Edge mid b a). ⊎_elim (λ (o : Edge old b a). inl o) (λ (c : (a ≡ n) × Contains (take i nodes) b). inr (c.0, q.1 (inl c.1))) (r.0 e))
         (λ (c : (a ≡ n) × (b ≡ t)). inr (c.0, q.1 (inr (c.1 ∙ is))))
         (p.0 x)),
-      (λ x. p.1 (⊎_elim
+    (λ x. p.1 (⊎_elim
         (λ (o : Edge old b a). inl (r.1 (inl o)))
         (λ (c : (a ≡ n) × Contains (take (i + 1) nodes) b). ⊎_elim
-          (λ (d : Contains (take i nodes) b). inl (r.1 (inr (c.0, d))))
-          (λ (d : b ≡ get_or nodes i 0). inr (c.0, d ∙ sym is))
-          (q.0 c.1))
-        x))
-    );
-  }
+        (λ (d : Contains (take i nodes) b). inl (r.1 (inr (c.0, d))))
+        (λ (d : b ≡ get_or nodes i 0). inr (c.0, d ∙ sym is))
+        (q.0 c.1))
+        x)),
+  );
+}
 
 -- the sources of edges out of the nodes below n
 pub record AreSourcesBelow (s sources : List (List ℕ)) (n : ℕ) : Type 0 where
@@ -65,35 +67,36 @@ pub record AreSourcesBelow (s sources : List (List ℕ)) (n : ℕ) : Type 0 wher
 
 pub sources_none : (s : List (List ℕ)) → AreSourcesBelow s (replicate (length s) []) 0
 sources_none s = record {
-    size = length-replicate (length s) [];
-    edges = λ a b. (
-      (λ e. absurd (no_edge b a (length s) e)),
-      (λ e. absurd (omega (arith, e.1))));
-  }
+  size = length-replicate (length s) [];
+  edges = λ a b. (
+    (λ e. absurd (no_edge b a (length s) e)),
+    (λ e. absurd (omega (arith, e.1))),
+  );
+}
   where
     no_edge : (b a n : ℕ) → Edge (replicate n []) b a → ⊥
     no_edge b a n e = ⊎_elim
-      (λ (h : b < n). let k : e.0 < 0 = subst (λ (l : List ℕ). e.0 < length l) (get_or-replicate n b [] [] h) e.1 in omega arith)
-      (λ (h : n ≤ b). let k : e.0 < 0 = subst (λ (l : List ℕ). e.0 < length l) (get_or_past (replicate n []) b [] (omega (arith, length-replicate {A = List ℕ} n []))) e.1 in omega arith)
-      (cases_lt b n)
+        (λ (h : b < n). let k : e.0 < 0 = subst (λ (l : List ℕ). e.0 < length l) (get_or-replicate n b [] [] h) e.1 in omega arith)
+        (λ (h : n ≤ b). let k : e.0 < 0 = subst (λ (l : List ℕ). e.0 < length l) (get_or_past (replicate n []) b [] (omega (arith, length-replicate {A = List ℕ} n []))) e.1 in omega arith)
+        (cases_lt b n)
 
 pub sources_more : (s mid new : List (List ℕ)) (n : ℕ) (nodes : List ℕ) → nodes ≡ targets s n → AreSourcesBelow s mid n → AddsSources mid new n nodes → AreSourcesBelow s new (n + 1)
 sources_more s mid new n nodes is B A = record {
-    size = A.size ∙ B.size;
-    edges = λ a b. let p = A.edges a b in let q = B.edges a b in (
-      (λ e. ⊎_elim
+  size = A.size ∙ B.size;
+  edges = λ a b. let p = A.edges a b in let q = B.edges a b in (
+    (λ e. ⊎_elim
         (λ (o : Edge mid b a). ((q.0 o).0, (let m = (q.0 o).1 in omega (arith, m))))
         (λ (c : (a ≡ n) × Contains nodes b). (subst (λ (v : ℕ). Contains (targets s v) b) (sym c.0) (subst (λ (l : List ℕ). Contains l b) is c.1), (let m = c.0 in omega (arith, m))))
         (p.0 e)),
-      (λ e. p.1 (⊎_elim
+    (λ e. p.1 (⊎_elim
         (λ (lt : a < n). inl (q.1 (e.0, lt)))
         (λ (ge : n ≤ a). let at : a ≡ n = (let m = e.1 in omega (arith, m)) in inr (at, subst (λ (l : List ℕ). Contains l b) (sym is) (subst (λ (v : ℕ). Contains (targets s v) b) at e.0)))
-        (cases_lt a n)))
-    );
-  }
+        (cases_lt a n))),
+  );
+}
 
 pub sources_all : (s sources : List (List ℕ)) → AreSourcesBelow s sources (length s) → IsReversed s sources
 sources_all s sources B = record {
-    size = B.size;
-    edges = λ a b. ((λ e. ((B.edges a b).0 e).0), (λ e. (B.edges a b).1 (e, source_within s a b e)));
-  }
+  size = B.size;
+  edges = λ a b. ((λ e. ((B.edges a b).0 e).0), (λ e. (B.edges a b).1 (e, source_within s a b e)));
+}

@@ -13,7 +13,7 @@ pub record IsOrder (sources : List (List ℕ)) (order place : List ℕ) : Type 0
   pub placed : (k : ℕ) → k < length order → slice_index place (slice_index order k) ≡ k
   pub fed : (y : ℕ) → y < length sources → y ≢ 0 → (x : ℕ) × Edge sources y x × (slice_index place x < slice_index place y)
   pub spans : (w z y x : ℕ) → Edge sources z w → Edge sources x y → slice_index place z ≤ slice_index place w
-    → slice_index place z < slice_index place x → slice_index place x ≤ slice_index place w → slice_index place z ≤ slice_index place y
+      → slice_index place z < slice_index place x → slice_index place x ≤ slice_index place w → slice_index place z ≤ slice_index place y
 
 -- a node with an edge back to it
 abbrev pub IsHead : List (List ℕ) → List ℕ → ℕ → Type 0

@@ -47,4 +47,4 @@ pub record IsHeader (s : List (List ℕ)) (set : List ℕ) (header : ℕ) : Type
 pub data IsLoop (s : List (List ℕ)) : List ℕ → List ℕ → Type 0 where
   outermost : (header : ℕ) (members : List ℕ) → IsLargest s Whole members → IsHeader s members header → IsLoop s (header ∷ []) members
   inner : (header outer : ℕ) (around members set : List ℕ) → IsLoop s (outer ∷ around) set → IsLargest s (Inside set outer) members → IsHeader s members header
-    → IsLoop s (header ∷ outer ∷ around) members
+      → IsLoop s (header ∷ outer ∷ around) members

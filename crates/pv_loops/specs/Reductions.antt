@@ -6,7 +6,7 @@ use Rattle.pv_loops.specs.declared.groups.Groups.{Groups}
 use Rattle.pv_loops.specs.declared.reduction.Reduction.{Reduction}
 use Rattle.pv_loops.specs.Shapes.{Edge, targets, IsReversed}
 use Rattle.pv_loops.specs.Steps.{Graph, graph_of, AllApply, after_all, Stuck}
-use Rattle.pv_loops.specs.Groups.{leader_of, place_of, Leads, AreGroups}
+use Rattle.pv_loops.specs.Groups.{leader_of, place_of, Leads}
 
 -- a graph whose nodes stand for groups of nodes of the shape: each node of the shape is in the group of its leader, and a group is entered at its leader alone
 pub record Grouped (s : List (List ℕ)) (g : Graph) (leader : ℕ → ℕ) : Type 0 where
@@ -25,7 +25,7 @@ pub record Tracks (s : List (List ℕ)) (g : Graph) (leader : ℕ → ℕ) : Typ
 pub record AreOrdered (s : List (List ℕ)) (g : Groups) : Type 0 where
   pub fed : (y : ℕ) → y < length s → leader_of g y ≢ y → (x : ℕ) × Edge s x y × (leader_of g x ≡ leader_of g y) × (place_of g x < place_of g y)
   pub spans : (w z y x : ℕ) → Edge s w z → Edge s y x → leader_of g w ≡ leader_of g z → leader_of g x ≡ leader_of g z
-    → place_of g z ≤ place_of g w → place_of g z < place_of g x → place_of g x ≤ place_of g w → place_of g z ≤ place_of g y
+      → place_of g z ≤ place_of g w → place_of g z < place_of g x → place_of g x ≤ place_of g w → place_of g z ≤ place_of g y
 
 -- the groups are what the steps so far leave of the shape
 pub record Reduced (s : List (List ℕ)) (r : Reduction) : Type 0 where

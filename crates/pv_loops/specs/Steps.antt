@@ -22,9 +22,9 @@ Applies g (T2 n p) = (n ≢ 0) × (p ≢ n) × g.Arrow p n × ((q : ℕ) → g.A
 abbrev pub after : Graph → TStep → Graph
 after g (T1 n) = record { Node = g.Node; Arrow = λ a b. g.Arrow a b × ((a ≡ n) → b ≢ n) }
 after g (T2 n p) = record {
-    Node = λ a. g.Node a × (a ≢ n);
-    Arrow = λ a b. (a ≢ n) × (b ≢ n) × (g.Arrow a b ⊎ (a ≡ p) × g.Arrow n b)
-  }
+  Node = λ a. g.Node a × (a ≢ n);
+  Arrow = λ a b. (a ≢ n) × (b ≢ n) × (g.Arrow a b ⊎ (a ≡ p) × g.Arrow n b);
+}
 
 -- each step applies where it is taken
 abbrev pub AllApply : Graph → List TStep → Type 0

@@ -23,7 +23,11 @@ impl Reduction {
 
     /// Reduces the shape whose edges have these sources until no leader but the entry can be merged,
     /// and gives these leaders too.
-    pub fn collapse(alloc: Global, count: u32, sources: &Lists) -> Result<(Reduction, Vec<u32>), AllocError>
+    pub fn collapse(
+        alloc: Global,
+        count: u32,
+        sources: &Lists,
+    ) -> Result<(Reduction, Vec<u32>), AllocError>
         requires shape { IsShape sources.now }
         requires count { count ≡ length sources.now }
         ensures groups { IfOk result (λ r. AreGroups r.0.groups) }
@@ -77,7 +81,12 @@ impl Reduction {
     }
 
     // Goes over the leaders of `rest`, merges each that can be merged, and gives the others.
-    fn sweep(&mut self, alloc: Global, sources: &Lists, rest: &[u32]) -> Result<Vec<u32>, AllocError>
+    fn sweep(
+        &mut self,
+        alloc: Global,
+        sources: &Lists,
+        rest: &[u32],
+    ) -> Result<Vec<u32>, AllocError>
         requires groups { AreGroups self.old.groups }
         requires shape { IsShape sources.now }
         requires size { length sources.now ≡ length self.old.groups.leader.items }

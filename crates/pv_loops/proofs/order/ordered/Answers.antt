@@ -1,7 +1,6 @@
-use Rattle.std.proofs.Common.{ℕ, List, [], ◌<◌, ◌≡◌, ◌∙◌, length, sym, subst, ap, arith, refl}
+use Rattle.std.proofs.Common.{ℕ, List, [], ◌≡◌, ◌∙◌, sym, subst, ap, arith}
 use Rattle.std.proofs.lemmas.Bool.{eqb-true}
 use Rattle.pv_loops.specs.declared.groups.Groups.{Groups}
-use Rattle.pv_loops.specs.Shapes.{IsShape}
 use Rattle.pv_loops.specs.Groups.{group_of}
 use Rattle.pv_loops.specs.Reductions.{AreRest}
 use Rattle.pv_loops.specs.Bodies.{IsOrder}
@@ -16,13 +15,13 @@ into_stuck-requires-clause-shape c = reversed_shape c.args.shape.now c.args.sour
 
 pub returns-clause-reducible : goal.returns-clause-reducible
 returns-clause-reducible c =
-  let none : c.in_ok-reduction.rest.items ≡ [] = none_left c.in_ok-reduction.rest.items (omega (arith, c.in_ok-reduction.rest.ok, eqb-true _ _ (sym c.is_empty.ensures ∙ c.if-not-is_empty.false))) in
-  one_reduces c.args.shape.now c.in_ok-reduction.reduction c.in_ok-reduction.ensures.groups (subst (λ (l : List ℕ). AreRest c.in_ok-reduction.reduction.groups l) none c.in_ok-reduction.ensures.rest) (c.in_ok-reduction.ensures.reduced c.args.shape.now c.requires.sources)
+    let none : c.in_ok-reduction.rest.items ≡ [] = none_left c.in_ok-reduction.rest.items (omega (arith, c.in_ok-reduction.rest.ok, eqb-true _ _ (sym c.is_empty.ensures ∙ c.if-not-is_empty.false))) in
+    one_reduces c.args.shape.now c.in_ok-reduction.reduction c.in_ok-reduction.ensures.groups (subst (λ (l : List ℕ). AreRest c.in_ok-reduction.reduction.groups l) none c.in_ok-reduction.ensures.rest) (c.in_ok-reduction.ensures.reduced c.args.shape.now c.requires.sources)
 
 pub returns-clause-order : goal.returns-clause-order
 returns-clause-order c =
-  let none : c.in_ok-reduction.rest.items ≡ [] = none_left c.in_ok-reduction.rest.items (omega (arith, c.in_ok-reduction.rest.ok, eqb-true _ _ (sym c.is_empty.ensures ∙ c.if-not-is_empty.false))) in
-  let order = one_ordered c.args.shape.now c.args.sources.now c.in_ok-reduction.reduction (reversed_shape c.args.shape.now c.args.sources.now c.requires.shape c.requires.sources) c.requires.sources c.in_ok-reduction.ensures.groups
+    let none : c.in_ok-reduction.rest.items ≡ [] = none_left c.in_ok-reduction.rest.items (omega (arith, c.in_ok-reduction.rest.ok, eqb-true _ _ (sym c.is_empty.ensures ∙ c.if-not-is_empty.false))) in
+    let order = one_ordered c.args.shape.now c.args.sources.now c.in_ok-reduction.reduction (reversed_shape c.args.shape.now c.args.sources.now c.requires.shape c.requires.sources) c.requires.sources c.in_ok-reduction.ensures.groups
     (subst (λ (l : List ℕ). AreRest c.in_ok-reduction.reduction.groups l) none c.in_ok-reduction.ensures.rest) (c.in_ok-reduction.ensures.reduced c.args.shape.now c.requires.sources) in
-  subst (λ (l : List ℕ). IsOrder c.args.sources.now l c.into_order-nodes.result.1.items) (sym (c.into_order-nodes.ensures.nodes ∙ ap (λ (g : Groups). group_of g 0) c.into_groups.ensures))
+    subst (λ (l : List ℕ). IsOrder c.args.sources.now l c.into_order-nodes.result.1.items) (sym (c.into_order-nodes.ensures.nodes ∙ ap (λ (g : Groups). group_of g 0) c.into_groups.ensures))
     (subst (λ (l : List ℕ). IsOrder c.args.sources.now (group_of c.in_ok-reduction.reduction.groups 0) l) (sym (c.into_order-nodes.ensures.place ∙ ap (λ (g : Groups). g.place.items) c.into_groups.ensures)) order)

@@ -1,5 +1,5 @@
-use Rattle.std.proofs.Common.{◌++◌, [], ◌∷◌, List, ℕ, ap, ◌∙◌}
-use Rattle.pv_loops.proofs.Rows.{set_row, row_at}
+use Rattle.std.proofs.Common.{ap, ◌∙◌}
+use Rattle.pv_loops.proofs.Rows.{set_row}
 use Rattle.pv_loops.proofs.lists.Lists.take.Goals as goal
 
 pub returns-clause-left : goal.returns-clause-left

@@ -1,52 +1,9 @@
 -- Groups as they are merged.
-use Rattle.std.proofs.Common.{◌≡◌, ◌≢◌, ℕ, ◌<◌, ◌≤◌, ◌+◌, ◌-◌, List, [], ◌++◌, length, set, get_or, refl, sym, ◌∙◌, ap, subst, arith, ⊎_elim, get_or-set_other, get_or-set_same, length-append}
+use Rattle.std.proofs.Common.{◌≡◌, ◌≢◌, ℕ, ◌<◌, ◌≤◌, ◌+◌, ◌-◌, List, [], ◌++◌, length, set, get_or, sym, ◌∙◌, ap, subst, arith, ⊎_elim, get_or-set_other, get_or-set_same, length-append}
 use Rattle.std.proofs.lemmas.Bool.{cases_eq, cases_lt}
 use Rattle.std.proofs.lemmas.List.{length-set, get_or-append-add, get_or_append_left}
 use Rattle.pv_loops.specs.declared.groups.Groups.{Groups}
 use Rattle.pv_loops.specs.Groups.{leader_of, place_of, group_of, Leads, AreGroups, Relabels, Merges}
-
-pub relabels_none : (g : Groups) (moved : List ℕ) (p from : ℕ) → Relabels g g moved 0 p from
-relabels_none g moved p from = record {
-  leaders = refl;
-  places = refl;
-  members = refl;
-  leader = λ k h. absurd (omega arith);
-  place = λ k h. absurd (omega arith);
-  kept_leader = λ x _. refl;
-  kept_place = λ x _. refl;
-}
-
-pub relabels_more : (old mid new : Groups) (moved : List ℕ) (i x p from : ℕ) → i < length moved → x ≡ get_or moved i 0
-    → x < length mid.leader.items → x < length mid.place.items → ((j k : ℕ) → j < k → k < length moved → get_or moved j 0 ≢ get_or moved k 0)
-    → new.leader.items ≡ set mid.leader.items x p → new.place.items ≡ set mid.place.items x (from + i) → new.members ≡ mid.members
-    → Relabels old mid moved i p from → Relabels old new moved (i + 1) p from
-relabels_more old mid new moved i x p from h is in_leader in_place distinct leader place members R = record {
-  leaders = ap (λ (l : List ℕ). length l) leader ∙ length-set mid.leader.items x p ∙ R.leaders;
-  places = ap (λ (l : List ℕ). length l) place ∙ length-set mid.place.items x (from + i) ∙ R.places;
-  members = members ∙ R.members;
-  leader = λ k lt. ⊎_elim
-      (λ (e : k ≡ i). leader_same (get_or moved k 0) (ap (λ v. get_or moved v 0) e ∙ sym is))
-      (λ (ne : k ≢ i). let less : k < i = omega arith in leader_other (get_or moved k 0) (λ e. distinct k i less h (e ∙ is)) ∙ R.leader k less)
-      (cases_eq k i);
-  place = λ k lt. ⊎_elim
-      (λ (e : k ≡ i). place_same (get_or moved k 0) (ap (λ v. get_or moved v 0) e ∙ sym is) ∙ ap (λ v. from + v) (sym e))
-      (λ (ne : k ≢ i). let less : k < i = omega arith in place_other (get_or moved k 0) (λ e. distinct k i less h (e ∙ is)) ∙ R.place k less)
-      (cases_eq k i);
-  kept_leader = λ y no. leader_other y (λ e. no i (omega arith) (sym is ∙ sym e)) ∙ R.kept_leader y (λ k lt. no k (omega arith));
-  kept_place = λ y no. place_other y (λ e. no i (omega arith) (sym is ∙ sym e)) ∙ R.kept_place y (λ k lt. no k (omega arith));
-}
-  where
-    leader_same : (y : ℕ) → y ≡ x → leader_of new y ≡ p
-    leader_same y e = ap (λ (l : List ℕ). get_or l y 0) leader ∙ ap (λ v. get_or (set mid.leader.items x p) v 0) e ∙ get_or-set_same mid.leader.items x p 0 in_leader
-
-    leader_other : (y : ℕ) → y ≢ x → leader_of new y ≡ leader_of mid y
-    leader_other y ne = ap (λ (l : List ℕ). get_or l y 0) leader ∙ get_or-set_other mid.leader.items x y p 0 ne
-
-    place_same : (y : ℕ) → y ≡ x → place_of new y ≡ from + i
-    place_same y e = ap (λ (l : List ℕ). get_or l y 0) place ∙ ap (λ v. get_or (set mid.place.items x (from + i)) v 0) e ∙ get_or-set_same mid.place.items x (from + i) 0 in_place
-
-    place_other : (y : ℕ) → y ≢ x → place_of new y ≡ place_of mid y
-    place_other y ne = ap (λ (l : List ℕ). get_or l y 0) place ∙ get_or-set_other mid.place.items x y (from + i) 0 ne
 
 -- the list of n is taken and put after that of p, and its nodes get the leader p
 pub merges : (old new : Groups) (n p : ℕ) → AreGroups old → Leads old n → Leads old p → n ≢ p

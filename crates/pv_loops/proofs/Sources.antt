@@ -1,7 +1,7 @@
 -- Sources of edges, as the lists of targets are gone through.
-use Rattle.std.proofs.Common.{◌≡◌, ◌≢◌, ℕ, ◌<◌, ◌≤◌, ◌+◌, replicate, List, [], ◌∷◌, ◌++◌, length, set, get_or, take, refl, sym, ◌∙◌, ap, subst, arith, ◌⊎◌, ◌↔◌, inl, inr, ⊎_elim, get_or-set_other, get_or-set_same}
+use Rattle.std.proofs.Common.{◌≡◌, ◌≢◌, ℕ, ◌<◌, ◌≤◌, ◌+◌, List, [], ◌∷◌, ◌++◌, length, set, get_or, take, sym, ◌∙◌, ap, subst, arith, ◌⊎◌, ◌↔◌, inl, inr, ⊎_elim, get_or-set_other, get_or-set_same}
 use Rattle.std.proofs.lemmas.Bool.{cases_eq, cases_lt}
-use Rattle.std.proofs.lemmas.List.{take_more, length-set, get_or_past, get_or-replicate, length-replicate}
+use Rattle.std.proofs.lemmas.List.{take_more, length-set}
 use Rattle.std.proofs.lemmas.List.Elements.{Contains-append_left, Contains-push, Contains-push_cases}
 use Rattle.std.specs.List.{Contains}
 use Rattle.pv_loops.specs.Shapes.{Edge, targets, AddsSources, IsReversed}
@@ -34,13 +34,6 @@ push_edge g t n b a h = ⊎_elim
     ))
     (cases_eq b t)
 
--- nothing is gone through
-pub adds_none : (old : List (List ℕ)) (n : ℕ) (nodes : List ℕ) → AddsSources old old n (take 0 nodes)
-adds_none old n nodes = record {
-  size = refl;
-  edges = λ a b. ((λ h. inl h), (λ h. ⊎_elim (λ (e : Edge old b a). e) (λ (c : (a ≡ n) × Contains (take 0 nodes) b). absurd (omega (arith, c.1.1))) h));
-}
-
 -- one more target
 pub adds_more : (old mid : List (List ℕ)) (n t : ℕ) (nodes : List ℕ) (i : ℕ) → i < length nodes → t ≡ get_or nodes i 0 → t < length mid → AddsSources old mid n (take i nodes) → AddsSources old (set mid t (get_or mid t [] ++ n ∷ [])) n (take (i + 1) nodes)
 adds_more old mid n t nodes i h is lt A = record {
@@ -64,21 +57,6 @@ adds_more old mid n t nodes i h is lt A = record {
 pub record AreSourcesBelow (s sources : List (List ℕ)) (n : ℕ) : Type 0 where
   pub size : length sources ≡ length s
   pub edges : (a b : ℕ) → Edge sources b a ↔ (Edge s a b × (a < n))
-
-pub sources_none : (s : List (List ℕ)) → AreSourcesBelow s (replicate (length s) []) 0
-sources_none s = record {
-  size = length-replicate (length s) [];
-  edges = λ a b. (
-    (λ e. absurd (no_edge b a (length s) e)),
-    (λ e. absurd (omega (arith, e.1))),
-  );
-}
-  where
-    no_edge : (b a n : ℕ) → Edge (replicate n []) b a → ⊥
-    no_edge b a n e = ⊎_elim
-        (λ (h : b < n). let k : e.0 < 0 = subst (λ (l : List ℕ). e.0 < length l) (get_or-replicate n b [] [] h) e.1 in omega arith)
-        (λ (h : n ≤ b). let k : e.0 < 0 = subst (λ (l : List ℕ). e.0 < length l) (get_or_past (replicate n []) b [] (omega (arith, length-replicate {A = List ℕ} n []))) e.1 in omega arith)
-        (cases_lt b n)
 
 pub sources_more : (s mid new : List (List ℕ)) (n : ℕ) (nodes : List ℕ) → nodes ≡ targets s n → AreSourcesBelow s mid n → AddsSources mid new n nodes → AreSourcesBelow s new (n + 1)
 sources_more s mid new n nodes is B A = record {

@@ -2,7 +2,7 @@
 use Rattle.std.proofs.Common.{◌≡◌, ◌≢◌, ℕ, ◌<◌, ◌≤◌, ◌+◌, ◌-◌, List, [], ◌∷◌, ◌++◌, length, get_or, refl, sym, ◌∙◌, ap, subst, arith, ◌⊎◌, inl, inr, ⊎_elim, Option, Some, None}
 use Rattle.std.proofs.lemmas.Bool.{cases_eq, cases_lt}
 use Rattle.std.proofs.lemmas.List.Elements.{Contains-get_or}
-use Rattle.std.proofs.lemmas.List.{get_or_default, get_or_push, get_or_append_left, length-append}
+use Rattle.std.proofs.lemmas.List.{get_or_push, get_or_append_left, length-append}
 use Rattle.std.specs.List.{All, Contains}
 use Rattle.pv_loops.specs.declared.groups.Groups.{Groups}
 use Rattle.pv_loops.specs.Shapes.{Edge, targets, IsShape, IsReversed}
@@ -27,38 +27,6 @@ only_leads g sources n p A S size only = let q = only.source in let lt = S.withi
 abbrev pub FoundSoFar : Groups → List ℕ → ℕ → ℕ → Option ℕ → Type 0
 FoundSoFar g src n i None = (k : ℕ) → k < i → leader_of g (get_or src k 0) ≡ n
 FoundSoFar g src n i (Some p) = (p ≢ n) × ((k : ℕ) × (k < i) × (leader_of g (get_or src k 0) ≡ p)) × ((k : ℕ) → k < i → leader_of g (get_or src k 0) ≢ n → leader_of g (get_or src k 0) ≡ p)
-
--- a source in the group of n
-pub found_own : (g : Groups) (src : List ℕ) (n i : ℕ) (only : Option ℕ) → leader_of g (get_or src i 0) ≡ n → FoundSoFar g src n i only → FoundSoFar g src n (i + 1) only
-found_own g src n i None e F = λ k h. ⊎_elim (λ (q : k ≡ i). ap (λ v. leader_of g (get_or src v 0)) q ∙ e) (λ (q : k ≢ i). F k (omega arith)) (cases_eq k i)
-found_own g src n i (Some p) e F = (F.0, (let q = F.1 in (q.0, (let lt = q.1 in omega (arith, lt)), q.2)), λ k h away. ⊎_elim (λ (q : k ≡ i). absurd (away (ap (λ v. leader_of g (get_or src v 0)) q ∙ e))) (λ (q : k ≢ i). F.2 k (omega arith) away) (cases_eq k i))
-
--- the first source in another group
-pub found_first : (g : Groups) (src : List ℕ) (n i p : ℕ) → p ≡ leader_of g (get_or src i 0) → p ≢ n → FoundSoFar g src n i None → FoundSoFar g src n (i + 1) (Some p)
-found_first g src n i p e ne F = (ne, (i, omega arith, sym e), λ k h away. ⊎_elim (λ (q : k ≡ i). ap (λ v. leader_of g (get_or src v 0)) q ∙ sym e) (λ (q : k ≢ i). absurd (away (F k (omega arith)))) (cases_eq k i))
-
--- one more in the same
-pub found_same : (g : Groups) (src : List ℕ) (n i p : ℕ) → p ≡ leader_of g (get_or src i 0) → FoundSoFar g src n i (Some p) → FoundSoFar g src n (i + 1) (Some p)
-found_same g src n i p e F = (F.0, (let q = F.1 in (q.0, (let lt = q.1 in omega (arith, lt)), q.2)), λ k h away. ⊎_elim (λ (q : k ≡ i). ap (λ v. leader_of g (get_or src v 0)) q ∙ sym e) (λ (q : k ≢ i). F.2 k (omega arith) away) (cases_eq k i))
-
--- sources in two other groups
-pub found_two : (g : Groups) (src : List ℕ) (n i p : ℕ) → i < length src → leader_of g (get_or src i 0) ≢ n → p ≢ leader_of g (get_or src i 0) → FoundSoFar g src n i (Some p) → i < length src → (q : ℕ) → IsOnlySource g src n q → ⊥
-found_two g src n i p h away two F _ q only =
-    let k = F.1 in
-    let k_lt : k.0 < length src = (let lt = k.1 in omega (arith, lt)) in
-    let at_k : p ≡ q = sym k.2 ∙ only.only (get_or src k.0 0) (Contains-get_or src k.0 0 k_lt) (λ e. F.0 (sym k.2 ∙ e)) in
-    two (at_k ∙ sym (only.only (get_or src i 0) (Contains-get_or src i 0 h) away))
-
-pub found_none : (g : Groups) (src : List ℕ) (n : ℕ) → FoundSoFar g src n (length src) None → (q : ℕ) → IsOnlySource g src n q → ⊥
-found_none g src n F q only = let s = only.source in let c = s.1 in only.other (sym s.2 ∙ ap (leader_of g) (sym c.2 ∙ get_or_default src c.0 s.0 0 c.1) ∙ F c.0 c.1)
-
-pub found_some : (g : Groups) (src : List ℕ) (n p : ℕ) → FoundSoFar g src n (length src) (Some p) → IsOnlySource g src n p
-found_some g src n p F = record {
-  other = F.0;
-  source = (get_or src F.1.0 0, Contains-get_or src F.1.0 0 F.1.1, F.1.2);
-  only = λ x c away. let is : x ≡ get_or src c.0 0 = sym c.2 ∙ get_or_default src c.0 x 0 c.1 in
-      ap (leader_of g) is ∙ F.2 c.0 c.1 (λ e. away (ap (leader_of g) is ∙ e));
-}
 
 -- no two of these are one, and none is the entry
 abbrev pub AreApart : List ℕ → Type 0

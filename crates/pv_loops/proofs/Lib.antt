@@ -1,0 +1,10 @@
+mod Grouping
+mod Rows
+mod Sources
+mod Singles
+mod Merging
+mod Reducing
+mod Sweeping
+mod Sticking
+mod Bodies
+mod Orders

@@ -1,4 +1,4 @@
-//! Calls of `pv_graph` and `pv_alike`.
+//! Calls of `pv_dag` and `pv_alike`.
 //!
 //! A line `graph STEP; ..` does steps on one graph, empty at first, and answers what each answers.
 //!
@@ -17,7 +17,7 @@ use crate::answers::{Answer, List, NoAnswer, said};
 use crate::bench::{Bench, number, words};
 use crate::values::read_operation;
 use pv_alike::{Least, least};
-use pv_graph::{Graph, GraphFault, Node, NodeId, Op, OpSort};
+use pv_dag::{Graph, GraphFault, Node, NodeId, Op, OpSort};
 use pv_value::ScalarOp;
 use std::alloc::Global;
 

@@ -2,10 +2,10 @@
 use Rattle.std.proofs.Common.{◌≡◌, ℕ, zero, suc, ◌<◌, List, [], ◌∷◌, ◌++◌, length, slice_get, Some, refl, sym, ap, ◌∙◌, subst, arith, length-append}
 use Rattle.std.specs.List.{range_with_len}
 use Rattle.std.proofs.lemmas.Option.{slice_get_within, same_Some}
-use Rattle.pv_graph.specs.declared.node.Op.{Op}
-use Rattle.pv_graph.specs.declared.node.Node.{Node}
-use Rattle.pv_graph.specs.Trees.{Tree, over, trees_of, unfold_at}
-use Rattle.pv_graph.specs.TreeLaws.{unfold_of}
+use Rattle.pv_dag.specs.declared.node.Op.{Op}
+use Rattle.pv_dag.specs.declared.node.Node.{Node}
+use Rattle.pv_dag.specs.Trees.{Tree, over, trees_of, unfold_at}
+use Rattle.pv_dag.specs.TreeLaws.{unfold_of}
 use Rattle.pv_alike.specs.Visits.{Visits, done, again, new}
 use Rattle.pv_alike.specs.Least.{UnfoldsAs}
 use Rattle.pv_alike.specs.Renumbered.{ArePlaces, IsCopyOf, IsRenumbered}

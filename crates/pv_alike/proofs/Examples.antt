@@ -2,11 +2,11 @@
 use Rattle.std.proofs.Common.{◌≡◌, ℕ, true, false, List, [], ◌∷◌, ◌++◌, slice_get, Some, zero, suc, refl, sym, ◌∙◌, true≢false, eqb, lit<}
 use Rattle.std.specs.List.{Contains, list_any}
 use Rattle.pv_value.specs.declared.int_op.IntOp.TheVariants.{Iadd}
-use Rattle.pv_graph.specs.declared.node.Op.TheVariants as op
-use Rattle.pv_graph.specs.declared.node.OpSort.TheVariants.{I}
-use Rattle.pv_graph.specs.declared.node.Node.{Node}
-use Rattle.pv_graph.specs.Nodes.{node_of}
-use Rattle.pv_graph.specs.Trees.{unfold_at, UnfoldEqually}
+use Rattle.pv_dag.specs.declared.node.Op.TheVariants as op
+use Rattle.pv_dag.specs.declared.node.OpSort.TheVariants.{I}
+use Rattle.pv_dag.specs.declared.node.Node.{Node}
+use Rattle.pv_dag.specs.Nodes.{node_of}
+use Rattle.pv_dag.specs.Trees.{unfold_at, UnfoldEqually}
 use Rattle.pv_alike.specs.Visits.{Visits, done, again, new}
 use Rattle.pv_alike.specs.Least.{IsLeast}
 use Rattle.pv_alike.specs.Renumbered.{IsCopy, IsRenumbered}

@@ -2,11 +2,11 @@
 use Rattle.std.proofs.Common.{◌≡◌, ◌↔◌, ℕ, ◌<◌, List, [], ◌∷◌, length, slice_get, Some, sym, ap, ◌∙◌, subst, arith}
 use Rattle.std.specs.List.{Contains, AllByRecursion, range_with_len}
 use Rattle.std.proofs.lemmas.Option.{slice_get_within, same_Some}
-use Rattle.pv_graph.specs.declared.node.Node.{Node}
-use Rattle.pv_graph.specs.Elements.{found}
-use Rattle.pv_graph.specs.Nodes.{IsGraph}
-use Rattle.pv_graph.specs.Trees.{unfold_at, UnfoldEqually}
-use Rattle.pv_graph.specs.TreeLaws.{one_tree, same_tree_value}
+use Rattle.pv_dag.specs.declared.node.Node.{Node}
+use Rattle.pv_dag.specs.Elements.{found}
+use Rattle.pv_dag.specs.Nodes.{IsGraph}
+use Rattle.pv_dag.specs.Trees.{unfold_at, UnfoldEqually}
+use Rattle.pv_dag.specs.TreeLaws.{one_tree, same_tree_value}
 use Rattle.pv_alike.specs.Visits.{Visits}
 use Rattle.pv_alike.specs.Least.{Rooted, UnfoldsAs, MeansAs, IsLeast}
 use Rattle.pv_alike.specs.Renumbered.{IsCopyOf, IsRenumbered}

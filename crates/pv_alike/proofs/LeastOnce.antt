@@ -3,11 +3,11 @@ use Rattle.std.proofs.Common.{◌≡◌, ℕ, suc, ◌<◌, List, [], ◌∷◌,
 use Rattle.std.specs.List.{Contains, AllZip, AllByRecursion, range_with_len}
 use Rattle.std.proofs.lemmas.Option.{same_Some}
 use Rattle.std.proofs.lemmas.List.FromFn.{length-range_with_len}
-use Rattle.pv_graph.specs.declared.node.Op.{Op}
-use Rattle.pv_graph.specs.declared.node.Node.{Node}
-use Rattle.pv_graph.specs.Elements.{found}
-use Rattle.pv_graph.specs.Trees.{over, trees_of, unfold_at, UnfoldEqually}
-use Rattle.pv_graph.specs.TreeLaws.{unfold_of}
+use Rattle.pv_dag.specs.declared.node.Op.{Op}
+use Rattle.pv_dag.specs.declared.node.Node.{Node}
+use Rattle.pv_dag.specs.Elements.{found}
+use Rattle.pv_dag.specs.Trees.{over, trees_of, unfold_at, UnfoldEqually}
+use Rattle.pv_dag.specs.TreeLaws.{unfold_of}
 use Rattle.pv_alike.specs.Visits.{Visits, done, again, new}
 use Rattle.pv_alike.specs.Least.{UnfoldsAs, IsLeast}
 use Rattle.pv_alike.proofs.Places.{place_of, contains_at, partner, zip_length, zip_append, range_get, range_below}

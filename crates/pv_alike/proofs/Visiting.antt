@@ -4,8 +4,8 @@ use Rattle.std.specs.List.{All, Contains}
 use Rattle.std.proofs.lemmas.List.Elements.{All-append, All-contains, All-weaker, All-from_recursion, Contains-push}
 use Rattle.std.proofs.lemmas.List.{get_or_append_left, get_or-reverse, reverse-append, reverse-reverse, length-reverse}
 use Rattle.std.proofs.lemmas.Option.{slice_get_within}
-use Rattle.pv_graph.specs.declared.node.Node.{Node}
-use Rattle.pv_graph.specs.Nodes.{IsGraph}
+use Rattle.pv_dag.specs.declared.node.Node.{Node}
+use Rattle.pv_dag.specs.Nodes.{IsGraph}
 use Rattle.pv_alike.specs.Visits.{Visits, done, again, new, Visited}
 use Rattle.pv_alike.proofs.Work.{work, work_visit}
 

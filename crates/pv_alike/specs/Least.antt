@@ -4,9 +4,9 @@ use Rattle.std.specs.List.{range_with_len}
 use Rattle.pv_value.specs.declared.world.World.{World}
 use Rattle.pv_value.specs.declared.outcome.Input.{Input}
 use Rattle.pv_value.specs.declared.outcome.Val.{Val}
-use Rattle.pv_graph.specs.declared.node.Node.{Node}
-use Rattle.pv_graph.specs.Denote.{Index, Value}
-use Rattle.pv_graph.specs.Trees.{unfold_at, UnfoldEqually}
+use Rattle.pv_dag.specs.declared.node.Node.{Node}
+use Rattle.pv_dag.specs.Denote.{Index, Value}
+use Rattle.pv_dag.specs.Trees.{unfold_at, UnfoldEqually}
 use Rattle.pv_alike.specs.Visits.{Visits}
 
 -- nodes, and two of them as roots

@@ -1,13 +1,13 @@
 //! The least graph of two roots.
 
 ghost use Rattle.std.specs.Prelude.{◌≡◌, ◌<◌, ◌↔◌, length, IfOk};
-ghost use Rattle.pv_graph.specs.Trees.{UnfoldEqually};
+ghost use Rattle.pv_dag.specs.Trees.{UnfoldEqually};
 ghost use Rattle.pv_alike.specs.Least.{IsLeast, MeansAs};
 
 use crate::renumber::renumbered;
 use crate::rooted::Least;
 use crate::visit::visited;
-use pv_graph::{Graph, NodeId};
+use pv_dag::{Graph, NodeId};
 use pv_value::Memory;
 use std::alloc::Global;
 

@@ -1,6 +1,6 @@
 //! The least graph of two roots.
 //!
-//! This layer stands on `pv_graph`, whose nodes it copies, on `pv_value` and on the kit's `indexmap`.
+//! This layer stands on `pv_dag`, whose nodes it copies, on `pv_value` and on the kit's `indexmap`.
 //! `least` gives, for two nodes of a graph, their least graph (`specs/Least`, `IsLeast`): each root
 //! unfolds as its node, no two nodes unfold equally, and the nodes are exactly those that are reached,
 //! numbered by their first visits, from the first root and then from the second, a node before its kids

@@ -5,7 +5,7 @@ ghost use Rattle.std.specs.List.{Contains};
 ghost use Rattle.pv_alike.specs.Visits.{Visited};
 
 use indexmap::IndexSet;
-use pv_graph::NodeId;
+use pv_dag::NodeId;
 use pv_value::Memory;
 use std::alloc::Global;
 use std::marker::Model;

@@ -5,7 +5,7 @@ ghost use Rattle.std.specs.List.{All, Contains};
 ghost use Rattle.pv_alike.specs.Renumbered.{ArePlaces, IsClosed, IsCopy, IsRenumbered};
 
 use crate::order::Order;
-use pv_graph::{Graph, Kids, Node, NodeId};
+use pv_dag::{Graph, Kids, Node, NodeId};
 use pv_value::Memory;
 use std::alloc::Global;
 

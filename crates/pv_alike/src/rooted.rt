@@ -2,7 +2,7 @@
 
 ghost use Rattle.std.specs.Prelude.{◌≡◌, ◌<◌, ◌^◌, length, slice_get, Some};
 
-use pv_graph::{Node, NodeId};
+use pv_dag::{Node, NodeId};
 use std::marker::Model;
 
 /// The least graph of two roots, seen as its nodes and the numbers of the roots. A node may have kids

@@ -2,12 +2,12 @@
 
 ghost use Rattle.std.specs.Prelude.{◌≡◌, ◌<◌, ◌^◌, ◌++◌, ◌∷◌, [], length, reverse, IfOk, OnOk};
 ghost use Rattle.std.specs.List.{Contains};
-ghost use Rattle.pv_graph.specs.Nodes.{IsGraph};
+ghost use Rattle.pv_dag.specs.Nodes.{IsGraph};
 ghost use Rattle.pv_alike.specs.Renumbered.{IsClosed};
 ghost use Rattle.pv_alike.specs.Visits.{Visits};
 
 use crate::order::Order;
-use pv_graph::{Graph, NodeId};
+use pv_dag::{Graph, NodeId};
 use pv_value::Memory;
 use std::alloc::Global;
 

@@ -1,3 +1,15 @@
+pub mod Sorting
+pub mod Bisimulations
+pub mod NodeLaws
+pub mod Grounded
+pub mod Refined
+pub mod CallLaws
 pub mod SameNodes
-pub mod Adding
-mod Examples
+pub mod SortSteps
+pub mod Appending
+pub mod Keeping
+pub mod Tying
+pub mod Reaching
+pub mod Marking
+pub mod TieLaws
+pub mod FiniteTrees

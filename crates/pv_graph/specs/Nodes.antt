@@ -1,40 +1,37 @@
--- Graphs as lists of nodes.
-use Rattle.std.specs.Prelude.{◌≡◌, ◌⊎◌, ℕ, ◌<◌, ◌^◌, List, [], ◌∷◌, ◌++◌, length, slice_get, Some}
-use Rattle.std.specs.List.{AllByRecursion}
+-- Nodes: an operation over kids, whether it has a name, and whether it is a theta that is not tied.
+use Rattle.std.specs.Prelude.{◌≡◌, ℕ, ◌<◌, List, [], Some, slice_get}
 use Rattle.pv_graph.specs.declared.node.Op.{Op}
+use Rattle.pv_graph.specs.declared.node.Op.TheVariants as op
 use Rattle.pv_graph.specs.declared.node.Node.{Node}
-use Rattle.pv_graph.specs.declared.node.OpSort.{OpSort}
-use Rattle.pv_graph.specs.Sorts.{AreSorts}
 
--- a node with this operation and these kids
 abbrev pub node_of : Op → List ℕ → Node
-node_of op kids = record { op = op; kids = kids }
+node_of o kids = record { op = o; kids = kids }
 
--- each kid has a smaller number
-abbrev pub IsAcyclic : List Node → Type 0
-IsAcyclic g = (n : ℕ) (node : Node) → slice_get g n ≡ Some node → AllByRecursion (λ k. k < n) node.kids
+-- the operation has a text or a symbol
+abbrev pub HasName : Op → Type 0
+HasName (op.Literal t) = Unit {0}
+HasName (op.GetStatic s) = Unit {0}
+HasName (op.PutStatic s) = Unit {0}
+HasName (op.GetField s) = Unit {0}
+HasName (op.PutField s) = Unit {0}
+HasName (op.CallEnd s) = Unit {0}
+HasName (op.CallRes s) = Unit {0}
+HasName (op.CallFault s) = Unit {0}
+HasName (op.CallHeap s) = Unit {0}
+HasName o = ⊥
 
--- no two nodes have one operation and the same kids
-abbrev pub IsDistinct : List Node → Type 0
-IsDistinct g = (a b : ℕ) (node : Node) → slice_get g a ≡ Some node → slice_get g b ≡ Some node → a ≡ b
-
--- what every graph is
-pub record IsGraph (g : List Node) : Type 0 where
-  pub acyclic : IsAcyclic g
-  pub distinct : IsDistinct g
-  pub sorted : (all : List OpSort) × AreSorts g all
-  pub small : length g < 2 ^ 32
-
-abbrev pub IsAbsent : List Node → Node → Type 0
-IsAbsent g node = (m : ℕ) → slice_get g m ≡ Some node → ⊥
+-- a theta that is not tied has no kids
+abbrev pub IsOpen : Node → Type 0
+IsOpen node = (d : ℕ) × (node ≡ node_of (op.Theta d) [])
 
 -- the least number of a node
-pub record IsFirst (g : List Node) (node : Node) (n : ℕ) : Type 0 where
-  pub there : slice_get g n ≡ Some node
-  pub least : (m : ℕ) → m < n → slice_get g m ≡ Some node → ⊥
+pub record IsFirst (nodes : List Node) (node : Node) (n : ℕ) : Type 0 where
+  pub there : slice_get nodes n ≡ Some node
+  pub least : (m : ℕ) → m < n → slice_get nodes m ≡ Some node → ⊥
 
--- the node has this number, which is its least; where it was new, it was added behind the others
-pub record Interned (old new : List Node) (node : Node) (n : ℕ) : Type 0 where
-  pub first : IsFirst new node n
-  pub grows : (new ≡ old) ⊎ (IsAbsent old node × (new ≡ old ++ node ∷ []))
-  pub graph : IsGraph new
+abbrev pub IsAbsent : List Node → Node → Type 0
+IsAbsent nodes node = (m : ℕ) → slice_get nodes m ≡ Some node → ⊥
+
+-- no theta is left without kids
+abbrev pub AreTied : List Node → Type 0
+AreTied nodes = (n : ℕ) (node : Node) → slice_get nodes n ≡ Some node → IsOpen node → ⊥

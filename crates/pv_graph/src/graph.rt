@@ -1,185 +1,356 @@
 //! A graph, which numbers its nodes.
 
-ghost use Rattle.std.specs.Prelude.{◌≡◌, ◌<◌, ◌↔◌, length, Some, slice_get, [], MatchOption, IsTrue, IfOk, IfErr, OnErr};
+ghost use Rattle.std.specs.Prelude.{◌≡◌, ◌≢◌, ◌↔◌, ◌<◌, ◌+◌, ◌^◌, ◌∷◌, ◌++◌, [], length, slice_get, true, false, Some, List, ℕ, IsTrue, IfOk, OnOk, OnErr, vec_len, vec_capacity};
+ghost use Rattle.pv_graph.specs.Graphs.{IsGraph, IsRanged};
 ghost use Rattle.std.specs.List.{All};
-ghost use Rattle.pv_graph.specs.Nodes.{node_of, IsAbsent, IsGraph, Interned};
-ghost use Rattle.pv_graph.specs.Sorts.{root_sort, param_sort, scalar_sort, sort_over, HaveSorts, FitsOver};
-ghost use Rattle.pv_graph.specs.Tables.{IsTable, IsNew};
-ghost use Rattle.std.specs.Map.{keys_of, values_of};
+ghost use Rattle.std.specs.Bool.{OnTrue, OnFalse};
+ghost use Rattle.pv_graph.specs.Nodes.{node_of, AreTied, IsOpen, IsAbsent};
+ghost use Rattle.pv_graph.specs.Index.{IsIndex};
+ghost use Rattle.pv_graph.specs.Reach.{IsSearched};
+ghost use Rattle.pv_graph.specs.Ops.{HaveSorts, HasSort, is_depth};
+ghost use Rattle.pv_graph.specs.Calls.{AreNodes, Added, FitsOver, Begun, HaveItsSort, HaveOneSort, IsFinished, IsFree, IsOpenTheta, IsSame, IsSettledIn, MayAdd, Sealed, Tied, empty_graph};
 
 use crate::fault::GraphFault;
-use crate::node::{Kids, Node, NodeId, Op, OpSort};
-use indexmap::IndexMap;
-use pv_value::IntOp;
+use crate::index::Index;
+use crate::node::{Node, NodeId, Op, OpSort};
+use crate::prepared::{Prepared, prepared_of};
+use crate::reach::{Look, left_out, marks_of, uses_of};
+use crate::sort::sort_of;
+use pv_value::Memory;
 use std::alloc::{AllocError, Global};
 use std::marker::Model;
 
-/// A graph, seen as the list of its nodes.
+/// A graph, seen as its nodes and their sorts, whether it is open, how many nodes its base has, and
+/// whether it is prepared.
 #[derive(Drop)]
 pub struct Graph {
-    // The nodes in order, each with its sort.
-    nodes: IndexMap<Node, OpSort>,
+    nodes: Vec<Node>,
+    sorts: Vec<OpSort>,
+    index: Index,
+    is_open: bool,
+    base: u32,
+    prepared: Option<Prepared>,
 }
 
 impl Model for Graph {
-    ghost use Rattle.std.specs.Prelude.{List};
-    ghost use Rattle.pv_graph.specs.declared.node.Node.{Node};
-    ghost use Rattle.std.specs.Map.{keys_of};
-    ghost use Rattle.pv_graph.specs.Tables.{IsTable};
+    ghost use Rattle.pv_graph.specs.Graphs as graphs;
+    ghost use Rattle.pv_graph.specs.Kept.{graph_of, IsKept};
 
-    ghost Value = { List Node };
+    ghost Value = { graphs.Graph };
 
-    ghost view = { λ g. keys_of g.nodes.entries };
+    ghost view = { λ g. graph_of g.nodes.items g.sorts.items g.is_open g.base g.prepared };
 
-    ghost invariant = { λ g. IsTable g.nodes.entries };
-}
-
-// The sort of a root over a result of this sort.
-fn sort_of_root(value: OpSort) -> Option<OpSort>
-    ensures { result ≡ root_sort value }
-{
-    match value {
-        OpSort::I | OpSort::L | OpSort::A | OpSort::T => Some(OpSort::R),
-        _ => None,
-    }
-}
-
-// The sort of an argument of this sort.
-fn sort_of_param(sort: OpSort) -> Option<OpSort>
-    ensures { result ≡ param_sort sort }
-{
-    match sort {
-        OpSort::I | OpSort::L | OpSort::A => Some(sort),
-        _ => None,
-    }
-}
-
-// The sort of a scalar operation over operands of these sorts.
-fn sort_of_scalar(op: IntOp, kids: &[OpSort]) -> Option<OpSort>
-    ensures { result ≡ scalar_sort op kids.now }
-{
-    match (op, kids) {
-        (IntOp::Iadd | IntOp::Isub | IntOp::Imul, [OpSort::I, OpSort::I]) => { Some(OpSort::I) }
-        _ => None,
-    }
-}
-
-// The sort of an operation over kids of these sorts.
-fn sort_of(op: Op, kids: &[OpSort]) -> Option<OpSort>
-    ensures { result ≡ sort_over op kids.now }
-{
-    match (op, kids) {
-        (Op::Int(_), []) => Some(OpSort::I),
-        (Op::Long(_), []) => Some(OpSort::L),
-        (Op::Null, []) => Some(OpSort::A),
-        (Op::Param(_, sort), []) => sort_of_param(sort),
-        (Op::Heap0, []) => Some(OpSort::H),
-        (Op::Unit, []) => Some(OpSort::T),
-        (Op::Clear, []) => Some(OpSort::F),
-        (Op::Scalar(op), _) => sort_of_scalar(op, kids),
-        (Op::Root, [OpSort::T, OpSort::F, value, OpSort::H]) => sort_of_root(*value),
-        _ => None,
-    }
+    ghost invariant = { λ g. IsKept (graph_of g.nodes.items g.sorts.items g.is_open g.base g.prepared) g.index.numbers g.prepared };
 }
 
 // The sorts of nodes.
-fn sorts_of_kids(
-    alloc: Global,
-    nodes: &IndexMap<Node, OpSort>,
-    kids: &[NodeId],
-) -> Result<Vec<OpSort>, AllocError>
-    requires { All (λ k. k < length nodes.now.entries) kids.now }
-    ensures { IfOk result (λ sorts. HaveSorts (values_of nodes.now.entries) kids.now sorts.items) }
+fn sorts_of(alloc: Global, sorts: &Vec<OpSort>, kids: &[NodeId]) -> Result<Vec<OpSort>, AllocError>
+    requires { All (λ k. k < vec_len sorts.now) kids.now }
+    ensures { IfOk result (λ found. HaveSorts sorts.now.items kids.now found.items) }
 {
-    let mut sorts = Vec::new(alloc);
+    let mut found = Vec::new(alloc);
     for kid in kids {
-        sorts.push(nodes[*kid as usize])?;
+        found.push(sorts[*kid as usize])?;
     }
-    Ok(sorts)
+    Ok(found)
 }
 
-// The number of a node.
-fn place_of(nodes: &IndexMap<Node, OpSort>, node: &Node) -> Option<usize>
-    ensures { MatchOption result (IsAbsent (keys_of nodes.now.entries) node.now) (λ n. slice_get (keys_of nodes.now.entries) n ≡ Some node.now) }
+// Makes room for one more node, of which there are then fewer than 2^32.
+fn reserve(nodes: &mut Vec<Node>, sorts: &mut Vec<OpSort>) -> Result<(), Memory>
+    ensures nodes { nodes.new.items ≡ nodes.old.items }
+    ensures sorts { sorts.new.items ≡ sorts.old.items }
+    ensures few { OnOk result (vec_len nodes.new + 1 < 2 ^ 32) }
+    ensures node_room { OnOk result (vec_len nodes.new < vec_capacity nodes.new) }
+    ensures sort_room { OnOk result (vec_len sorts.new < vec_capacity sorts.new) }
 {
-    nodes.get_index_of(node)
+    if nodes.len() >= 0xFFFF_FFFF {
+        return Err(Memory);
+    }
+    nodes.reserve(1)?;
+    sorts.reserve(1)?;
+    Ok(())
 }
 
-// Puts a node that isn't there behind the others.
-fn push(nodes: &mut IndexMap<Node, OpSort>, node: Node, sort: OpSort) -> Result<NodeId, GraphFault>
-    requires table { IsTable nodes.old.entries }
-    requires new { IsNew nodes.old.entries node sort }
-
-    ensures table { IsTable nodes.new.entries }
-    ensures ok { IfOk result (λ n. Interned (keys_of nodes.old.entries) (keys_of nodes.new.entries) node n) }
-    ensures memory { IfErr result (λ e. e ≡ GraphFault.Memory) }
-    ensures err { OnErr result (nodes.new.entries ≡ nodes.old.entries) }
+// Puts a node after the others, where there is room.
+fn put(nodes: &mut Vec<Node>, sorts: &mut Vec<OpSort>, node: Node, sort: OpSort)
+    requires node_room { vec_len nodes.old < vec_capacity nodes.old }
+    requires sort_room { vec_len sorts.old < vec_capacity sorts.old }
+    ensures nodes { nodes.new.items ≡ nodes.old.items ++ node ∷ [] }
+    ensures sorts { sorts.new.items ≡ sorts.old.items ++ sort ∷ [] }
 {
-    let n = nodes.len();
-    if n >= 0xFFFF_FFFF {
-        return Err(GraphFault::Memory);
+    nodes.push(node).unwrap();
+    sorts.push(sort).unwrap();
+}
+
+// Copies of nodes.
+fn copy_nodes(alloc: Global, nodes: &[Node]) -> Result<Vec<Node>, Memory>
+    ensures { IfOk result (λ copies. copies.items ≡ nodes.now) }
+{
+    let mut copies = Vec::new(alloc);
+    for node in nodes {
+        copies.push(node.copy(alloc)?)?;
     }
-    nodes.insert(node, sort)?;
-    Ok(n as NodeId)
+    Ok(copies)
+}
+
+// The least numbers of nodes, of which there are fewer than 2^32.
+fn index_of(alloc: Global, nodes: &[Node]) -> Result<Index, Memory>
+    requires { length nodes.now < 2 ^ 32 }
+    ensures { IfOk result (λ index. IsIndex nodes.now index.numbers) }
+{
+    let mut index = Index::new(alloc);
+    for (n, node) in nodes.iter().enumerate() {
+        if node.is_open() || index.get(node).is_some() {
+            continue;
+        }
+        index.insert(node.copy(alloc)?, n as NodeId)?;
+    }
+    Ok(index)
+}
+
+// Whether two nodes have the sort of node n.
+fn have_its_sort(sorts: &Vec<OpSort>, n: NodeId, first: NodeId, second: NodeId) -> bool
+    requires n { n < vec_len sorts.now }
+    requires first { first < vec_len sorts.now }
+    requires second { second < vec_len sorts.now }
+    ensures { IsTrue result ↔ HaveOneSort sorts.now.items n first second }
+{
+    let sort = sorts[n as usize];
+    sorts[first as usize] == sort && sorts[second as usize] == sort
+}
+
+// The depth of a theta without kids.
+fn depth_of(node: &Node) -> u32
+    requires { IsOpen node.now }
+    ensures { node.now ≡ node_of (Op.Theta result) [] }
+{
+    match node.op {
+        Op::Theta(d) => d,
+        _ => unreachable!(),
+    }
+}
+
+// Whether no theta is left without kids.
+fn are_tied(nodes: &[Node]) -> bool
+    ensures { IsTrue result ↔ AreTied nodes.now }
+{
+    for node in nodes {
+        if node.is_open() {
+            return false;
+        }
+    }
+    true
 }
 
 impl Graph {
-    /// The graph without nodes.
+    /// The graph without nodes, which is open.
     pub fn new(alloc: Global) -> Graph
-        ensures empty { result ≡ [] }
-        ensures graph { IsGraph result }
+        ensures { result ≡ empty_graph }
     {
         Graph {
-            nodes: IndexMap::new(alloc),
+            nodes: Vec::new(alloc),
+            sorts: Vec::new(alloc),
+            index: Index::new(alloc),
+            is_open: true,
+            base: 0,
+            prepared: None,
         }
     }
 
     /// The node with this number.
     pub fn node(&self, n: NodeId) -> &Node
-        requires { n < length self.now }
-        ensures { slice_get self.now n ≡ Some result.now }
+        requires { n < length self.now.nodes }
+        ensures { slice_get self.now.nodes n ≡ Some result.now }
     {
-        let (node, _) = self.nodes.get_index(n as usize).unwrap();
-        node
+        &self.nodes[n as usize]
     }
 
     /// How many nodes there are: fewer than 2^32.
     pub fn len(&self) -> u32
-        ensures len { result ≡ length self.now }
+        ensures len { result ≡ length self.now.nodes }
         ensures graph { IsGraph self.now }
     {
         self.nodes.len() as u32
     }
 
-    /// Whether there is no node.
-    pub fn is_empty(&self) -> bool
-        ensures { IsTrue result ↔ (length self.now ≡ 0) }
+    // Puts a node after the others, and gives it its number.
+    fn append(&mut self, alloc: Global, node: Node, sort: OpSort) -> Result<NodeId, Memory>
+        requires absent { IsAbsent self.old.nodes node }
+        requires tied { IsOpen node → ⊥ }
+        requires sorted { HasSort self.old.sorts node.op node.kids sort }
+        requires ranged { IsRanged node.op }
+        ensures ok { IfOk result (λ n. Added self.old self.new node.op node.kids n) }
+        ensures err { OnErr result (IsSame self.old self.new) }
     {
-        self.nodes.is_empty()
+        let copy = node.copy(alloc)?;
+        reserve(&mut self.nodes, &mut self.sorts)?;
+        let n = self.nodes.len() as NodeId;
+        self.index.insert(copy, n)?;
+        put(&mut self.nodes, &mut self.sorts, node, sort);
+        self.prepared = None;
+        if self.is_open {
+            self.base = n + 1;
+        }
+        Ok(n)
     }
 
-    /// The number of the node with this operation and these kids, which is added behind the others
-    /// where there is none. After an error the graph is unchanged: `Sort` says that the operation
+    /// The least number of the node with this operation and these kids, which is added after the others
+    /// where there is none. After an error the graph is as it was: `Sort` says that the operation
     /// doesn't take such kids, `Memory` that memory ran out or the graph has 2^32 - 1 nodes.
     pub fn add(&mut self, alloc: Global, op: Op, kids: &[NodeId]) -> Result<NodeId, GraphFault>
-        requires { All (λ k. k < length self.old) kids.now }
-
-        ensures ok { IfOk result (λ n. Interned self.old self.new (node_of op kids.now) n) }
-        ensures fits { IfOk result (λ n. FitsOver self.old op kids.now) }
+        requires kids { AreNodes self.old kids.now }
+        requires theta { MayAdd self.old op }
+        ensures ok { IfOk result (λ n. Added self.old self.new op kids.now n) }
         ensures sort { result ≡ Err GraphFault.Sort → FitsOver self.old op kids.now → ⊥ }
-        ensures err { OnErr result (self.new ≡ self.old) }
+        ensures err { OnErr result (IsSame self.old self.new) }
     {
-        let node = Node {
-            op,
-            kids: Kids::new(alloc, kids)?,
-        };
-        if let Some(n) = place_of(&self.nodes, &node) {
-            return Ok(n as NodeId);
+        let node = Node::new(alloc, op, kids)?;
+        if let Some(n) = self.index.get(&node) {
+            return Ok(n);
         }
-        let sorts = sorts_of_kids(alloc, &self.nodes, kids)?;
-        let Some(sort) = sort_of(op, &sorts) else {
+        let sorts = sorts_of(alloc, &self.sorts, kids)?;
+        let Some(sort) = sort_of(alloc, &node.op, &sorts)? else {
             return Err(GraphFault::Sort);
         };
-        push(&mut self.nodes, node, sort)
+        Ok(self.append(alloc, node, sort)?)
+    }
+
+    /// A theta without kids, of this depth and sort, which is added after the others. After `Memory`
+    /// the graph is as it was.
+    pub fn theta(&mut self, alloc: Global, d: u32, sort: OpSort) -> Result<NodeId, Memory>
+        requires open { self.old.is_open ≡ true }
+        requires depth { IsTrue (is_depth d) }
+        requires sort { sort ≢ OpSort.R }
+        ensures ok { IfOk result (λ n. Begun self.old self.new d sort n) }
+        ensures err { OnErr result (IsSame self.old self.new) }
+    {
+        let node = Node::new(alloc, Op::Theta(d), &[])?;
+        reserve(&mut self.nodes, &mut self.sorts)?;
+        let n = self.nodes.len() as NodeId;
+        put(&mut self.nodes, &mut self.sorts, node, sort);
+        self.prepared = None;
+        self.base = n + 1;
+        Ok(n)
+    }
+
+    /// Gives a theta its kids, which are of its sort. After an error the graph is as it was: `Sort` says
+    /// that a kid is of another sort.
+    pub fn tie(
+        &mut self,
+        alloc: Global,
+        n: NodeId,
+        first: NodeId,
+        second: NodeId,
+    ) -> Result<(), GraphFault>
+        requires open { IsOpenTheta self.old n }
+        requires kids { AreNodes self.old (first ∷ second ∷ []) }
+        ensures ok { OnOk result (Tied self.old self.new n first second) }
+        ensures sort { result ≡ Err GraphFault.Sort → HaveItsSort self.old n first second → ⊥ }
+        ensures err { OnErr result (IsSame self.old self.new) }
+    {
+        if !have_its_sort(&self.sorts, n, first, second) {
+            return Err(GraphFault::Sort);
+        }
+        let d = depth_of(&self.nodes[n as usize]);
+        let node = Node::new(alloc, Op::Theta(d), &[first, second])?;
+        let copy = node.copy(alloc)?;
+        let least = self.index.least(&node, n);
+        self.index.insert(copy, least)?;
+        self.nodes[n as usize] = node;
+        self.prepared = None;
+        Ok(())
+    }
+
+    /// Closes the base, where no theta is left without kids; else nothing changes. It takes no memory.
+    pub fn seal(&mut self) -> bool
+        requires { self.old.is_open ≡ true }
+        ensures yes { OnTrue result (IsFinished self.old) }
+        ensures sealed { OnTrue result (Sealed self.old self.new) }
+        ensures no { OnFalse result (IsFinished self.old → ⊥) }
+        ensures same { OnFalse result (IsSame self.old self.new) }
+    {
+        if !are_tied(&self.nodes) {
+            return false;
+        }
+        self.is_open = false;
+        true
+    }
+
+    /// An equal graph.
+    pub fn copy(&self, alloc: Global) -> Result<Graph, Memory>
+        ensures { IfOk result (λ copy. IsSame self.now copy) }
+    {
+        Ok(Graph {
+            nodes: copy_nodes(alloc, &self.nodes)?,
+            sorts: Vec::from_slice(alloc, &self.sorts)?,
+            index: index_of(alloc, &self.nodes)?,
+            is_open: self.is_open,
+            base: self.base,
+            prepared: None,
+        })
+    }
+
+    // The nodes that reach one to be reached, but not through those that are assumed.
+    fn marks(&self, alloc: Global, assumed: &[NodeId], look: Look) -> Result<Vec<bool>, Memory>
+        ensures { IfOk result (λ marks. IsSearched self.now.nodes assumed.now look marks.items) }
+    {
+        let out = left_out(alloc, self.nodes.len(), assumed)?;
+        let uses = uses_of(alloc, &self.nodes, &out)?;
+        let marks = marks_of(alloc, &self.nodes, &out, &uses, look)?;
+        Ok(marks)
+    }
+
+    /// Whether a depth is free in a node. Its time is linear in the number of nodes and kids.
+    pub fn free(&self, alloc: Global, n: NodeId, d: u32) -> Result<bool, Memory>
+        requires { n < length self.now.nodes }
+        ensures { IfOk result (λ yes. IsTrue yes ↔ IsFree self.now d n) }
+    {
+        let free = self.marks(alloc, &[], Look::Free(d))?;
+        Ok(free[n as usize])
+    }
+
+    /// Whether a node is settled, with some nodes assumed to end. Its time is linear in the number of
+    /// nodes, kids and assumed nodes.
+    pub fn settled(&self, alloc: Global, n: NodeId, assumed: &[NodeId]) -> Result<bool, Memory>
+        requires { n < length self.now.nodes }
+        ensures { IfOk result (λ yes. IsTrue yes ↔ IsSettledIn self.now assumed.now n) }
+    {
+        let unsettled = self.marks(alloc, assumed, Look::All)?;
+        Ok(!unsettled[n as usize])
+    }
+
+    /// Keeps for every node what `free_now` and `settled_now` answer, until the next node is added or
+    /// tied. Its time is linear in the number of nodes and kids.
+    pub fn prepare(&mut self, alloc: Global) -> Result<(), Memory>
+        ensures ok { OnOk result (self.new ≡ record self.old { is_prepared = true }) }
+        ensures err { OnErr result (IsSame self.old self.new) }
+    {
+        let found = prepared_of(alloc, &self.nodes)?;
+        self.prepared = Some(found);
+        Ok(())
+    }
+
+    /// Whether a depth is free in a node, on a prepared graph. It takes no memory.
+    pub fn free_now(&self, n: NodeId, d: u32) -> bool
+        requires prepared { self.now.is_prepared ≡ true }
+        requires there { n < length self.now.nodes }
+        ensures { IsTrue result ↔ IsFree self.now d n }
+    {
+        match &self.prepared {
+            Some(found) if 1 <= d && d <= 16 => found.free[d as usize - 1][n as usize],
+            _ => false,
+        }
+    }
+
+    /// Whether a node is settled, on a prepared graph. It takes no memory.
+    pub fn settled_now(&self, n: NodeId) -> bool
+        requires prepared { self.now.is_prepared ≡ true }
+        requires there { n < length self.now.nodes }
+        ensures { IsTrue result ↔ IsSettledIn self.now [] n }
+    {
+        match &self.prepared {
+            Some(found) => !found.unsettled[n as usize],
+            None => unreachable!(),
+        }
     }
 }

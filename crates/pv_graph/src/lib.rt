@@ -1,29 +1,33 @@
-//! Graphs of operations, and what they mean.
+//! Graphs of operations.
 //!
-//! This layer stands on `pv_value`. A graph is a list of nodes, each an operation over kids, which
-//! are numbers of nodes. `specs/` says which sorts fit (`Sorts`), what every graph is and what it is
-//! to number a node (`Nodes`), what a node means in a world, at an input and an iteration of the
-//! loops around it (`Denote`), and what the tree under a node is (`Trees`). An argument that an input
-//! lacks, or has of another sort, reads 0 or null. A scalar operation has the value that `pv_value`
-//! gives it.
+//! This layer stands on `pv_value`. A graph is a list of nodes with their sorts; each node is an
+//! operation over kids, which are numbers of nodes. Cycles may stand in its base, through thetas,
+//! which are begun without kids and tied to them later; once all are tied, the base is sealed.
 //!
-//! `Graph::add` gives the least number of a node with an operation and kids, which it finds through a
-//! hashed table, and adds one behind the others where there is none. The layers above use its
-//! clauses, that each graph is acyclic, distinct, sorted and small, and these laws of `specs/`:
+//! `specs/` says which sorts fit an operation (`Ops`, `sort_over`), what a graph is (`Graphs`,
+//! `IsGraph`, an invariant of `Graph`), what is free, settled and on a spine, and the rule on cycles
+//! (`Walks`), what a node unfolds to (`Unfold`), and what each call requires and ensures (`Calls`).
+//! What a node means is told in the crate above.
 //!
-//! - `Growth`: a graph that `add` grows keeps its nodes, with their values and their trees.
-//! - `Once`: more fuel keeps a value, so a node has at most one at an index.
-//! - `TreeLaws`: nodes that unfold equally, also in two graphs, have the same values; in a graph they
-//!   are one node. What a node's value and tree are, from its kids'.
-//! - `SortLaws`: the nodes of a graph have their sorts in one way.
-//! - `Elements`: elements of lists, by their numbers.
+//! The layers above use the clauses of `Graph`: `add` gives the least number of a node (`Added`),
+//! `theta`, `tie` and `seal` say exactly what they change (`Begun`, `Tied`, `Sealed`), an error leaves
+//! the graph as it was, and `free`, `settled` and their forms on a prepared graph answer exactly
+//! `Free` and `IsSettled`. `laws` has the laws (`Laws`), each as the contract of a function that does
+//! nothing.
 //!
-//! `Tables` is how a graph is kept: a table of the nodes in order, each with its sort.
+//! `Index`, `Kept`, `Reach` and `SortCode` are private to this crate: how a node finds its number, what
+//! a graph keeps, and how the nodes that reach others are found, from these back along the places at
+//! which they are kids, by a list of work.
 #![tactic(auto)]
 
 mod fault;
 mod graph;
+mod index;
+pub mod laws;
 mod node;
+mod prepared;
+mod reach;
+mod sort;
 
 pub use fault::GraphFault;
 pub use graph::Graph;

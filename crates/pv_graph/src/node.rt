@@ -1,12 +1,13 @@
 //! Nodes: an operation and its kids.
 
-ghost use Rattle.std.specs.Prelude.{◌≡◌, ◌==◌, IfOk};
+ghost use Rattle.std.specs.Prelude.{◌≡◌, ◌==◌, ◌↔◌, [], ℕ, IfOk, IsTrue};
 ghost use Rattle.std.specs.Cmp.Lexicographic.{pointwise};
 ghost use Rattle.std.specs.Cmp.Rules.{comparing, hashing};
 ghost use Rattle.std.specs.Hash as fed;
 ghost use Rattle.std.proofs.Common.{rules};
+ghost use Rattle.pv_graph.specs.Nodes.{node_of, HasName, IsOpen};
 
-use pv_value::{IntOp, Memory};
+use pv_value::{Kind, Memory, Name, ScalarOp, Sym};
 use std::alloc::Global;
 use std::hash::{Hash, Hasher};
 use std::marker::Model;
@@ -14,21 +15,122 @@ use std::marker::Model;
 /// The number of a node.
 pub type NodeId = u32;
 
-/// An operation. `Param` is an argument of a sort, `I`, `L` or `A`: the first has number 0, and
-/// `this` has none. `Heap0` is the heap at the start, `Clear` the fault of a method that returns,
-/// `Scalar` an operation over its operands, and `Root` the end of a method over its token, fault,
-/// result and heap.
-#[derive(Clone, Copy, Debug, PartialEq, Eq, Hash)]
+/// An operation, with its parameters: a constant, a text, an argument's number and sort, a depth of
+/// loops, an operation on numbers, a kind of elements or a symbol. The faults that the machine makes
+/// are `FNull`, `FArith` and `FIndex`; `Clear` stands for none.
+#[derive(Debug, Drop, PartialEq, Eq, Hash)]
 pub enum Op {
     Int(i32),
     Long(i64),
     Null,
+    Literal(Name),
     Param(u32, OpSort),
+    This,
     Heap0,
     Unit,
+    Never,
     Clear,
-    Scalar(IntOp),
+    FNull,
+    FArith,
+    FIndex,
+    Zero,
+    Succ,
+    Thrown,
+    IsClear,
+    Both,
+    Phi,
+    Theta(u32),
+    Eval(u32),
+    Pass(u32),
+    Shift(u32),
     Root,
+    Scalar(ScalarOp),
+    Aeq,
+    GetStatic(Sym),
+    PutStatic(Sym),
+    GetField(Sym),
+    PutField(Sym),
+    Load(Kind),
+    Store(Kind),
+    Length,
+    CallEnd(Sym),
+    CallRes(Sym),
+    CallFault(Sym),
+    CallHeap(Sym),
+}
+
+fn copy_name(alloc: Global, name: &Name) -> Result<Name, Memory>
+    ensures { IfOk result (λ copy. copy ≡ name.now) }
+{
+    Name::new(alloc, name.bytes())
+}
+
+fn copy_sym(alloc: Global, sym: &Sym) -> Result<Sym, Memory>
+    ensures { IfOk result (λ copy. copy ≡ sym.now) }
+{
+    Ok(Sym {
+        class: copy_name(alloc, &sym.class)?,
+        name: copy_name(alloc, &sym.name)?,
+        desc: copy_name(alloc, &sym.desc)?,
+    })
+}
+
+impl Op {
+    /// An equal operation. It takes memory where the operation has a text or a symbol.
+    pub fn copy(&self, alloc: Global) -> Result<Op, Memory>
+        ensures { IfOk result (λ copy. copy ≡ self.now) }
+    {
+        Ok(match self {
+            Op::Literal(text) => Op::Literal(copy_name(alloc, text)?),
+            Op::GetStatic(sym) => Op::GetStatic(copy_sym(alloc, sym)?),
+            Op::PutStatic(sym) => Op::PutStatic(copy_sym(alloc, sym)?),
+            Op::GetField(sym) => Op::GetField(copy_sym(alloc, sym)?),
+            Op::PutField(sym) => Op::PutField(copy_sym(alloc, sym)?),
+            Op::CallEnd(sym) => Op::CallEnd(copy_sym(alloc, sym)?),
+            Op::CallRes(sym) => Op::CallRes(copy_sym(alloc, sym)?),
+            Op::CallFault(sym) => Op::CallFault(copy_sym(alloc, sym)?),
+            Op::CallHeap(sym) => Op::CallHeap(copy_sym(alloc, sym)?),
+            _ => self.without_name(),
+        })
+    }
+
+    // An equal operation, of one that has no text and no symbol.
+    fn without_name(&self) -> Op
+        requires { HasName self.now → ⊥ }
+        ensures { result ≡ self.now }
+    {
+        match self {
+            Op::Int(n) => Op::Int(*n),
+            Op::Long(n) => Op::Long(*n),
+            Op::Null => Op::Null,
+            Op::Param(j, sort) => Op::Param(*j, *sort),
+            Op::This => Op::This,
+            Op::Heap0 => Op::Heap0,
+            Op::Unit => Op::Unit,
+            Op::Never => Op::Never,
+            Op::Clear => Op::Clear,
+            Op::FNull => Op::FNull,
+            Op::FArith => Op::FArith,
+            Op::FIndex => Op::FIndex,
+            Op::Zero => Op::Zero,
+            Op::Succ => Op::Succ,
+            Op::Thrown => Op::Thrown,
+            Op::IsClear => Op::IsClear,
+            Op::Both => Op::Both,
+            Op::Phi => Op::Phi,
+            Op::Theta(d) => Op::Theta(*d),
+            Op::Eval(d) => Op::Eval(*d),
+            Op::Pass(d) => Op::Pass(*d),
+            Op::Shift(d) => Op::Shift(*d),
+            Op::Root => Op::Root,
+            Op::Scalar(op) => Op::Scalar(*op),
+            Op::Aeq => Op::Aeq,
+            Op::Load(kind) => Op::Load(*kind),
+            Op::Store(kind) => Op::Store(*kind),
+            Op::Length => Op::Length,
+            _ => unreachable!(),
+        }
+    }
 }
 
 /// The sort of a node's value: int, long, reference, count, fault, token, heap, root.
@@ -101,8 +203,38 @@ impl Hash for Kids {
 }
 
 /// An operation over kids.
-#[derive(Debug, Drop, PartialEq, Eq, Hash)]
+#[derive(Debug, PartialEq, Eq, Hash)]
 pub struct Node {
     pub op: Op,
     pub kids: Kids,
+}
+
+impl Drop for Node {
+    fn drop(self) {
+        let Node { op: _, kids: _ } = self;
+    }
+}
+
+impl Node {
+    // This operation over these kids.
+    pub(crate) fn new(alloc: Global, op: Op, kids: &[NodeId]) -> Result<Node, Memory>
+        ensures { IfOk result (λ node. node ≡ node_of op kids.now) }
+    {
+        let kids = Kids::new(alloc, kids)?;
+        Ok(Node { op, kids })
+    }
+
+    /// An equal node.
+    pub fn copy(&self, alloc: Global) -> Result<Node, Memory>
+        ensures { IfOk result (λ copy. copy ≡ self.now) }
+    {
+        Node::new(alloc, self.op.copy(alloc)?, self.kids.as_slice())
+    }
+
+    // Whether it is a theta without kids.
+    pub(crate) fn is_open(&self) -> bool
+        ensures { IsTrue result ↔ IsOpen self.now }
+    {
+        matches!(self.op, Op::Theta(_)) && self.kids.as_slice().is_empty()
+    }
 }

@@ -4,18 +4,18 @@ use Rattle.std.specs.Prelude.{slice_get}
 use Rattle.std.proofs.lemmas.Option.{slice_get_within}
 use Rattle.pv_value.specs.declared.int_op.IntOp.{IntOp}
 use Rattle.pv_value.specs.declared.int_op.IntOp.TheVariants.{Iadd, Isub, Imul}
-use Rattle.pv_graph.specs.declared.node.Op.{Op}
-use Rattle.pv_graph.specs.declared.node.Op.TheVariants as op
-use Rattle.pv_graph.specs.declared.node.OpSort.{OpSort}
-use Rattle.pv_graph.specs.declared.node.OpSort.TheVariants as sort
-use Rattle.pv_graph.specs.declared.node.Node.{Node}
-use Rattle.pv_graph.specs.Elements.{found}
-use Rattle.pv_graph.specs.Nodes.{IsGraph, Interned, node_of}
-use Rattle.pv_graph.specs.Sorts.{AreSorts, HaveSorts, FitsOver, sort_over, over_ints}
-use Rattle.pv_graph.specs.Growth.{Extends, extends_same, extends_then, extends_interned}
-use Rattle.pv_graph.specs.Trees.{Tree, over, none, first}
-use Rattle.pv_graph.specs.Finite.{IsTree}
-use Rattle.pv_graph.specs.FiniteLaws.{leaf_tree, node_tree, no_trees, more_trees, is_tree_kept}
+use Rattle.pv_dag.specs.declared.node.Op.{Op}
+use Rattle.pv_dag.specs.declared.node.Op.TheVariants as op
+use Rattle.pv_dag.specs.declared.node.OpSort.{OpSort}
+use Rattle.pv_dag.specs.declared.node.OpSort.TheVariants as sort
+use Rattle.pv_dag.specs.declared.node.Node.{Node}
+use Rattle.pv_dag.specs.Elements.{found}
+use Rattle.pv_dag.specs.Nodes.{IsGraph, Interned, node_of}
+use Rattle.pv_dag.specs.Sorts.{AreSorts, HaveSorts, FitsOver, sort_over, over_ints}
+use Rattle.pv_dag.specs.Growth.{Extends, extends_same, extends_then, extends_interned}
+use Rattle.pv_dag.specs.Trees.{Tree, over, none, first}
+use Rattle.pv_dag.specs.Finite.{IsTree}
+use Rattle.pv_dag.specs.FiniteLaws.{leaf_tree, node_tree, no_trees, more_trees, is_tree_kept}
 use Rattle.pv_top.specs.Built.{leaf}
 use Rattle.pv_top.specs.Conversion.{Grows, HasOver, IsLeaf, GivesInt, IsInt, AreInts, HaveTrees, IsRootOver}
 

@@ -11,14 +11,14 @@ use Rattle.pv_value.specs.IntOps.{operation}
 use Rattle.pv_frame.specs.declared.sort.Sort.TheVariants as sorts
 use Rattle.pv_frame.specs.declared.action.Action.{Action}
 use Rattle.pv_frame.specs.declared.action.Action.TheVariants as act
-use Rattle.pv_graph.specs.declared.node.Op.{Op}
-use Rattle.pv_graph.specs.declared.node.Op.TheVariants as op
-use Rattle.pv_graph.specs.declared.node.OpSort.TheVariants as sort
-use Rattle.pv_graph.specs.declared.node.Node.{Node}
-use Rattle.pv_graph.specs.Nodes.{IsGraph}
-use Rattle.pv_graph.specs.Trees.{Tree, over, none, first}
-use Rattle.pv_graph.specs.Finite.{IsTree}
-use Rattle.pv_graph.specs.FiniteLaws.{leaf_tree, is_tree_kept}
+use Rattle.pv_dag.specs.declared.node.Op.{Op}
+use Rattle.pv_dag.specs.declared.node.Op.TheVariants as op
+use Rattle.pv_dag.specs.declared.node.OpSort.TheVariants as sort
+use Rattle.pv_dag.specs.declared.node.Node.{Node}
+use Rattle.pv_dag.specs.Nodes.{IsGraph}
+use Rattle.pv_dag.specs.Trees.{Tree, over, none, first}
+use Rattle.pv_dag.specs.Finite.{IsTree}
+use Rattle.pv_dag.specs.FiniteLaws.{leaf_tree, is_tree_kept}
 use Rattle.pv_top.specs.Built.{leaf, over_two, Lays, LaysAll, ReturnsTree}
 use Rattle.pv_top.specs.Conversion.{Grows, HasOver, GivesInt, AreInts, HaveTrees, LaysNodes, TopsLeaf, IsReturned}
 use Rattle.pv_top.proofs.IntNodes.{grows_same, grows_then, ints_kept, trees_kept, two_trees}

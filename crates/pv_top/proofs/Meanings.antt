@@ -13,13 +13,13 @@ use Rattle.pv_class.specs.declared.file.Method.{Method}
 use Rattle.pv_frame.specs.declared.program.Program.{Program}
 use Rattle.pv_machine.specs.Machine.{RunEnds, start}
 use Rattle.pv_machine.proofs.Typing.{ends_once}
-use Rattle.pv_graph.specs.declared.node.Node.{Node}
-use Rattle.pv_graph.specs.Trees.{Tree}
-use Rattle.pv_graph.specs.Finite.{IsTree, tree_value}
-use Rattle.pv_graph.specs.FiniteLaws.{tree_den}
+use Rattle.pv_dag.specs.declared.node.Node.{Node}
+use Rattle.pv_dag.specs.Trees.{Tree}
+use Rattle.pv_dag.specs.Finite.{IsTree, tree_value}
+use Rattle.pv_dag.specs.FiniteLaws.{tree_den}
 use Rattle.pv_frame.specs.declared.typed.Typed.{Typed}
 use Rattle.pv_frame.specs.Answers.{IsTyping}
-use Rattle.pv_graph.specs.FiniteLaws.{is_tree_kept}
+use Rattle.pv_dag.specs.FiniteLaws.{is_tree_kept}
 use Rattle.pv_top.specs.declared.reason.Reason.TheVariants as reason
 use Rattle.pv_top.specs.Built.{IsBuilt, IsStraight, IsOfInts, ReturnsTree}
 use Rattle.pv_top.specs.Roots.{IsRootOf, returning}

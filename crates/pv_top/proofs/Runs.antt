@@ -21,11 +21,11 @@ use Rattle.pv_frame.specs.declared.action.Action.{Action}
 use Rattle.pv_frame.specs.declared.action.Action.TheVariants as act
 use Rattle.pv_frame.specs.declared.program.Program.{Program}
 use Rattle.pv_machine.specs.Machine.{State, Now, running, ended, perform, perform_at, go_on, after, start, passed, padded, locals_of, given, RunEnds}
-use Rattle.pv_graph.specs.declared.node.Op.TheVariants as op
-use Rattle.pv_graph.specs.declared.node.OpSort.TheVariants as sort
-use Rattle.pv_graph.specs.Denote.{number_of}
-use Rattle.pv_graph.specs.Trees.{Tree, over, none, first}
-use Rattle.pv_graph.specs.Finite.{tree_value}
+use Rattle.pv_dag.specs.declared.node.Op.TheVariants as op
+use Rattle.pv_dag.specs.declared.node.OpSort.TheVariants as sort
+use Rattle.pv_dag.specs.Denote.{number_of}
+use Rattle.pv_dag.specs.Trees.{Tree, over, none, first}
+use Rattle.pv_dag.specs.Finite.{tree_value}
 use Rattle.pv_top.specs.Built.{leaf, over_two, Lays, LaysAll, IsStraight}
 
 -- ---- what the locals hold

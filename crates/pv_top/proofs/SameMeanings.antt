@@ -14,8 +14,8 @@ use Rattle.pv_class.proofs.CodeBytes.{HasBytes}
 use Rattle.pv_frame.specs.declared.program.Program.{Program}
 use Rattle.pv_frame.proofs.CauseLaws.{one_program}
 use Rattle.pv_machine.specs.Machine.{IsProgram, RunEnds, Ends, AreEquivalentMethods}
-use Rattle.pv_graph.specs.Trees.{Tree}
-use Rattle.pv_graph.specs.Finite.{tree_value}
+use Rattle.pv_dag.specs.Trees.{Tree}
+use Rattle.pv_dag.specs.Finite.{tree_value}
 use Rattle.pv_top.specs.Built.{IsBuilt, IsStraight}
 use Rattle.pv_top.specs.Roots.{HasTree, returning}
 use Rattle.pv_top.proofs.Meanings.{program_ends}

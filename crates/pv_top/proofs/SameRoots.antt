@@ -2,10 +2,10 @@
 use Rattle.std.proofs.Common.{◌≡◌, ℕ, ◌<◌, List, length, sym, ap, subst, ◌∙◌, arith}
 use Rattle.pv_class.specs.declared.file.ClassFile.{ClassFile}
 use Rattle.pv_class.specs.declared.file.Method.{Method}
-use Rattle.pv_graph.specs.declared.node.Node.{Node}
-use Rattle.pv_graph.specs.Trees.{Tree, UnfoldEqually}
-use Rattle.pv_graph.specs.Finite.{cut_at}
-use Rattle.pv_graph.specs.FiniteLaws.{is_tree_in_range, is_tree_kept, is_tree_unfolds, one_tree_of_both}
+use Rattle.pv_dag.specs.declared.node.Node.{Node}
+use Rattle.pv_dag.specs.Trees.{Tree, UnfoldEqually}
+use Rattle.pv_dag.specs.Finite.{cut_at}
+use Rattle.pv_dag.specs.FiniteLaws.{is_tree_in_range, is_tree_kept, is_tree_unfolds, one_tree_of_both}
 use Rattle.pv_top.specs.Roots.{HasTree, IsRootOf}
 use Rattle.pv_top.specs.Conversion.{Grows}
 

@@ -7,7 +7,7 @@ use Rattle.pv_value.specs.IntOps.{operation}
 use Rattle.pv_frame.specs.declared.sort.Sort.TheVariants as sort
 use Rattle.pv_frame.specs.declared.action.Action.{Action}
 use Rattle.pv_frame.specs.declared.action.Action.TheVariants as act
-use Rattle.pv_graph.specs.Trees.{Tree}
+use Rattle.pv_dag.specs.Trees.{Tree}
 use Rattle.pv_top.specs.Built.{Lays, LaysAll, ReturnsTree}
 
 same_operands : (a b a' b' : Tree) (rest rest' : List Tree) → b ∷ a ∷ rest ≡ b' ∷ a' ∷ rest' → (a ≡ a') × (b ≡ b') × (rest ≡ rest')

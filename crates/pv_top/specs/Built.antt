@@ -13,10 +13,10 @@ use Rattle.pv_frame.specs.declared.action.Action.{Action}
 use Rattle.pv_frame.specs.declared.action.Action.TheVariants as act
 use Rattle.pv_frame.specs.declared.program.Program.{Program}
 use Rattle.pv_frame.specs.Causes.{IsAccepted}
-use Rattle.pv_graph.specs.declared.node.Op.{Op}
-use Rattle.pv_graph.specs.declared.node.Op.TheVariants as op
-use Rattle.pv_graph.specs.declared.node.OpSort.TheVariants as of
-use Rattle.pv_graph.specs.Trees.{Tree, over, none, first}
+use Rattle.pv_dag.specs.declared.node.Op.{Op}
+use Rattle.pv_dag.specs.declared.node.Op.TheVariants as op
+use Rattle.pv_dag.specs.declared.node.OpSort.TheVariants as of
+use Rattle.pv_dag.specs.Trees.{Tree, over, none, first}
 
 abbrev pub leaf : Op → Tree
 leaf o = over o none

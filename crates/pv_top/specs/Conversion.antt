@@ -4,16 +4,16 @@ use Rattle.std.specs.List.{AllByRecursion, AllZip}
 use Rattle.pv_class.specs.declared.file.ClassFile.{ClassFile}
 use Rattle.pv_class.specs.declared.file.Method.{Method}
 use Rattle.pv_frame.specs.declared.action.Action.{Action}
-use Rattle.pv_graph.specs.declared.node.Node.{Node}
-use Rattle.pv_graph.specs.declared.node.Op.{Op}
-use Rattle.pv_graph.specs.declared.node.Op.TheVariants as op
-use Rattle.pv_graph.specs.declared.node.OpSort.{OpSort}
-use Rattle.pv_graph.specs.declared.node.OpSort.TheVariants as sort
-use Rattle.pv_graph.specs.Nodes.{IsGraph, node_of}
-use Rattle.pv_graph.specs.Sorts.{sort_over}
-use Rattle.pv_graph.specs.Growth.{Extends}
-use Rattle.pv_graph.specs.Trees.{Tree}
-use Rattle.pv_graph.specs.Finite.{IsTree}
+use Rattle.pv_dag.specs.declared.node.Node.{Node}
+use Rattle.pv_dag.specs.declared.node.Op.{Op}
+use Rattle.pv_dag.specs.declared.node.Op.TheVariants as op
+use Rattle.pv_dag.specs.declared.node.OpSort.{OpSort}
+use Rattle.pv_dag.specs.declared.node.OpSort.TheVariants as sort
+use Rattle.pv_dag.specs.Nodes.{IsGraph, node_of}
+use Rattle.pv_dag.specs.Sorts.{sort_over}
+use Rattle.pv_dag.specs.Growth.{Extends}
+use Rattle.pv_dag.specs.Trees.{Tree}
+use Rattle.pv_dag.specs.Finite.{IsTree}
 use Rattle.pv_top.specs.declared.reason.Stop.{Stop}
 use Rattle.pv_top.specs.declared.reason.Stop.TheVariants as stop
 use Rattle.pv_top.specs.Built.{ReturnsTree, Lays, leaf}

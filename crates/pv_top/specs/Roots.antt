@@ -10,11 +10,11 @@ use Rattle.pv_class.specs.declared.file.ClassFile.{ClassFile}
 use Rattle.pv_class.specs.declared.file.Method.{Method}
 use Rattle.pv_frame.specs.declared.program.Program.{Program}
 use Rattle.pv_machine.specs.Machine.{RunEnds}
-use Rattle.pv_graph.specs.declared.node.Op.TheVariants.{Heap0, Unit, Clear, Root}
-use Rattle.pv_graph.specs.declared.node.Node.{Node}
-use Rattle.pv_graph.specs.Denote.{Value, outside}
-use Rattle.pv_graph.specs.Trees.{Tree, over, none, first}
-use Rattle.pv_graph.specs.Finite.{IsTree}
+use Rattle.pv_dag.specs.declared.node.Op.TheVariants.{Heap0, Unit, Clear, Root}
+use Rattle.pv_dag.specs.declared.node.Node.{Node}
+use Rattle.pv_dag.specs.Denote.{Value, outside}
+use Rattle.pv_dag.specs.Trees.{Tree, over, none, first}
+use Rattle.pv_dag.specs.Finite.{IsTree}
 use Rattle.pv_top.specs.Built.{leaf, IsBuilt}
 
 -- a method that returns the value of a tree, at the heap at its start

@@ -2,7 +2,7 @@
 
 ghost use Rattle.std.specs.Prelude.{◌↔◌, IsTrue};
 ghost use Rattle.pv_frame.specs.Answers.{HasCode, HasReferences};
-ghost use Rattle.pv_graph.specs.Nodes.{IsGraph};
+ghost use Rattle.pv_dag.specs.Nodes.{IsGraph};
 ghost use Rattle.pv_top.specs.Built.{IsOfInts};
 ghost use Rattle.pv_top.specs.Conversion.{ConvertsAt, Grows};
 
@@ -11,7 +11,7 @@ use crate::nodes::root_of;
 use crate::reason::{Reason, Stop};
 use pv_class::ClassFile;
 use pv_frame::{Refused, infer};
-use pv_graph::{Graph, NodeId};
+use pv_dag::{Graph, NodeId};
 use pv_value::{Descriptor, JType};
 use std::alloc::Global;
 

@@ -3,15 +3,15 @@
 ghost use Rattle.std.specs.Prelude.{◌≡◌, IfOk, OnOk, MatchOption};
 ghost use Rattle.pv_value.specs.IntOps.{operation};
 ghost use Rattle.pv_value.specs.declared.int_op.IntOp.{IntOp};
-ghost use Rattle.pv_graph.specs.Nodes.{IsGraph};
-ghost use Rattle.pv_graph.specs.Trees.{Tree};
+ghost use Rattle.pv_dag.specs.Nodes.{IsGraph};
+ghost use Rattle.pv_dag.specs.Trees.{Tree};
 ghost use Rattle.pv_top.specs.Built.{ReturnsTree};
 ghost use Rattle.pv_top.specs.Conversion.{Grows, GivesInt, IsLeaf, AreInts, LaysNodes, TopsLeaf, IsReturned};
 
 use crate::nodes::{computed, leaf};
 use crate::operands::Operands;
 use pv_frame::{Action, Sort};
-use pv_graph::{Graph, NodeId, Op, OpSort};
+use pv_dag::{Graph, NodeId, Op, OpSort};
 use pv_value::{IntOp, Memory, Num, ScalarOp};
 use std::alloc::Global;
 

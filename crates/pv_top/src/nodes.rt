@@ -1,10 +1,10 @@
 //! The nodes of a method's root.
 
 ghost use Rattle.std.specs.Prelude.{◌∷◌, [], IfOk};
-ghost use Rattle.pv_graph.specs.Nodes.{IsGraph};
+ghost use Rattle.pv_dag.specs.Nodes.{IsGraph};
 ghost use Rattle.pv_top.specs.Conversion.{Grows, HasOver, IsLeaf, IsInt, IsRootOver};
 
-use pv_graph::{Graph, GraphFault, NodeId, Op, OpSort};
+use pv_dag::{Graph, GraphFault, NodeId, Op, OpSort};
 use pv_value::{Memory, IntOp};
 use std::alloc::Global;
 

@@ -9,7 +9,7 @@ use crate::conversion::convert;
 use crate::reason::{Reason, Stop};
 use pv_alike::least;
 use pv_class::{ClassFile, Method};
-use pv_graph::Graph;
+use pv_dag::Graph;
 use pv_value::Memory;
 use std::alloc::Global;
 

@@ -2,7 +2,7 @@ use Rattle.std.proofs.Common.{List, ℕ, ◌≡◌, length, false, rules, subst,
 use Rattle.pv_value.specs.declared.descriptor.JType.{JType}
 use Rattle.pv_frame.specs.declared.action.Action.{Action}
 use Rattle.pv_frame.specs.Answers.{IsTyping}
-use Rattle.pv_graph.specs.Trees.{Tree}
+use Rattle.pv_dag.specs.Trees.{Tree}
 use Rattle.pv_top.specs.Built.{IsOfInts, ReturnsTree}
 use Rattle.pv_top.specs.Conversion.{IsReturned}
 use Rattle.pv_top.proofs.Meanings.{root_typed, not_built}

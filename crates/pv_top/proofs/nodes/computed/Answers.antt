@@ -1,6 +1,6 @@
 use Rattle.std.proofs.Common.{◌∷◌, [], ap, ◌∙◌, Err}
-use Rattle.pv_graph.specs.declared.node.Op.TheVariants.{Scalar}
-use Rattle.pv_graph.specs.Nodes.{node_of}
+use Rattle.pv_dag.specs.declared.node.Op.TheVariants.{Scalar}
+use Rattle.pv_dag.specs.Nodes.{node_of}
 use Rattle.pv_top.proofs.IntNodes.{grows_interned, computed_fits}
 use Rattle.pv_top.proofs.nodes.computed.Goals as goal
 

@@ -1,5 +1,5 @@
 use Rattle.std.proofs.Common.{[], ap, ◌∙◌, Err}
-use Rattle.pv_graph.specs.Nodes.{node_of}
+use Rattle.pv_dag.specs.Nodes.{node_of}
 use Rattle.pv_top.proofs.IntNodes.{grows_interned, leaf_fits}
 use Rattle.pv_top.proofs.nodes.leaf.Goals as goal
 

@@ -1,0 +1,3 @@
+pub mod SameNodes
+pub mod Adding
+mod Examples

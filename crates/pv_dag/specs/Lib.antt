@@ -1,0 +1,12 @@
+pub mod Sorts
+pub mod Nodes
+pub mod Denote
+pub mod Trees
+pub mod Elements
+pub mod TreeLaws
+pub mod Once
+pub mod Growth
+pub mod SortLaws
+pub mod Tables
+pub mod Finite
+pub mod FiniteLaws

@@ -1,0 +1,16 @@
+pub mod Values
+pub mod Indices
+pub mod Mapped
+pub mod Simulated
+pub mod Independent
+pub mod Cycles
+pub mod Typing
+pub mod Settling
+pub mod Counting
+pub mod GraphLaws
+pub mod Examples
+pub mod Depths
+pub mod Evaluating
+pub mod Alike
+pub mod Readings
+pub mod Tying

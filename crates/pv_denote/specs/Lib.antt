@@ -1,0 +1,7 @@
+pub mod Denote
+pub mod Means
+pub mod Typed
+pub mod Meaning
+pub mod Given
+pub mod Words
+pub mod Laws

@@ -11,7 +11,7 @@ use Rattle.pv_frame.specs.declared.frame.Frame.{Frame}
 use Rattle.pv_frame.specs.declared.stop.Untyped.{Untyped}
 use Rattle.pv_frame.specs.declared.stop.Untyped.TheVariants as untyped
 use Rattle.pv_frame.specs.Frames.{Flows, IsFrameAt, LeadsTo}
-use Rattle.pv_frame.specs.Inferring.{Finds, weight_of, weight, HaveLocals, Below, Follows, Clashes, merged, SameStack}
+use Rattle.pv_frame.specs.Inferring.{FoundOr, weight_of, weight, HaveLocals, Below, Follows, Clashes, merged, SameStack}
 use Rattle.pv_frame.proofs.FrameLaws.{flows_flows, some_of}
 use Rattle.pv_frame.proofs.Lists.{all_push, all_map, all_front, all_parts, equal_or_not, get_set, get_set_other, contains_first}
 use Rattle.pv_frame.proofs.Meeting.{Meets, flows_itself, merged_meets}
@@ -178,7 +178,7 @@ clashes_more frames mid work wait source places rest j a clash others within bel
     clash others (λ k f at. let inside = within k f at in let long = a.long in omega arith) (a.needed others below parts.0) (parts.1, tt)
 
 -- what is said of a frame that can't be merged is said of its edge
-pub clash_answers : {A B : Type 0} (frames : List (Option Frame)) (source : Frame) (slot : Option Frame) (j : ℕ) (e : Untyped) (P : A → Type 0) (Q : B → Type 0) → slice_get frames j ≡ Some slot → Finds (Err e) P (¬ SameStack source slot) → Finds (Err e) Q (Clashes frames source (j ∷ []))
+pub clash_answers : {A B : Type 0} (frames : List (Option Frame)) (source : Frame) (slot : Option Frame) (j : ℕ) (e : Untyped) (P : A → Type 0) (Q : B → Type 0) → slice_get frames j ≡ Some slot → FoundOr (Err e) P (¬ SameStack source slot) → FoundOr (Err e) Q (Clashes frames source (j ∷ []))
 clash_answers frames source slot j untyped.Types P Q at differ = clashes_stack frames source slot j at differ
 clash_answers frames source slot j untyped.Memory P Q at differ = tt
 
@@ -191,7 +191,7 @@ pub follows_all : (frames now : List (Option Frame)) (work left : List ℕ) (sou
 follows_all frames now work left source places i le a = subst (λ (l : List ℕ). Follows frames work source l now left) (take_all i places le) a
 
 -- some edges, and one that leads nowhere
-pub clashes_next : {A B : Type 0} (frames mid : List (Option Frame)) (work wait : List ℕ) (source : Frame) (places : List ℕ) (i : ℕ) (e : Untyped) (P : A → Type 0) (Q : B → Type 0) → i < length places → Follows frames work source (take i places) mid wait → Finds (Err e) P (Clashes mid source (get_or places i 0 ∷ [])) → Finds (Err e) Q (Clashes frames source places)
+pub clashes_next : {A B : Type 0} (frames mid : List (Option Frame)) (work wait : List ℕ) (source : Frame) (places : List ℕ) (i : ℕ) (e : Untyped) (P : A → Type 0) (Q : B → Type 0) → i < length places → Follows frames work source (take i places) mid wait → FoundOr (Err e) P (Clashes mid source (get_or places i 0 ∷ [])) → FoundOr (Err e) Q (Clashes frames source places)
 clashes_next frames mid work wait source places i untyped.Memory P Q lt a clash = tt
 clashes_next frames mid work wait source places i untyped.Types P Q lt a clash =
     let parts : take i places ++ get_or places i 0 ∷ drop (i + 1) places ≡ places = ap (λ (l : List ℕ). take i places ++ l) (sym (drop_more places i 0 lt)) ∙ take-append-drop i places in

@@ -18,8 +18,7 @@ use Rattle.pv_frame.specs.Programs.{IsAt}
 use Rattle.pv_frame.specs.Frames.{same, pushed, holds, padded_sorts, passed_to, entry_frame, frame_done, frame_after, Flows, IsFrameAt, LeadsTo, Leaves, GoesOn, IsTyped, Agrees, HasFrames, Reached, first, next, IsInferred}
 use Rattle.pv_frame.specs.declared.stop.Untyped.{Untyped}
 use Rattle.pv_frame.specs.declared.stop.Untyped.TheVariants as untyped
-use Rattle.pv_frame.specs.Inferring as Infers
-use Rattle.pv_frame.specs.Inferring.{weight, HaveLocals, Below, Within, Follows, Clashes, Inferring, Visits}
+use Rattle.pv_frame.specs.Inferring.{FoundOr, weight, HaveLocals, Below, Within, Follows, Clashes, Inferring, Visits}
 use Rattle.pv_frame.proofs.FrameLaws.{some_of, no_some, if_some, framed, goes_from}
 use Rattle.pv_frame.proofs.Inferred.{typed_goes, leads_nowhere}
 use Rattle.pv_frame.proofs.Lists.{all_map, contains_first, contains_more, contains_cases, contains_none}
@@ -276,7 +275,7 @@ action_at p frames slots work actions k a i same same_actions within is =
     let inside : k < length actions = omega (arith, i.one_each, ap length same, ap length same_actions) in
     subst (λ (l : List Action). slice_get l k ≡ Some a) same_actions (slice_get_read actions (length actions) k a refl inside is)
 
-pub start_answers : {A B : Type 0} (p : Program) (n : ℕ) (frames : List (Option Frame)) (source : Frame) (e : Untyped) (P : A → Type 0) (Q : B → Type 0) → frames ≡ replicate n None → n ≡ length p.actions → source ≡ entry_frame p → Infers.Finds (Err e) P (Clashes frames source (0 ∷ [])) → Infers.Finds (Err e) Q (¬ HasFrames p)
+pub start_answers : {A B : Type 0} (p : Program) (n : ℕ) (frames : List (Option Frame)) (source : Frame) (e : Untyped) (P : A → Type 0) (Q : B → Type 0) → frames ≡ replicate n None → n ≡ length p.actions → source ≡ entry_frame p → FoundOr (Err e) P (Clashes frames source (0 ∷ [])) → FoundOr (Err e) Q (¬ HasFrames p)
 start_answers p n frames source untyped.Memory P Q is long from clash = tt
 start_answers p n frames source untyped.Types P Q is long from clash =
     starts_not p (subst (λ (l : List (Option Frame)). Clashes l (entry_frame p) (0 ∷ [])) (is ∙ ap (λ m. replicate m None) long) (subst (λ (x : Frame). Clashes frames x (0 ∷ [])) from clash))
@@ -288,7 +287,7 @@ start_follows p n frames now none left source is long empty from f =
 
 -- what edges answer is what the visit answers
 pub visit_answers : (p : Program) (frames now : List (Option Frame)) (work left : List ℕ) (k : ℕ) (i : Inferring p frames (k ∷ work)) (f : Frame) (at : IsFrameAt frames k f) (a : Action) (here : IsAt p k a) (after : Frame) (places : List ℕ) (r : Result (Unit {0}) Untyped) → sum_by width f.stack ≤ p.max_stack → frame_after a f ≡ Some after → places ≡ successors k a
-    → Infers.Finds r (λ _. Follows frames work after places now left) (Clashes frames after places) → Infers.Finds r (λ _. Visits p frames work now left) (¬ HasFrames p)
+    → FoundOr r (λ _. Follows frames work after places now left) (Clashes frames after places) → FoundOr r (λ _. Visits p frames work now left) (¬ HasFrames p)
 visit_answers p frames now work left k i f at a here after places (Ok u) room is to follows = visits_on p frames work k i f at a here after now left room is (subst (λ (l : List ℕ). Follows frames work after l now left) to follows)
 visit_answers p frames now work left k i f at a here after places (Err untyped.Types) room is to clash = visits_not p frames work k i f at a here after is (subst (λ (l : List ℕ). Clashes frames after l) to clash)
 visit_answers p frames now work left k i f at a here after places (Err untyped.Memory) room is to clash = tt

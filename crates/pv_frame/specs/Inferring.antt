@@ -11,10 +11,10 @@ use Rattle.pv_frame.specs.Stacks.{fits}
 use Rattle.pv_frame.specs.Frames.{entry_frame, passed_to, IsFrameAt, LeadsTo, IsTyped, Agrees, Reached}
 
 -- what a call found, or that there is nothing to find, unless it ran out of memory
-abbrev pub Finds : {A : Type 0} → Result A Untyped → (A → Type 0) → Type 0 → Type 0
-Finds (Ok x) P Q = P x
-Finds (Err untyped.Types) P Q = Q
-Finds (Err untyped.Memory) P Q = Unit {0}
+abbrev pub FoundOr : {A : Type 0} → Result A Untyped → (A → Type 0) → Type 0 → Type 0
+FoundOr (Ok x) P Q = P x
+FoundOr (Err untyped.Types) P Q = Q
+FoundOr (Err untyped.Memory) P Q = Unit {0}
 
 -- ---- frames of which two know the same
 

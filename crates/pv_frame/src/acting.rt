@@ -325,7 +325,9 @@ pub(crate) fn acted(
 ) -> Result<(Vec<Use>, Vec<Action>), Refused>
     requires formed { AllByRecursion (λ p. IsFormed p.insn) code.now }
     requires references { AllByRecursion (Refers pool.now) pool.now }
-    ensures { MatchResult result (λ x. AreActing pool.now code.now x.0.items x.1.items) (λ e. OnCause e (IsFirstOf pool.now code.now)) }
+    ensures { MatchResult result
+        (λ x. AreActing pool.now code.now x.0.items x.1.items)
+        (λ e. OnCause e (IsFirstOf pool.now code.now)) }
 {
     let mut uses = Vec::new(alloc);
     let mut actions = Vec::new(alloc);

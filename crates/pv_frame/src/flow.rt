@@ -5,7 +5,7 @@ ghost use Rattle.std.specs.List.{AllZip};
 ghost use Rattle.std.specs.Option.{option_map};
 ghost use Rattle.pv_frame.specs.Effects.{takes, gives, sorts_given};
 ghost use Rattle.pv_frame.specs.Frames.{Flows, frame_done, frame_after, passed_to, entry_frame, IsEnd, Leaves};
-ghost use Rattle.pv_frame.specs.Inferring.{Finds, KnowsLess, met, merged, SameStack};
+ghost use Rattle.pv_frame.specs.Inferring.{FoundOr, KnowsLess, met, merged, SameStack};
 
 use crate::action::Action;
 use crate::effect::{gives, sort_of_type, takes};
@@ -86,7 +86,7 @@ fn framed(alloc: Global, stack: &[Sort], locals: &[Sort]) -> Result<Frame, Alloc
 
 /// The frame at a place once an edge from the source leads there, where the stacks are the same.
 pub(crate) fn merged(alloc: Global, source: &Frame, slot: &Option<Frame>) -> Result<Frame, Untyped>
-    ensures { Finds result
+    ensures { FoundOr result
         (λ f. SameStack source.now slot.now × (f ≡ merged source.now slot.now))
         (¬ SameStack source.now slot.now) }
 {
@@ -111,7 +111,8 @@ fn pushed(
     stack: &[Sort],
     locals: &[Sort],
 ) -> Result<Frame, AllocError>
-    ensures { IfOk result (λ f. f ≡ record { stack = sorts_given sort ++ stack.now; locals = locals.now }) }
+    ensures { IfOk result
+        (λ f. f ≡ record { stack = sorts_given sort ++ stack.now; locals = locals.now }) }
 {
     let mut top = Vec::new(alloc);
     if let Some(sort) = sort {
@@ -132,7 +133,8 @@ fn frame_done(
     stack: &[Sort],
     locals: &[Sort],
 ) -> Result<Option<Frame>, AllocError>
-    ensures { IfOk result (λ o. o ≡ frame_done action.now (record { stack = stack.now; locals = locals.now })) }
+    ensures { IfOk result
+        (λ o. o ≡ frame_done action.now (record { stack = stack.now; locals = locals.now })) }
 {
     match action {
         Action::Load(sort, place) if !holds(locals, *place, *sort) => Ok(None),
@@ -218,8 +220,9 @@ fn passed_to(alloc: Global, program: &Program) -> Result<Vec<Sort>, AllocError>
 /// The frame with which a method begins, where what `this` and the parameters take is within the
 /// locals.
 pub(crate) fn entry_frame(alloc: Global, program: &Program) -> Result<Frame, Untyped>
-    ensures { Finds result
-        (λ f. (length (passed_to program.now) ≤ program.now.max_locals) × (f ≡ entry_frame program.now))
+    ensures { FoundOr result
+        (λ f. (length (passed_to program.now) ≤ program.now.max_locals)
+        × (f ≡ entry_frame program.now))
         (¬ (length (passed_to program.now) ≤ program.now.max_locals)) }
 {
     let mut locals = passed_to(alloc, program)?;

@@ -65,7 +65,8 @@ fn refused_for(fault: CodeFault) -> Refused
     }
 }
 
-/// The instructions of a method of this code, its bytes and this type, with their typed frames, or the first cause.
+/// The instructions of a method of this code, its bytes and this type, with their typed frames, or
+/// the first cause.
 fn infer_method(
     alloc: Global,
     class: &ClassFile,

@@ -7,9 +7,12 @@
 //! (`specs/Stacks`, `specs/Effects`); frames are the sorts before each instruction, and agree along
 //! each edge (`specs/Frames`). `specs/Causes` has the causes in their order.
 //!
-//! This layer stands on `pv_value`, `pv_pool`, `pv_insn` and `pv_class`. The layers above use `infer`:
-//! it is Ok exactly where the method is accepted, with its program and the frames that have the
-//! fewest unknown locals, and else names the first cause and its address (`specs/Answers`).
+//! Frames are inferred from the entry along edges, place by place: `specs/Inferring` says what holds
+//! of the frames so far. It, `Acting`, `Stacking`, `Stops` and `Rows` are private to this crate.
+//!
+//! This layer stands on `pv_value`, `pv_pool`, `pv_insn` and `pv_class`. The layers above use
+//! `infer`: it is Ok exactly where the method is accepted, with its program and the frames that have
+//! the fewest unknown locals, and else names the first cause and its address (`specs/Answers`).
 #![tactic(auto)]
 
 mod acting;

@@ -2,7 +2,7 @@
 
 ghost use Rattle.std.specs.Prelude.{◌≡◌, ◌≤◌, ◌<◌, ◌^◌, [], ◌∷◌, ◌++◌, length, replicate, IfOk, None};
 ghost use Rattle.pv_frame.specs.Frames.{HasFrames, IsInferred};
-ghost use Rattle.pv_frame.specs.Inferring.{Finds, HaveLocals, Follows, Clashes, Inferring, Visits};
+ghost use Rattle.pv_frame.specs.Inferring.{FoundOr, HaveLocals, Follows, Clashes, Inferring, Visits};
 
 use crate::effect::successors;
 use crate::flow::{entry_frame, flows, frame_after, leaves, merged};
@@ -22,8 +22,9 @@ fn follow(
     place: u32,
 ) -> Result<(), Untyped>
     requires { HaveLocals (length source.now.locals) frames.old.items }
-    ensures { Finds result
-        (λ _. Follows frames.old.items work.old.items source.now (place ∷ []) frames.new.items work.new.items)
+    ensures { FoundOr result
+        (λ _. Follows frames.old.items work.old.items source.now (place ∷ [])
+        frames.new.items work.new.items)
         (Clashes frames.old.items source.now (place ∷ [])) }
 {
     let index = place as usize;
@@ -51,8 +52,9 @@ fn follow_all(
     places: &[u32],
 ) -> Result<(), Untyped>
     requires { HaveLocals (length source.now.locals) frames.old.items }
-    ensures { Finds result
-        (λ _. Follows frames.old.items work.old.items source.now places.now frames.new.items work.new.items)
+    ensures { FoundOr result
+        (λ _. Follows frames.old.items work.old.items source.now places.now
+        frames.new.items work.new.items)
         (Clashes frames.old.items source.now places.now) }
 {
     for place in places {
@@ -71,7 +73,7 @@ fn visit(
 ) -> Result<(), Untyped>
     requires inferring { Inferring program.now frames.old.items (place ∷ work.old.items) }
     requires few { length program.now.actions < 2 ^ 32 }
-    ensures { Finds result
+    ensures { FoundOr result
         (λ _. Visits program.now frames.old.items work.old.items frames.new.items work.new.items)
         (¬ HasFrames program.now) }
 {
@@ -110,7 +112,7 @@ fn no_frames(alloc: Global, count: usize) -> Result<Vec<Option<Frame>>, AllocErr
 /// once more than there are locals.
 pub(crate) fn frames_of(alloc: Global, program: &Program) -> Result<Vec<Option<Frame>>, Untyped>
     requires { length program.now.actions < 2 ^ 32 }
-    ensures { Finds result (λ v. IsInferred program.now v.items) (¬ HasFrames program.now) }
+    ensures { FoundOr result (λ v. IsInferred program.now v.items) (¬ HasFrames program.now) }
 {
     let entry = entry_frame(alloc, program)?;
     let mut frames = no_frames(alloc, program.actions.as_slice().len())?;

@@ -33,7 +33,8 @@ pub(crate) fn is_wide(sort: Sort) -> bool
 /// The stack below operands of these sorts, of which the last lies on top, `None` where they don't
 /// lie there.
 pub(crate) fn below<'a>(sorts: &[Sort], stack: &'a [Sort]) -> Option<&'a [Sort]>
-    ensures { option_map (λ rest. rest.now) result ≡ option_map (λ q. q.1) (popped same sorts.now stack.now) }
+    ensures { option_map (λ rest. rest.now) result
+        ≡ option_map (λ q. q.1) (popped same sorts.now stack.now) }
 {
     let mut asked = sorts;
     let mut rest = stack;
@@ -137,7 +138,8 @@ fn copied(
     under: Part,
     stack: &[Sort],
 ) -> Result<Option<Vec<Sort>>, AllocError>
-    ensures { IfOk result (λ o. option_map (λ v. v.items) o ≡ copied (taken_by above) (taken_by under) stack.now) }
+    ensures { IfOk result
+        (λ o. option_map (λ v. v.items) o ≡ copied (taken_by above) (taken_by under) stack.now) }
 {
     let Some((top, below)) = taken(above, stack) else {
         return Ok(None);
@@ -150,7 +152,8 @@ fn copied(
 
 /// The stack with its two topmost values of category 1 exchanged.
 fn exchanged(alloc: Global, stack: &[Sort]) -> Result<Option<Vec<Sort>>, AllocError>
-    ensures { IfOk result (λ o. option_map (λ v. v.items) o ≡ exchanged (one same) (one same) stack.now) }
+    ensures { IfOk result
+        (λ o. option_map (λ v. v.items) o ≡ exchanged (one same) (one same) stack.now) }
 {
     let Some((top, below)) = one(stack) else {
         return Ok(None);

@@ -24,7 +24,7 @@ way_append s r l _ _ c (edge a b e ca cb) w = more a b c e ca w
 way_append s r l _ _ c (more a m b e ca v) w = more a m c e ca (way_append s r l m b c v w)
 
 -- the last edge of a way
-way_last : (s : List (List ℕ)) (r : Region) (l : List ℕ) (a b : ℕ) → Way s r l a b → (w : ℕ) × EdgeOf s r w b × Contains l w
+pub way_last : (s : List (List ℕ)) (r : Region) (l : List ℕ) (a b : ℕ) → Way s r l a b → (w : ℕ) × EdgeOf s r w b × Contains l w
 way_last s r l _ _ (edge a b e ca cb) = (a, e, ca)
 way_last s r l _ _ (more a m b e ca v) = way_last s r l m b v
 

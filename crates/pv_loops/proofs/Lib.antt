@@ -8,3 +8,4 @@ mod Sweeping
 mod Sticking
 mod Bodies
 mod Orders
+mod Examples

@@ -4,7 +4,7 @@ pub mod Runs
 pub mod IntNodes
 pub mod Lays
 pub mod Meanings
-pub mod Partners
+pub mod Likenesses
 pub mod SameRoots
 pub mod Shown
 pub mod SoFar

@@ -11,3 +11,4 @@ pub mod Run
 pub mod Fetching
 pub mod Conversion
 pub mod Laws
+pub mod Partnering

@@ -16,6 +16,7 @@ mod laying;
 mod line;
 mod nodes;
 mod operands;
+mod partners;
 mod reason;
 mod report;
 mod status;

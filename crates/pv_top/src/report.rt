@@ -5,6 +5,7 @@ ghost use Rattle.pv_top.specs.Lines.{bad_class};
 ghost use Rattle.pv_top.specs.Judging.{IsRead, ReadsFetched, JudgesFetched, Compares};
 
 use crate::line::{push_bad_class, push_line};
+use crate::partners::Partners;
 use crate::status::Status;
 use crate::verdict::{Side, Verdict, verdict_on};
 use pv_class::{ClassFault, ClassFile, read_class};
@@ -73,9 +74,10 @@ fn compare(
 {
     let mut text = Vec::new(alloc);
     let mut all_equivalent = true;
+    let partners = Partners::new(alloc, second.methods.as_slice())?;
     let methods = first.methods.as_slice();
     for place in 0..methods.len() {
-        let verdict = verdict_on(alloc, first, place, second)?;
+        let verdict = verdict_on(alloc, first, place, second, &partners)?;
         push_line(alloc, &mut text, &methods[place], verdict)?;
         if !is_equivalent(verdict) {
             all_equivalent = false;

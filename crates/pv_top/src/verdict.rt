@@ -1,19 +1,19 @@
 //! What is said of a method.
 
-ghost use Rattle.std.specs.Prelude.{◌≡◌, ◌↔◌, ◌<◌, length, slice_get, Some, IfOk, IsTrue, MatchOption};
+ghost use Rattle.std.specs.Prelude.{◌≡◌, ◌↔◌, ◌<◌, length, slice_get, Some, IfOk, IsTrue};
 ghost use Rattle.pv_class.specs.declared.file.Method.{Method};
-ghost use Rattle.pv_top.specs.Verdicts.{HasCode, IsPartner, IsLike};
-ghost use Rattle.pv_top.specs.Judging.{IsRead, IsVerdictAt, IsVerdictOnPlaces, IsLikeAt};
+ghost use Rattle.pv_top.specs.Verdicts.{HasCode};
+ghost use Rattle.pv_top.specs.Judging.{IsRead, IsVerdictAt, IsVerdictOnPlaces};
+ghost use Rattle.pv_top.specs.Partnering.{IsIndexOf};
 
 use crate::conversion::convert;
+use crate::partners::{Partners, partner_of};
 use crate::reason::{Reason, Stop};
 use pv_alike::least;
-use pv_class::{ClassFile, Method};
+use pv_class::ClassFile;
 use pv_dag::Graph;
 use pv_value::Memory;
 use std::alloc::Global;
-
-const ACC_STATIC: u16 = 0x0008;
 
 /// One of the two files.
 #[derive(Clone, Copy, Debug, PartialEq, Eq)]
@@ -43,37 +43,19 @@ pub(crate) fn verdict_on(
     first: &ClassFile,
     method: usize,
     second: &ClassFile,
+    partners: &Partners,
 ) -> Result<Verdict, Memory>
     requires first { IsRead first.now }
     requires second { IsRead second.now }
     requires there { method < length first.now.methods }
+    requires partners { IsIndexOf second.now.methods (length second.now.methods) partners.now.places.entries }
     ensures { IfOk result (λ verdict. IsVerdictAt first.now method second.now verdict) }
 {
     let one = &first.methods.as_slice()[method];
-    match partner_of(one, second.methods.as_slice()) {
+    match partner_of(one, second.methods.as_slice(), partners)? {
         None => Ok(Verdict::Missing),
         Some(partner) => verdict_with(alloc, first, method, second, partner),
     }
-}
-
-// The place of the method of the others with the name, the descriptor and the kind of this one.
-fn partner_of(method: &Method, others: &[Method]) -> Option<usize>
-    ensures { MatchOption result ((p : Method) → IsPartner method.now others.now p → ⊥) (λ k. IsLikeAt method.now others.now k) }
-{
-    for k in 0..others.len() {
-        if is_like(method, &others[k]) {
-            return Some(k);
-        }
-    }
-    None
-}
-
-fn is_like(method: &Method, other: &Method) -> bool
-    ensures { IsTrue result ↔ IsLike method.now other.now }
-{
-    other.name == method.name
-        && other.desc == method.desc
-        && (other.flags & ACC_STATIC == 0) == (method.flags & ACC_STATIC == 0)
 }
 
 // Whether the method at a place has a code.

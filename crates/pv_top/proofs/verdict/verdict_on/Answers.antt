@@ -2,7 +2,7 @@ use Rattle.std.proofs.Common.{List, length, ◌≡◌, ◌<◌, ◌∙◌, subst
 use Rattle.pv_class.specs.declared.file.Method.{Method}
 use Rattle.pv_top.specs.Judging.{IsLikeAt}
 use Rattle.pv_top.proofs.Places.{here_again}
-use Rattle.pv_top.proofs.Partners.{verdict_at}
+use Rattle.pv_top.proofs.Likenesses.{verdict_at}
 use Rattle.pv_top.proofs.verdict.verdict_on.Goals as goal
 
 pub returns-in-Some : goal.returns-in-Some

@@ -1,7 +1,6 @@
 -- The value of a node of a sealed graph depends on the iterations of depths 1 to 16 alone.
-use Rattle.std.specs.Prelude.{◌≡◌, ℕ, zero, suc, ◌+◌, ◌<◌, ◌≤◌, ◌^◌, Bool, true, false, List, [], ◌∷◌, length, Option, Some, None, if◌then◌else◌, refl}
+use Rattle.std.specs.Prelude.{◌≡◌, ℕ, zero, suc, ◌<◌, ◌≤◌, ◌^◌, false, List, [], ◌∷◌, length, Option, Some, None, if◌then◌else◌, refl}
 use Rattle.std.proofs.Common.{sym, ap, ◌∙◌, subst, arith, get_or, lit<}
-use Rattle.pv_value.specs.Spelled.{bind}
 use Rattle.pv_value.specs.declared.world.World.{World}
 use Rattle.pv_value.specs.declared.heap.Heap.{Heap}
 use Rattle.pv_value.specs.declared.outcome.Input.{Input}
@@ -13,7 +12,7 @@ use Rattle.pv_graph.specs.Ops.{Shape, plain, choice, theta, eval, pass, shift, r
 use Rattle.pv_graph.specs.Forms.{Form, form}
 use Rattle.pv_graph.specs.Graphs.{Graph, form_at, IsGraph}
 use Rattle.pv_graph.proofs.NodeLaws.{bind_some, node_at}
-use Rattle.pv_denote.specs.Denote.{Index, at_depth, values, truth, looked, count_of, unit_of, fault_of, heap_of, result_of, by_iteration, ending, shaped, formed, den, looks}
+use Rattle.pv_denote.specs.Denote.{Index, at_depth, truth, count_of, unit_of, fault_of, heap_of, by_iteration, ending, shaped, formed, den, looks}
 use Rattle.pv_denote.specs.Meaning.{index_of, AreSmall}
 use Rattle.pv_denote.specs.Given.{MayEvaluate}
 use Rattle.pv_denote.proofs.Values.{IsKept, bind_kept, values_kept, looked_kept}

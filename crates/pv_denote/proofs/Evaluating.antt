@@ -1,5 +1,5 @@
 -- The evaluation of nodes: what it requires is kept, and each shape gives what it means.
-use Rattle.std.specs.Prelude.{◌≡◌, ◌≢◌, ◌⊎◌, ℕ, zero, suc, ◌+◌, ◌-◌, ◌<◌, ◌≤◌, ◌^◌, Bool, true, false, ◌&&◌, nat_le, List, [], ◌∷◌, length, Option, Some, None, Result, Ok, Err, slice_get, ◌==◌, if◌then◌else◌, refl}
+use Rattle.std.specs.Prelude.{◌≡◌, ◌≢◌, ℕ, zero, suc, ◌+◌, ◌-◌, ◌<◌, ◌≤◌, ◌^◌, Bool, true, false, List, [], ◌∷◌, length, Option, Some, None, Result, slice_get, ◌==◌, if◌then◌else◌, refl}
 use Rattle.std.specs.List.{AllByRecursion}
 use Rattle.std.proofs.Common.{inl, inr, sym, ap, ◌∙◌, subst, arith, get_or}
 use Rattle.std.proofs.lemmas.Bool.Decides.{nat_tests}
@@ -15,13 +15,12 @@ use Rattle.pv_graph.specs.declared.node.Op.TheVariants as op
 use Rattle.pv_graph.specs.declared.node.OpSort.{OpSort}
 use Rattle.pv_graph.specs.declared.node.OpSort.TheVariants.{I, N}
 use Rattle.pv_graph.specs.declared.node.Node.{Node}
-use Rattle.pv_graph.specs.Ops.{Shape, plain, shape, is_depth, alike, eval_sort, shift_sort, exactly, sort_over}
+use Rattle.pv_graph.specs.Ops.{plain, shape, is_depth, alike, eval_sort, shift_sort, exactly, sort_over}
 use Rattle.pv_graph.specs.Forms.{Form}
 use Rattle.pv_graph.specs.Walks.{In}
-use Rattle.pv_graph.specs.Graphs.{Graph, form_of, form_at, IsGraph}
+use Rattle.pv_graph.specs.Graphs.{Graph, form_at, IsGraph}
 use Rattle.pv_graph.proofs.NodeLaws.{bind_some, form_there, kid_within, sort_there, tied}
-use Rattle.pv_graph.proofs.Sorting.{if_some}
-use Rattle.pv_denote.specs.Denote.{Index, at_depth, values, truth, looked, count_of, by_iteration, shaped, formed, den, looks}
+use Rattle.pv_denote.specs.Denote.{Index, at_depth, values, truth, looked, count_of, by_iteration, formed, den, looks}
 use Rattle.pv_denote.specs.Given.{Gives, Stops, MayEvaluate, IsSmall, over_kids, value_of}
 use Rattle.pv_denote.specs.declared.setting.Setting.{Setting}
 use Rattle.pv_denote.specs.declared.stop.Stop.{Stop}

@@ -1,5 +1,4 @@
-use Rattle.std.proofs.Common.{ap, sym, ◌∙◌, Some}
-use Rattle.pv_value.specs.declared.outcome.Val.TheVariants as val
+use Rattle.std.proofs.Common.{sym, ◌∙◌}
 use Rattle.pv_graph.specs.Graphs.{form_at}
 use Rattle.pv_denote.specs.Meaning.{index_of}
 use Rattle.pv_denote.proofs.Counting.{count_low}

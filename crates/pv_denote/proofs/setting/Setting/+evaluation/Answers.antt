@@ -1,4 +1,4 @@
-use Rattle.std.specs.Prelude.{◌≡◌, ℕ, suc, ◌+◌, ◌-◌, ◌<◌, ◌≤◌, ◌^◌, Some, refl}
+use Rattle.std.specs.Prelude.{ℕ, ◌-◌, Some, refl}
 use Rattle.std.proofs.Common.{sym, ap, ◌∙◌, subst, arith, rules, get_or}
 use Rattle.std.specs.List.{AllByRecursion}
 use Rattle.std.proofs.lemmas.List.{drop_all}
@@ -6,7 +6,7 @@ use Rattle.pv_graph.specs.declared.node.Op.TheVariants as op
 use Rattle.pv_graph.specs.Graphs.{form_at}
 use Rattle.pv_denote.specs.Denote.{values}
 use Rattle.pv_denote.specs.Meaning.{index_of}
-use Rattle.pv_denote.specs.Given.{Gives, Stops, IsSmall, value_of}
+use Rattle.pv_denote.specs.Given.{Stops, IsSmall, value_of}
 use Rattle.pv_denote.proofs.Evaluating.{may_kid, may_kids, depths, den_none, value_gives, plain_shape, each_value, kid_is, values_small, counted, theta_gives, eval_gives, shift_gives, pass_looks, look_yes, look_next, look_stops, truth_stops, look_none}
 use Rattle.pv_denote.proofs.Readings.{rest_init, rest_step, rest_stop, rest_end}
 use Rattle.pv_denote.proofs.setting.Setting.+evaluation.Goals as goal

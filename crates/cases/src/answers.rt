@@ -8,7 +8,7 @@ use std::fmt;
 pub type Answer = Result<String, NoAnswer>;
 
 /// Why a line has no answer: it can't be read, or memory ran out.
-#[derive(Clone, Copy, Debug, PartialEq, Eq)]
+#[derive(Clone, Copy)]
 pub enum NoAnswer {
     Unreadable,
     Memory,
@@ -32,9 +32,14 @@ impl From<Memory> for NoAnswer {
     }
 }
 
-/// The text of anything that has one.
-pub fn said<T: fmt::Display + Drop>(alloc: Global, item: T) -> Answer {
-    Ok(format!(in alloc; "{item}")?)
+/// A text as the answer.
+pub fn said(alloc: Global, text: &str) -> Answer {
+    Ok(String::from_str(alloc, text)?)
+}
+
+/// A value as the answer.
+pub fn shown<T: fmt::Debug + Drop>(alloc: Global, value: T) -> Answer {
+    Ok(format!(in alloc; "{value:?}")?)
 }
 
 /// Texts with `; ` between them.

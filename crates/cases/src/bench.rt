@@ -131,6 +131,16 @@ where
     }
 }
 
+/// What a word names in a table.
+pub fn named<T: Copy>(table: &[(&str, T)], word: &str) -> Result<T, NoAnswer> {
+    for (name, item) in table {
+        if *name == word {
+            return Ok(*item);
+        }
+    }
+    Err(NoAnswer::Unreadable)
+}
+
 // A number, or another where nothing stands.
 fn number_or(word: &str, other: usize) -> Result<usize, NoAnswer> {
     if word.is_empty() {

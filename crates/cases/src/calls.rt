@@ -3,7 +3,7 @@
 use crate::answers::{Answer, NoAnswer};
 use crate::bench::Bench;
 use crate::pools::Asked;
-use crate::{classes, codes, graphs, machine, outside, pools, runs, values};
+use crate::{classes, codes, frames, graphs, machine, outside, pools, runs, values};
 use std::rt::Files;
 use std::thread::Threads;
 
@@ -31,8 +31,8 @@ pub fn answer<R: Files + Threads + Sync>(rt: &R, bench: &Bench, line: &str) -> A
         "pool-member" => pools::under(bench, Asked::Member, rest),
 
         "class" => classes::class(bench, rest),
-        "frames" => classes::frames(bench, false, rest),
-        "frames-this" => classes::frames(bench, true, rest),
+
+        "frames" => frames::frames(bench, rest),
 
         "decode" => codes::decoding(bench, rest),
         "count" => codes::count(bench, rest),

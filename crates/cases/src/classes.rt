@@ -2,15 +2,15 @@
 //!
 //! | Line | Answer |
 //! |---|---|
-//! | `class BYTES` | how many indices the constant pool has, and each method: its name, descriptor and flags in hexadecimal, its code, max_stack, max_locals and number of handlers; or the fault and its place |
-//! | `frames DESCRIPTOR CODE STACK LOCALS` | whether a static method with this code, max_stack and max_locals is `typed` or `untyped`; `none` where the descriptor or the code is none |
-//! | `frames-this DESCRIPTOR CODE STACK LOCALS` | the same of a method with `this` |
+//! | `class BYTES` | how many indices the constant pool has, and each method: its name, descriptor and flags in hexadecimal, its code, max_stack, max_locals and number of handlers; or the fault |
 
-use crate::answers::{Answer, List, NoAnswer, said};
-use crate::bench::{Bench, number, words};
+ghost use Rattle.std.specs.Prelude.{IfOk};
+ghost use Rattle.pv_frame.specs.Answers.{HasCode, HasReferences};
+
+use crate::answers::{Answer, List, NoAnswer, shown};
+use crate::bench::Bench;
 use crate::values::escaped;
-use pv_class::{ClassCause, ClassFault, ClassFile, Method, has_frames, instructions, read_class};
-use pv_value::read_descriptor;
+use pv_class::{ClassFault, ClassFile, Method, read_class};
 use std::alloc::Global;
 
 /// `class BYTES`
@@ -38,52 +38,32 @@ fn method_text(alloc: Global, method: &Method) -> Answer {
     let Some(code) = &method.code else {
         return Ok(format!(in alloc; "{name} {desc} {flags:04X} no code")?);
     };
-    let bytes = hex::encode_upper(alloc, code.bytes.bytes())?;
+    let bytes = hex::encode_upper(alloc, code.bytes.as_slice())?;
     let (stack, locals, handlers) = (code.max_stack, code.max_locals, code.handlers);
     Ok(format!(in alloc; "{name} {desc} {flags:04X} {bytes} {stack} {locals} {handlers}")?)
 }
 
-/// A fault and its place.
+/// A fault, with its place.
 pub fn fault_text(alloc: Global, fault: ClassFault) -> Answer {
-    let ClassFault::Bad(bad) = fault else {
-        return Err(NoAnswer::Memory);
-    };
-    let (cause, at) = (cause_word(bad.cause), bad.at);
-    Ok(format!(in alloc; "{cause} at {at}")?)
-}
-
-fn cause_word(cause: ClassCause) -> &'static str {
-    match cause {
-        ClassCause::Truncated => "truncated",
-        ClassCause::Magic => "magic",
-        ClassCause::Version => "version",
-        ClassCause::PoolTag => "pool-tag",
-        ClassCause::PoolUtf8 => "pool-utf8",
-        ClassCause::PoolReference => "pool-reference",
-        ClassCause::Descriptor => "descriptor",
-        ClassCause::Code => "code",
-        ClassCause::Duplicate => "duplicate",
-        ClassCause::Trailing => "trailing",
-        ClassCause::TooLong => "too-long",
+    match fault {
+        ClassFault::Memory => Err(NoAnswer::Memory),
+        _ => shown(alloc, fault),
     }
 }
 
-/// `frames DESCRIPTOR CODE STACK LOCALS`, with or without `this`
-pub fn frames(bench: &Bench, instance: bool, rest: &str) -> Answer {
-    let alloc = bench.alloc();
-    let words = words(alloc, rest)?;
-    let [desc, code, stack, locals] = *words.as_slice() else {
+/// The class file that these bytes are, whose first method has a code.
+pub fn with_code(alloc: Global, bytes: &[u8]) -> Result<ClassFile, NoAnswer>
+    ensures code { IfOk result (λ file. HasCode file 0) }
+    ensures references { IfOk result (λ file. HasReferences file) }
+{
+    let class = match read_class(alloc, bytes) {
+        Ok(class) => class,
+        Err(ClassFault::Memory) => return Err(NoAnswer::Memory),
+        Err(_) => return Err(NoAnswer::Unreadable),
+    };
+    let methods = class.methods.as_slice();
+    if methods.is_empty() || methods[0].code.is_none() {
         return Err(NoAnswer::Unreadable);
-    };
-    let desc = read_descriptor(alloc, &bench.bytes(desc)?)?;
-    let insns = instructions(alloc, &bench.bytes(code)?)?;
-    let (Some(desc), Some(insns)) = (desc, insns) else {
-        return said(alloc, "none");
-    };
-    let (stack, locals) = (number(stack)?, number(locals)?);
-    if has_frames(alloc, insns.as_slice(), &desc, instance, stack, locals)? {
-        said(alloc, "typed")
-    } else {
-        said(alloc, "untyped")
     }
+    Ok(class)
 }

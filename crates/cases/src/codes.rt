@@ -2,24 +2,23 @@
 //!
 //! | Line | Answer |
 //! |---|---|
-//! | `decode CODE` | the instructions, each after its address; or the fault and the address of its instruction |
+//! | `decode CODE` | the instructions, each after its address; or the fault |
 //! | `count CODE` | how many instructions there are |
 //! | `respell CODE` | the bytes that the decoded instructions spell |
 //! | `spell CODE ADDRESS INSTRUCTION` | the bytes that this one instruction spells, in a code with these bytes |
 //! | `respell-file PATH` | decodes the code of each method of a class file, spells it back and compares: how many methods and bytes, or the first method that fails and what is wrong |
 //!
 //! An INSTRUCTION is its form and its numbers: `plain 4`, `push 16 -128`, `local 21 255`, `iinc 1 -1`,
-//! `pool 18 255`, `branch 167 0`, `table 2 7: 0 1` (the default, the lowest number, the targets),
-//! `lookup 1: -1 to 1, 0 to 0`, `refused 23`. A target is a place in the list of instructions.
+//! `pool 18 255`, `branch 167 0`, `refused 23`. A target is a place in the list of instructions.
 
-use crate::answers::{Answer, List, NoAnswer, said};
+use crate::answers::{Answer, List, NoAnswer, shown};
 use crate::bench::{Bench, number, words};
 use crate::classes;
-use crate::spelling::{SpellFault, spelled};
+use crate::spelling::spelled;
 use crate::values::escaped;
-use pv_base::{FileFault, Files, HostFiles};
+use pv_base::{Files, HostFiles};
 use pv_class::{Method, read_class};
-use pv_insn::{Case, CodeFault, Insn, Insns, Placed, decode};
+use pv_insn::{CodeFault, Insn, Insns, Placed, decode};
 use std::alloc::Global;
 use std::rt;
 
@@ -31,10 +30,7 @@ fn decoded(alloc: Global, code: &[u8]) -> Result<Result<Insns, CodeFault>, NoAns
     if u32::try_from(code.len()).is_err() {
         return Err(NoAnswer::Unreadable);
     }
-    match decode(alloc, code) {
-        Err(CodeFault::Memory) => Err(NoAnswer::Memory),
-        answer => Ok(answer),
-    }
+    Ok(decode(alloc, code))
 }
 
 /// `decode CODE`
@@ -42,13 +38,12 @@ pub fn decoding(bench: &Bench, rest: &str) -> Answer {
     let alloc = bench.alloc();
     let insns = match decoded(alloc, &bench.bytes(rest)?)? {
         Ok(insns) => insns,
-        Err(fault) => return fault_text(alloc, fault),
+        Err(fault) => return shown(alloc, fault),
     };
     let mut list = List::new(alloc);
     for placed in insns.as_slice() {
-        let at = placed.at;
-        let insn = insn_text(alloc, &placed.insn)?;
-        list.add(format!(in alloc; "{at} {insn}")?.as_str())?;
+        let (at, insn) = (placed.at, &placed.insn);
+        list.add(format!(in alloc; "{at} {insn:?}")?.as_str())?;
     }
     list.into_text()
 }
@@ -56,55 +51,9 @@ pub fn decoding(bench: &Bench, rest: &str) -> Answer {
 /// `count CODE`
 pub fn count(bench: &Bench, rest: &str) -> Answer {
     match decoded(bench.alloc(), &bench.bytes(rest)?)? {
-        Ok(insns) => said(bench.alloc(), insns.as_slice().len()),
-        Err(fault) => fault_text(bench.alloc(), fault),
+        Ok(insns) => shown(bench.alloc(), insns.as_slice().len()),
+        Err(fault) => shown(bench.alloc(), fault),
     }
-}
-
-fn fault_text(alloc: Global, fault: CodeFault) -> Answer {
-    let text = match fault {
-        CodeFault::Truncated(at) => format!(in alloc; "truncated at {at}"),
-        CodeFault::Opcode(at) => format!(in alloc; "opcode at {at}"),
-        CodeFault::Target(at) => format!(in alloc; "target at {at}"),
-        CodeFault::Switch(at) => format!(in alloc; "switch at {at}"),
-        CodeFault::Memory => return Err(NoAnswer::Memory),
-    };
-    Ok(text?)
-}
-
-fn insn_text(alloc: Global, insn: &Insn) -> Answer {
-    let text = match insn {
-        Insn::Plain(opcode) => format!(in alloc; "plain {opcode}"),
-        Insn::Push(opcode, number) => format!(in alloc; "push {opcode} {number}"),
-        Insn::Local(opcode, local) => format!(in alloc; "local {opcode} {local}"),
-        Insn::Iinc(local, by) => format!(in alloc; "iinc {local} {by}"),
-        Insn::Pool(opcode, index) => format!(in alloc; "pool {opcode} {index}"),
-        Insn::Branch(opcode, target) => format!(in alloc; "branch {opcode} {target}"),
-        Insn::Table(default, low, targets) => {
-            return table_text(alloc, *default, *low, targets.as_slice());
-        }
-        Insn::Lookup(default, cases) => return lookup_text(alloc, *default, cases.as_slice()),
-        Insn::Refused(opcode) => format!(in alloc; "refused {opcode}"),
-    };
-    Ok(text?)
-}
-
-fn table_text(alloc: Global, default: u32, low: i32, targets: &[u32]) -> Answer {
-    let mut text = format!(in alloc; "table {default} {low}:")?;
-    for target in targets {
-        text.push_str(format!(in alloc; " {target}")?.as_str())?;
-    }
-    Ok(text)
-}
-
-fn lookup_text(alloc: Global, default: u32, cases: &[Case]) -> Answer {
-    let mut text = format!(in alloc; "lookup {default}:")?;
-    for (k, case) in cases.iter().enumerate() {
-        let comma = if k == 0 { "" } else { "," };
-        let (key, target) = (case.key, case.target);
-        text.push_str(format!(in alloc; "{comma} {key} to {target}")?.as_str())?;
-    }
-    Ok(text)
 }
 
 /// `respell CODE`
@@ -112,7 +61,7 @@ pub fn respelling(bench: &Bench, rest: &str) -> Answer {
     let code = bench.bytes(rest)?;
     match decoded(bench.alloc(), &code)? {
         Ok(insns) => spelling(bench.alloc(), &code, insns.as_slice()),
-        Err(fault) => fault_text(bench.alloc(), fault),
+        Err(fault) => shown(bench.alloc(), fault),
     }
 }
 
@@ -146,27 +95,15 @@ fn read_insn(words: &[&str]) -> Result<Insn, NoAnswer> {
 fn spelling(alloc: Global, code: &[u8], placed: &[Placed]) -> Answer {
     match spelled(alloc, code, placed) {
         Ok(bytes) => Ok(hex::encode_upper(alloc, bytes.as_slice())?),
-        Err(fault) => spell_fault_text(alloc, fault),
+        Err(fault) => shown(alloc, fault),
     }
-}
-
-fn spell_fault_text(alloc: Global, fault: SpellFault) -> Answer {
-    let text = match fault {
-        SpellFault::Misplaced(at) => format!(in alloc; "misplaced at {at}"),
-        SpellFault::Target(at) => format!(in alloc; "no offset at {at}"),
-        SpellFault::Switch(at) => format!(in alloc; "no numbers at {at}"),
-        SpellFault::Memory => return Err(NoAnswer::Memory),
-    };
-    Ok(text?)
 }
 
 /// `respell-file PATH`
 pub fn respelling_file<R: rt::Files>(rt: &R, alloc: Global, path: &str) -> Answer {
     let bytes = match HostFiles::new(rt).fetch(alloc, path, LONGEST_FILE) {
         Ok(bytes) => bytes,
-        Err(FileFault::Failed) => return said(alloc, "no file"),
-        Err(FileFault::TooLong) => return said(alloc, "too long"),
-        Err(FileFault::Memory) => return Err(NoAnswer::Memory),
+        Err(fault) => return shown(alloc, fault),
     };
     match read_class(alloc, &bytes) {
         Ok(class) => respelling_methods(alloc, class.methods.as_slice()),
@@ -181,7 +118,7 @@ fn respelling_methods(alloc: Global, methods: &[Method]) -> Answer {
         let Some(code) = &method.code else {
             continue;
         };
-        let code = code.bytes.bytes();
+        let code = code.bytes.as_slice();
         if let Some(wrong) = wrong_spelling(alloc, code)? {
             let name = escaped(alloc, method.name.bytes())?;
             let desc = escaped(alloc, method.desc.bytes())?;
@@ -197,11 +134,11 @@ fn respelling_methods(alloc: Global, methods: &[Method]) -> Answer {
 fn wrong_spelling(alloc: Global, code: &[u8]) -> Result<Option<String>, NoAnswer> {
     let insns = match decoded(alloc, code)? {
         Ok(insns) => insns,
-        Err(fault) => return Ok(Some(fault_text(alloc, fault)?)),
+        Err(fault) => return Ok(Some(shown(alloc, fault)?)),
     };
     let bytes = match spelled(alloc, code, insns.as_slice()) {
         Ok(bytes) => bytes,
-        Err(fault) => return Ok(Some(spell_fault_text(alloc, fault)?)),
+        Err(fault) => return Ok(Some(shown(alloc, fault)?)),
     };
     match first_difference(&bytes, code) {
         Some(at) => Ok(Some(format!(in alloc; "differs at {at}")?)),

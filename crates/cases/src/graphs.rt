@@ -4,22 +4,44 @@
 //!
 //! | Step | Answer |
 //! |---|---|
-//! | `OPERATION KID ..` | the number of the node, or `sort` where the kids don't fit |
+//! | `OPERATION KID ..` | the number of the node, or the fault |
 //! | `node NUMBER` | the operation and the kids of a node |
-//! | `count` | how many nodes there are, and `empty` if there are none |
+//! | `count` | how many nodes there are, and whether there are none |
 //! | `least FIRST SECOND` | the nodes of the least graph of two nodes, and the numbers of its roots |
 //!
 //! An OPERATION is `int 5`, `long 5`, `null`, `param 0 I` (the first argument, of sort I), `heap0`,
-//! `unit`, `clear`, `root`, or a scalar operation. A sort is its letter. A kid or a number that the graph
+//! `unit`, `clear`, `root`, `iadd`, `isub` or `imul`. A sort is its letter. A kid or a number that the graph
 //! doesn't have can't be read.
 
-use crate::answers::{Answer, List, NoAnswer, said};
-use crate::bench::{Bench, number, words};
-use crate::values::read_operation;
+use crate::answers::{Answer, List, NoAnswer, shown};
+use crate::bench::{Bench, named, number, words};
 use pv_alike::{Least, least};
-use pv_dag::{Graph, GraphFault, Node, NodeId, Op, OpSort};
-use pv_value::ScalarOp;
+use pv_dag::{Graph, Node, NodeId, Op, OpSort};
+use pv_value::IntOp;
 use std::alloc::Global;
+
+const SORTS: [(&str, OpSort); 8] = [
+    ("I", OpSort::I),
+    ("L", OpSort::L),
+    ("A", OpSort::A),
+    ("N", OpSort::N),
+    ("F", OpSort::F),
+    ("T", OpSort::T),
+    ("H", OpSort::H),
+    ("R", OpSort::R),
+];
+
+// The operations that take no word but their name.
+const PLAIN: [(&str, Op); 8] = [
+    ("iadd", Op::Scalar(IntOp::Iadd)),
+    ("isub", Op::Scalar(IntOp::Isub)),
+    ("imul", Op::Scalar(IntOp::Imul)),
+    ("null", Op::Null),
+    ("heap0", Op::Heap0),
+    ("unit", Op::Unit),
+    ("clear", Op::Clear),
+    ("root", Op::Root),
+];
 
 /// `graph STEP; ..`
 pub fn graph(bench: &Bench, rest: &str) -> Answer {
@@ -35,18 +57,11 @@ pub fn graph(bench: &Bench, rest: &str) -> Answer {
 
 fn graph_step(alloc: Global, graph: &mut Graph, words: &[&str]) -> Answer {
     match *words {
-        ["count"] => count(alloc, graph),
+        ["count"] => shown(alloc, (graph.len(), graph.is_empty())),
         ["node", n] => node(alloc, graph, number(n)?),
         ["least", first, second] => least_text(alloc, graph, number(first)?, number(second)?),
         _ => add(alloc, graph, words),
     }
-}
-
-fn count(alloc: Global, graph: &Graph) -> Answer {
-    if graph.is_empty() {
-        return said(alloc, "0 empty");
-    }
-    said(alloc, graph.len())
 }
 
 fn node(alloc: Global, graph: &Graph, n: NodeId) -> Answer {
@@ -64,9 +79,8 @@ fn add(alloc: Global, graph: &mut Graph, words: &[&str]) -> Answer {
         return Err(NoAnswer::Unreadable);
     }
     match graph.add(alloc, op, &kids) {
-        Ok(n) => said(alloc, n),
-        Err(GraphFault::Sort) => said(alloc, "sort"),
-        Err(GraphFault::Memory) => Err(NoAnswer::Memory),
+        Ok(n) => shown(alloc, n),
+        Err(fault) => shown(alloc, fault),
     }
 }
 
@@ -75,13 +89,8 @@ fn read_op<'a>(words: &'a [&'a str]) -> Result<(Op, &'a [&'a str]), NoAnswer> {
     match words {
         ["int", n, kids @ ..] => Ok((Op::Int(number(n)?), kids)),
         ["long", n, kids @ ..] => Ok((Op::Long(number(n)?), kids)),
-        ["null", kids @ ..] => Ok((Op::Null, kids)),
-        ["param", n, sort, kids @ ..] => Ok((Op::Param(number(n)?, read_sort(sort)?), kids)),
-        ["heap0", kids @ ..] => Ok((Op::Heap0, kids)),
-        ["unit", kids @ ..] => Ok((Op::Unit, kids)),
-        ["clear", kids @ ..] => Ok((Op::Clear, kids)),
-        ["root", kids @ ..] => Ok((Op::Root, kids)),
-        [op, kids @ ..] => Ok((Op::Scalar(read_operation(op)?), kids)),
+        ["param", n, sort, kids @ ..] => Ok((Op::Param(number(n)?, named(&SORTS, sort)?), kids)),
+        [op, kids @ ..] => Ok((named(&PLAIN, op)?, kids)),
         [] => Err(NoAnswer::Unreadable),
     }
 }
@@ -94,50 +103,10 @@ fn read_kids(alloc: Global, words: &[&str]) -> Result<Vec<NodeId>, NoAnswer> {
     Ok(kids)
 }
 
-fn read_sort(word: &str) -> Result<OpSort, NoAnswer> {
-    match word {
-        "I" => Ok(OpSort::I),
-        "L" => Ok(OpSort::L),
-        "A" => Ok(OpSort::A),
-        "N" => Ok(OpSort::N),
-        "F" => Ok(OpSort::F),
-        "T" => Ok(OpSort::T),
-        "H" => Ok(OpSort::H),
-        "R" => Ok(OpSort::R),
-        _ => Err(NoAnswer::Unreadable),
-    }
-}
-
 // The operation and the kids of a node.
 fn node_text(alloc: Global, node: &Node) -> Answer {
-    let mut text = op_text(alloc, node.op)?;
-    for kid in node.kids.as_slice() {
-        text.push_str(format!(in alloc; " {kid}")?.as_str())?;
-    }
-    Ok(text)
-}
-
-fn op_text(alloc: Global, op: Op) -> Answer {
-    let text = match op {
-        Op::Int(n) => format!(in alloc; "int {n}"),
-        Op::Long(n) => format!(in alloc; "long {n}"),
-        Op::Null => format!(in alloc; "null"),
-        Op::Param(n, sort) => format!(in alloc; "param {n} {sort:?}"),
-        Op::Heap0 => format!(in alloc; "heap0"),
-        Op::Unit => format!(in alloc; "unit"),
-        Op::Clear => format!(in alloc; "clear"),
-        Op::Scalar(op) => return said(alloc, operation_word(op)),
-        Op::Root => format!(in alloc; "root"),
-    };
-    Ok(text?)
-}
-
-fn operation_word(op: ScalarOp) -> &'static str {
-    match op {
-        ScalarOp::Iadd => "iadd",
-        ScalarOp::Isub => "isub",
-        ScalarOp::Imul => "imul",
-    }
+    let (op, kids) = (node.op, node.kids.as_slice());
+    Ok(format!(in alloc; "{op:?} {kids:?}")?)
 }
 
 fn least_text(alloc: Global, graph: &Graph, first: NodeId, second: NodeId) -> Answer {
@@ -148,16 +117,15 @@ fn least_text(alloc: Global, graph: &Graph, first: NodeId, second: NodeId) -> An
     let least = least(alloc, graph, first, second)?;
     let nodes = least_nodes(alloc, &least)?;
     let (first, second) = (least.first(), least.second());
-    Ok(format!(in alloc; "{nodes}, roots {first} {second}")?)
+    Ok(format!(in alloc; "{nodes}roots {first} {second}")?)
 }
 
+// The nodes, each with a comma after it.
 fn least_nodes(alloc: Global, least: &Least) -> Answer {
     let mut text = String::new(alloc);
     for n in 0..least.len() {
-        if n > 0 {
-            text.push_str(", ")?;
-        }
         text.push_str(node_text(alloc, least.node(n))?.as_str())?;
+        text.push_str(", ")?;
     }
     Ok(text)
 }

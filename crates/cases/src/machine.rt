@@ -2,112 +2,134 @@
 //!
 //! | Line | Answer |
 //! |---|---|
-//! | `machine METHOD STEPS NUMBER ..` | how the method ends within so many steps at these arguments: `returned` with the number, if there is one, `threw` with the fault, or `running`; `no program` where it has none |
-//! | `machine-step METHOD STEPS NUMBER ..` | the same, by a call for the start and one for each step |
+//! | `machine STEPS NUMBER ..; METHOD ..; STEP; ..` | how the first of these methods ends within this many steps at these arguments: `Returned` with the number, if there is one, `Threw` with the fault, or `running`; or the cause for which it is refused |
+//! | `machine-step STEPS NUMBER ..; METHOD ..; STEP; ..` | the same, by a call for the start and one for each step |
 //!
-//! A METHOD is four words: its flags in hexadecimal, its descriptor, its code, `none` if it has none, and
-//! its max_locals. `values` says how numbers are written; `this` is 1.
+//! `samples` says how a METHOD is written, with `%3B` for a semicolon in its descriptor, and `values` how
+//! numbers and places are; `this` is 1. A STEP says
+//! something of the world or of the heap at the start, or asks for a number of the heap at the end:
+//!
+//! | Step | Says |
+//! |---|---|
+//! | `length ARRAY LENGTH`, `boolean ARRAY` | the length of an array; that it is one of booleans |
+//! | `home CLASS NAME DESCRIPTOR HOME` | the home class of a field |
+//! | `literal TEXT REFERENCE` | the reference of a string literal |
+//! | `put PLACE NUMBER` | the number at a place of the heap |
+//! | `throws CLASS NAME DESCRIPTOR REFERENCE` | that a call without arguments at the heap so far throws this, and leaves the heap |
+//! | `get PLACE` | nothing: its number at the end is added to the answer |
 
-use crate::answers::{Answer, NoAnswer, said};
+use crate::answers::{Answer, List, NoAnswer};
 use crate::bench::{Bench, number, words};
-use crate::values::{num_text, read_name, read_nums};
-use pv_class::{Code, Method};
-use pv_machine::{Now, Program, run, start, step};
-use pv_value::{Fault, Heap, Input, Memory, Name, Outcome};
+use crate::classes::with_code;
+use crate::frames::refusal;
+use crate::samples::class_of;
+use crate::values::{read_name, read_nums, read_place, read_sym};
+use pv_machine::{Program, run, start, step};
+use pv_value::{Fault, Heap, Input, Memory, Nums, Outcome, World};
 use std::alloc::Global;
 
-/// The operand stack that each method is given.
-const MAX_STACK: u16 = 2;
-
-/// `machine METHOD STEPS NUMBER ..`, by one call or by a call for each step
+/// `machine STEPS NUMBER ..; METHOD ..; STEP; ..`, by one call or by a call for each step
 pub fn machine(bench: &Bench, by_steps: bool, rest: &str) -> Answer {
     let alloc = bench.alloc();
-    let words = words(alloc, rest)?;
-    let [flags, desc, code, max_locals, steps, args @ ..] = words.as_slice() else {
+    let (how, rest) = rest.split_once(';').ok_or(NoAnswer::Unreadable)?;
+    let (methods, setting) = rest.split_once(';').unwrap_or((rest, ""));
+    let class = with_code(alloc, &class_of(bench, &words(alloc, methods)?)?)?;
+    let program = match Program::new(alloc, &class, 0) {
+        Ok(program) => program,
+        Err(refused) => return refusal(alloc, refused),
+    };
+    let how = words(alloc, how)?;
+    let [steps, args @ ..] = how.as_slice() else {
         return Err(NoAnswer::Unreadable);
     };
-    let method = Method {
-        flags: read_flags(flags)?,
-        name: Name::new(alloc, b"f")?,
-        desc: read_name(alloc, desc)?,
-        code: read_code(bench, code, number(max_locals)?)?,
-    };
-    let Some(program) = Program::new(alloc, &method)? else {
-        return said(alloc, "no program");
-    };
+    let steps = number(steps)?;
+    let (world, heap) = setting_of(alloc, setting)?;
+    let args = read_nums(alloc, args)?;
     let input = Input {
         this: 1,
-        args: read_nums(alloc, args)?,
-        heap: Heap::new(alloc),
+        args,
+        heap,
     };
-    let steps = number(steps)?;
-    let found = if by_steps {
-        stepped(alloc, &program, input, steps)?
+    let end = if by_steps {
+        stepped(alloc, &program, &world, &input, steps)?
     } else {
-        run(alloc, &program, input, steps)?
+        run(alloc, &program, &world, &input, steps)?
     };
-    outcome_text(alloc, found)
+    end_text(alloc, end, setting)
 }
 
-/// Flags in hexadecimal.
-pub fn read_flags(word: &str) -> Result<u16, NoAnswer> {
-    match u16::from_str_radix(word, 16) {
-        Ok(flags) => Ok(flags),
-        Err(_) => Err(NoAnswer::Unreadable),
+// The world and the heap at the start.
+fn setting_of(alloc: Global, setting: &str) -> Result<(World, Heap), NoAnswer> {
+    let mut world = World::new(alloc);
+    let mut heap = Heap::new(alloc);
+    for text in setting.split(';') {
+        let words = words(alloc, text)?;
+        match *words.as_slice() {
+            ["put", place, n] => heap.put(read_place(alloc, place)?, number(n)?)?,
+            ["throws", class, name, desc, thrown] => {
+                let sym = read_sym(alloc, class, name, desc)?;
+                let reply = Outcome::Threw(Fault::Thrown(number(thrown)?), heap.copy()?);
+                let args = Nums::from(Vec::new(alloc));
+                world.add_call(sym, heap.copy()?, args, reply)?;
+            }
+            _ => set(alloc, &mut world, &words)?,
+        }
     }
+    Ok((world, heap))
 }
 
-fn read_code(bench: &Bench, word: &str, max_locals: u16) -> Result<Option<Code>, NoAnswer> {
-    if word == "none" {
-        return Ok(None);
+// What a step says of a world but for its calls.
+fn set(alloc: Global, world: &mut World, words: &[&str]) -> Result<(), NoAnswer> {
+    match *words {
+        [] | ["get", _] => {}
+        ["length", array, length] => {
+            let length: u16 = number(length)?;
+            world.set_length(number(array)?, i32::from(length))?;
+        }
+        ["boolean", array] => world.set_boolean(number(array)?)?,
+        ["home", class, name, desc, home] => {
+            let home = read_name(alloc, home)?;
+            world.set_home(read_sym(alloc, class, name, desc)?, home)?;
+        }
+        ["literal", text, reference] => {
+            world.set_literal(read_name(alloc, text)?, number(reference)?)?;
+        }
+        _ => return Err(NoAnswer::Unreadable),
     }
-    Ok(Some(Code {
-        max_stack: MAX_STACK,
-        max_locals,
-        bytes: Name::new(bench.alloc(), &bench.bytes(word)?)?,
-        handlers: 0,
-    }))
+    Ok(())
 }
 
-// What a method gives within so many steps, by a call for each of them.
+// How a method ends within this many steps, by a call for each of them.
 fn stepped(
     alloc: Global,
     program: &Program,
-    input: Input,
+    world: &World,
+    input: &Input,
     steps: u64,
 ) -> Result<Option<Outcome>, Memory> {
     let mut state = start(alloc, program, input)?;
     for _ in 0..steps {
-        match step(program, state)? {
-            Now::Running(next) => state = next,
-            Now::Ended(outcome) => return Ok(Some(outcome)),
+        if let Some(outcome) = step(program, world, &mut state)? {
+            return Ok(Some(outcome));
         }
     }
     Ok(None)
 }
 
-fn outcome_text(alloc: Global, found: Option<Outcome>) -> Answer {
-    let text = match found {
-        None => format!(in alloc; "running"),
-        Some(Outcome::Returned(None, _heap)) => format!(in alloc; "returned"),
-        Some(Outcome::Returned(Some(n), _heap)) => {
-            let n = num_text(alloc, n)?;
-            format!(in alloc; "returned {n}")
-        }
-        Some(Outcome::Threw(fault, _heap)) => {
-            let fault = fault_text(alloc, fault)?;
-            format!(in alloc; "threw {fault}")
-        }
+// The end, and the numbers of its heap that the setting asks for.
+fn end_text(alloc: Global, end: Option<Outcome>, setting: &str) -> Answer {
+    let (text, heap) = match end {
+        None => return Ok(String::from_str(alloc, "running")?),
+        Some(Outcome::Returned(value, heap)) => (format!(in alloc; "Returned({value:?})")?, heap),
+        Some(Outcome::Threw(fault, heap)) => (format!(in alloc; "Threw({fault:?})")?, heap),
     };
-    Ok(text?)
-}
-
-fn fault_text(alloc: Global, fault: Fault) -> Answer {
-    match fault {
-        Fault::Clear => said(alloc, "clear"),
-        Fault::Null => said(alloc, "null"),
-        Fault::Arith => said(alloc, "arith"),
-        Fault::Index => said(alloc, "index"),
-        Fault::Thrown(reference) => Ok(format!(in alloc; "thrown {reference}")?),
+    let mut list = List::new(alloc);
+    list.add(text.as_str())?;
+    for text in setting.split(';') {
+        if let ["get", place] = *words(alloc, text)?.as_slice() {
+            let n = heap.get(&read_place(alloc, place)?);
+            list.add(format!(in alloc; "{n}")?.as_str())?;
+        }
     }
+    list.into_text()
 }

@@ -4,7 +4,9 @@
 //! Line n of the output answers line n of the input: an empty line and a line that begins with `#`
 //! stand in the output as they are, and a line that can't be read is answered by `?`. The first word
 //! of a line names the call (`calls` has the table), and the module of its layer says what follows it
-//! and what is answered. `bench` says how bytes are written.
+//! and what is answered: a value as its type's `Debug` writes it, a text as it is, with `%` and two
+//! hexadecimal digits for a byte that isn't visible, for a space and for `%`. `bench` says how bytes are
+//! written.
 //!
 //! The answers go out through `pv_base::HostSink`. The layers' promises are proved in their own crates;
 //! what is proved here is that no call is made outside what it requires, and that each line is done
@@ -16,6 +18,7 @@ mod bench;
 mod calls;
 mod classes;
 mod codes;
+mod frames;
 mod graphs;
 mod machine;
 mod outside;

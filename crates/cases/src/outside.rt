@@ -6,19 +6,16 @@
 //! | `host STEP; ..` | what each step on real files answers |
 //! | `sink ROOM BYTES ..` | what each put on a sink in memory answers, and what it took |
 //! | `take-all LIMIT LEFT FAILS` | what the loop over a reader answers that has so many bytes left, gives one at a time and fails with so many left (`never`: it doesn't) |
-//! | `put-all ROOM BYTES` | what the loop over a writer answers that takes a byte at a time while it has room, and what it took |
+//! | `put-all ROOM BYTES` | whether the loop over a writer is Ok that takes a byte at a time while it has room, and what it took |
 //!
 //! A SETTING is words `NAME=BYTES`, which are files, and `fail=2,6`, the numbers of the calls that fail. A
 //! STEP is `fetch NAME LIMIT`, which answers the bytes as a text, `place NAME BYTES`, on a store in memory
-//! `asked`, which answers the calls so far, and on real files `remove NAME`. A failure is `failed` or
-//! `too long`.
+//! `asked`, which answers the calls so far, and on real files `remove NAME`.
 
-use crate::answers::{Answer, List, NoAnswer, said};
+use crate::answers::{Answer, List, NoAnswer, said, shown};
 use crate::bench::{Bench, number, words};
 use crate::values::{escaped, read_name};
-use pv_base::{
-    Asked, FileFault, Files, HostFiles, MemFiles, MemSink, Sink, SinkFault, put_all, take_all,
-};
+use pv_base::{Asked, Files, HostFiles, MemFiles, MemSink, Sink, put_all, take_all};
 use pv_value::Name;
 use std::alloc::Global;
 use std::io::{self, ErrorKind, Read, Write};
@@ -93,19 +90,12 @@ pub fn host_files<R: rt::Files>(rt: &R, bench: &Bench, rest: &str) -> Answer {
     for step in rest.split(';') {
         let words = words(alloc, step)?;
         let answer = match *words.as_slice() {
-            ["remove", path] => removed(rt, alloc, path)?,
+            ["remove", path] => shown(alloc, fs::remove_file(rt, path).is_ok())?,
             _ => file_step(bench, &mut files, &words)?,
         };
         list.add(answer.as_str())?;
     }
     list.into_text()
-}
-
-fn removed<R: rt::Files>(rt: &R, alloc: Global, path: &str) -> Answer {
-    match fs::remove_file(rt, path) {
-        Ok(()) => said(alloc, "ok"),
-        Err(_) => said(alloc, "failed"),
-    }
 }
 
 // A fetch or a place on any store.
@@ -114,21 +104,10 @@ fn file_step<F: Files>(bench: &Bench, files: &mut F, words: &[&str]) -> Answer {
     match *words {
         ["fetch", name, limit] => match files.fetch(alloc, name, number(limit)?) {
             Ok(bytes) => escaped(alloc, &bytes),
-            Err(fault) => fault_text(alloc, fault),
+            Err(fault) => shown(alloc, fault),
         },
-        ["place", name, bytes] => match files.place(alloc, name, &bench.bytes(bytes)?) {
-            Ok(()) => said(alloc, "ok"),
-            Err(fault) => fault_text(alloc, fault),
-        },
+        ["place", name, bytes] => shown(alloc, files.place(alloc, name, &bench.bytes(bytes)?)),
         _ => Err(NoAnswer::Unreadable),
-    }
-}
-
-fn fault_text(alloc: Global, fault: FileFault) -> Answer {
-    match fault {
-        FileFault::Failed => said(alloc, "failed"),
-        FileFault::TooLong => said(alloc, "too long"),
-        FileFault::Memory => Err(NoAnswer::Memory),
     }
 }
 
@@ -142,10 +121,7 @@ pub fn memory_sink(bench: &Bench, rest: &str) -> Answer {
     let mut sink = MemSink::new(alloc, number(room)?)?;
     let mut list = List::new(alloc);
     for put in puts {
-        match sink.put(&bench.bytes(put)?) {
-            Ok(()) => list.add("ok")?,
-            Err(SinkFault::Failed) => list.add("failed")?,
-        }
+        list.add(shown(alloc, sink.put(&bench.bytes(put)?))?.as_str())?;
     }
     let taken = escaped(alloc, sink.taken())?;
     list.add(format!(in alloc; "took {taken}")?.as_str())?;
@@ -190,7 +166,7 @@ pub fn taking(bench: &Bench, rest: &str) -> Answer {
     };
     match take_all(alloc, &mut from, number(limit)?) {
         Ok(bytes) => escaped(alloc, &bytes),
-        Err(fault) => fault_text(alloc, fault),
+        Err(fault) => shown(alloc, fault),
     }
 }
 
@@ -226,10 +202,7 @@ pub fn putting(bench: &Bench, rest: &str) -> Answer {
         taken: Vec::new(alloc),
         room: number(room)?,
     };
-    let word = match put_all(&mut to, &bench.bytes(bytes)?) {
-        Ok(()) => "ok",
-        Err(_) => "failed",
-    };
+    let is_ok = put_all(&mut to, &bench.bytes(bytes)?).is_ok();
     let taken = escaped(alloc, &to.taken)?;
-    Ok(format!(in alloc; "{word}; took {taken}")?)
+    Ok(format!(in alloc; "{is_ok}; took {taken}")?)
 }

@@ -4,12 +4,12 @@
 //! |---|---|
 //! | `run WORD ..; SETTING` | the status, what was sent, the calls that the store got, and whether it holds what it held |
 //! | `validate BYTES BYTES` | the status and what was sent, where the words are `validate A B` and these are the files A and B |
-//! | `one-line BYTES BYTES` | `yes` where the status is at most 2 and what was sent is one line |
+//! | `one-line BYTES BYTES` | whether the status is at most 2 and what was sent is one line |
 //!
 //! A WORD is `""` for the empty one. A SETTING is words `NAME=BYTES`, which are files, `fail=2,6`, the
 //! numbers of the calls that fail, and first `room=9`, the bytes that the sink has room for.
 
-use crate::answers::{Answer, NoAnswer, said};
+use crate::answers::{Answer, NoAnswer, shown};
 use crate::bench::{Bench, number, words};
 use crate::outside::{asked_text, read_files};
 use pv_base::{Files, MemFiles, MemSink, OpenGate};
@@ -121,9 +121,6 @@ pub fn validation<R: Threads + Sync>(rt: &R, bench: &Bench, rest: &str) -> Answe
 pub fn one_line<R: Threads + Sync>(rt: &R, bench: &Bench, rest: &str) -> Answer {
     let (status, out) = validated(rt, bench, rest)?;
     let feeds = out.taken().iter().filter(|b| **b == b'\n').count();
-    if status.number() <= 2 && feeds == 1 && out.taken().ends_with(b"\n") {
-        said(bench.alloc(), "yes")
-    } else {
-        said(bench.alloc(), "no")
-    }
+    let is_one = status.number() <= 2 && feeds == 1 && out.taken().ends_with(b"\n");
+    shown(bench.alloc(), is_one)
 }

@@ -2,27 +2,75 @@
 //!
 //! | Line | Answer |
 //! |---|---|
-//! | `field-type BYTES` | the type, or `none` |
-//! | `descriptor BYTES` | the types of the parameters, `to`, and that of the result or `void`; or `none` |
-//! | `name BYTES` | the bytes of the name |
+//! | `field-type BYTES` | the type, if it is one |
+//! | `descriptor BYTES` | the types of the parameters and that of the result, if it has one; or `None` |
+//! | `name BYTES` | the bytes of the name, as a text |
 //! | `numbers NUMBER ..` | the numbers of the list |
 //! | `scalar OPERATION NUMBER NUMBER` | the value |
 //! | `heap STEP; ..` | what each step on one heap, empty at first, answers |
 //!
-//! A type is its letter in descriptors, `A` for each reference type. A NUMBER is `5` for an int, `5L`
-//! for a long and `5R` for a reference. A STEP is `get PLACE`, which answers the number there, or
+//! A NUMBER is `5` for an int, `5L` for a long and `5R` for a reference. A STEP is `get PLACE`, which answers the number there, or
 //! `put PLACE NUMBER`. A PLACE is `int:7:3`, element 3 of the int array 7, and so for the kinds
 //! `long`, `ref`, `byte`, `char` and `short`; `static:C:f:I`, a static field; or `field:7:C:f:I`, a field
 //! of the object 7.
 
-use crate::answers::{Answer, List, NoAnswer, said};
-use crate::bench::{Bench, number, unescaped, words};
+ghost use Rattle.std.specs.Prelude.{IsTrue, FitsSigned};
+ghost use Rattle.std.specs.Int.{w32};
+ghost use Rattle.pv_value.specs.Operations.{AreOperands};
+
+use crate::answers::{Answer, List, NoAnswer, said, shown};
+use crate::bench::{Bench, named, number, unescaped, words};
 use percent_encoding::{AsciiSet, CONTROLS, percent_encode};
 use pv_value::{
-    Heap, JType, Kind, Loc, Name, Num, Nums, ScalarOp, Sym, read_descriptor, read_field_type,
-    scalar,
+    Heap, Kind, Loc, Name, Num, Nums, ScalarOp, Sym, read_descriptor, read_field_type, scalar,
 };
 use std::alloc::Global;
+
+// The operations by their names.
+const OPERATIONS: [(&str, ScalarOp); 33] = [
+    ("iadd", ScalarOp::Iadd),
+    ("isub", ScalarOp::Isub),
+    ("imul", ScalarOp::Imul),
+    ("idiv", ScalarOp::Idiv),
+    ("irem", ScalarOp::Irem),
+    ("ishl", ScalarOp::Ishl),
+    ("ishr", ScalarOp::Ishr),
+    ("iushr", ScalarOp::Iushr),
+    ("iand", ScalarOp::Iand),
+    ("ior", ScalarOp::Ior),
+    ("ixor", ScalarOp::Ixor),
+    ("ieq", ScalarOp::Ieq),
+    ("ilt", ScalarOp::Ilt),
+    ("ineg", ScalarOp::Ineg),
+    ("i2b", ScalarOp::I2b),
+    ("i2c", ScalarOp::I2c),
+    ("i2s", ScalarOp::I2s),
+    ("i2l", ScalarOp::I2l),
+    ("ladd", ScalarOp::Ladd),
+    ("lsub", ScalarOp::Lsub),
+    ("lmul", ScalarOp::Lmul),
+    ("ldiv", ScalarOp::Ldiv),
+    ("lrem", ScalarOp::Lrem),
+    ("lshl", ScalarOp::Lshl),
+    ("lshr", ScalarOp::Lshr),
+    ("lushr", ScalarOp::Lushr),
+    ("land", ScalarOp::Land),
+    ("lor", ScalarOp::Lor),
+    ("lxor", ScalarOp::Lxor),
+    ("leq", ScalarOp::Leq),
+    ("lcmp", ScalarOp::Lcmp),
+    ("lneg", ScalarOp::Lneg),
+    ("l2i", ScalarOp::L2i),
+];
+
+const KINDS: [(&str, Kind); 6] = [
+    ("int", Kind::Int),
+    ("long", Kind::Long),
+    ("ref", Kind::Ref),
+    ("byte", Kind::Byte),
+    ("char", Kind::Char),
+    ("short", Kind::Short),
+];
 
 // What is written as `%` and two digits in a text: all that isn't visible, and `%`.
 fn escapes() -> AsciiSet {
@@ -41,44 +89,16 @@ pub fn escaped(alloc: Global, bytes: &[u8]) -> Answer {
 
 /// `field-type BYTES`
 pub fn field_type(bench: &Bench, rest: &str) -> Answer {
-    match read_field_type(&bench.bytes(rest)?) {
-        Some(t) => said(bench.alloc(), letter(t)),
-        None => said(bench.alloc(), "none"),
-    }
+    shown(bench.alloc(), read_field_type(&bench.bytes(rest)?))
 }
 
 /// `descriptor BYTES`
 pub fn descriptor(bench: &Bench, rest: &str) -> Answer {
     let alloc = bench.alloc();
     let Some(desc) = read_descriptor(alloc, &bench.bytes(rest)?)? else {
-        return said(alloc, "none");
+        return said(alloc, "None");
     };
-    let mut text = String::new(alloc);
-    for t in desc.params.as_slice() {
-        text.push_str(letter(*t))?;
-        text.push(' ')?;
-    }
-    text.push_str("to ")?;
-    match desc.result {
-        Some(t) => text.push_str(letter(t))?,
-        None => text.push_str("void")?,
-    }
-    Ok(text)
-}
-
-// The letter of a type.
-fn letter(t: JType) -> &'static str {
-    match t {
-        JType::Z => "Z",
-        JType::B => "B",
-        JType::C => "C",
-        JType::S => "S",
-        JType::I => "I",
-        JType::J => "J",
-        JType::F => "F",
-        JType::D => "D",
-        JType::A => "A",
-    }
+    shown(alloc, (desc.params.as_slice(), desc.result))
 }
 
 /// `name BYTES`
@@ -91,11 +111,7 @@ pub fn name(bench: &Bench, rest: &str) -> Answer {
 pub fn numbers(bench: &Bench, rest: &str) -> Answer {
     let alloc = bench.alloc();
     let nums = read_nums(alloc, &words(alloc, rest)?)?;
-    let mut list = List::new(alloc);
-    for n in nums.as_slice() {
-        list.add(num_text(alloc, *n)?.as_str())?;
-    }
-    list.into_text()
+    shown(alloc, nums.as_slice())
 }
 
 /// The list of numbers that words write.
@@ -117,35 +133,46 @@ fn read_num(word: &str) -> Result<Num, NoAnswer> {
     }
 }
 
-/// A number as it is written.
-pub fn num_text(alloc: Global, n: Num) -> Answer {
-    let text = match n {
-        Num::Int(n) => format!(in alloc; "{n}"),
-        Num::Long(n) => format!(in alloc; "{n}L"),
-        Num::Ref(n) => format!(in alloc; "{n}R"),
-    };
-    Ok(text?)
-}
-
 /// `scalar OPERATION NUMBER NUMBER`
 pub fn scalar_value(bench: &Bench, rest: &str) -> Answer {
     let words = words(bench.alloc(), rest)?;
     let [op, a, b] = *words.as_slice() else {
         return Err(NoAnswer::Unreadable);
     };
-    let op = read_operation(op)?;
-    let (a, b): (i32, i32) = (number(a)?, number(b)?);
-    said(bench.alloc(), scalar(op, i64::from(a), i64::from(b)))
+    let op = named(&OPERATIONS, op)?;
+    let (a, b) = (number(a)?, number(b)?);
+    if !are_operands(op, a, b) {
+        return Err(NoAnswer::Unreadable);
+    }
+    shown(bench.alloc(), scalar(op, a, b))
 }
 
-/// The operation that a word names.
-pub fn read_operation(word: &str) -> Result<ScalarOp, NoAnswer> {
-    match word {
-        "iadd" => Ok(ScalarOp::Iadd),
-        "isub" => Ok(ScalarOp::Isub),
-        "imul" => Ok(ScalarOp::Imul),
-        _ => Err(NoAnswer::Unreadable),
+// Whether the operands are in the range of what an operation takes, if it takes two.
+fn are_operands(op: ScalarOp, a: i64, b: i64) -> bool
+    ensures { IsTrue result → AreOperands op a b }
+{
+    match op {
+        ScalarOp::Ladd
+        | ScalarOp::Lsub
+        | ScalarOp::Lmul
+        | ScalarOp::Ldiv
+        | ScalarOp::Lrem
+        | ScalarOp::Land
+        | ScalarOp::Lor
+        | ScalarOp::Lxor
+        | ScalarOp::Leq
+        | ScalarOp::Lcmp
+        | ScalarOp::Lneg
+        | ScalarOp::L2i => true,
+        ScalarOp::Lshl | ScalarOp::Lshr | ScalarOp::Lushr => is_int(b),
+        _ => is_int(a) && is_int(b),
     }
+}
+
+fn is_int(n: i64) -> bool
+    ensures { IsTrue result → FitsSigned w32 n }
+{
+    i32::try_from(n).is_ok()
 }
 
 /// `heap STEP; ..`
@@ -161,7 +188,7 @@ pub fn heap(bench: &Bench, rest: &str) -> Answer {
 
 fn heap_step(alloc: Global, heap: &mut Heap, step: &str) -> Answer {
     match *words(alloc, step)?.as_slice() {
-        ["get", place] => said(alloc, heap.get(&read_place(alloc, place)?)),
+        ["get", place] => shown(alloc, heap.get(&read_place(alloc, place)?)),
         ["put", place, n] => {
             heap.put(read_place(alloc, place)?, number(n)?)?;
             said(alloc, "ok")
@@ -170,7 +197,8 @@ fn heap_step(alloc: Global, heap: &mut Heap, step: &str) -> Answer {
     }
 }
 
-fn read_place(alloc: Global, word: &str) -> Result<Loc, NoAnswer> {
+/// The place that a word writes.
+pub fn read_place(alloc: Global, word: &str) -> Result<Loc, NoAnswer> {
     let parts: Vec<&str> = word.split(':').collect(alloc)?;
     match *parts.as_slice() {
         ["static", class, name, desc] => Ok(Loc::Static(read_sym(alloc, class, name, desc)?)),
@@ -178,7 +206,7 @@ fn read_place(alloc: Global, word: &str) -> Result<Loc, NoAnswer> {
             number(object)?,
             read_sym(alloc, class, name, desc)?,
         )),
-        [kind, array, index] => Ok(Loc::Elem(read_kind(kind)?, number(array)?, number(index)?)),
+        [kind, array, index] => Ok(Loc::Elem(named(&KINDS, kind)?, number(array)?, number(index)?)),
         _ => Err(NoAnswer::Unreadable),
     }
 }
@@ -195,16 +223,4 @@ pub fn read_sym(alloc: Global, class: &str, name: &str, desc: &str) -> Result<Sy
 /// The name that a text writes.
 pub fn read_name(alloc: Global, text: &str) -> Result<Name, NoAnswer> {
     Ok(Name::new(alloc, &unescaped(alloc, text)?)?)
-}
-
-fn read_kind(word: &str) -> Result<Kind, NoAnswer> {
-    match word {
-        "int" => Ok(Kind::Int),
-        "long" => Ok(Kind::Long),
-        "ref" => Ok(Kind::Ref),
-        "byte" => Ok(Kind::Byte),
-        "char" => Ok(Kind::Char),
-        "short" => Ok(Kind::Short),
-        _ => Err(NoAnswer::Unreadable),
-    }
 }

@@ -25,7 +25,12 @@ fn main(rt: HostRuntime) -> ExitCode {
     let status = match command_line(&rt) {
         Ok(words) => run_words(&rt, &words, &mut files, &mut out),
         // A word that isn't UTF-8 is no word of a command.
-        Err(e) if e.kind() == io::ErrorKind::InvalidData => run_words(&rt, &[], &mut files, &mut out),
+        Err(e) if e.kind() == io::ErrorKind::InvalidData => run_words(
+            &rt,
+            &[],
+            &mut files,
+            &mut out,
+        ),
         Err(_) => Status::Memory,
     };
     ExitCode::from(status.number())

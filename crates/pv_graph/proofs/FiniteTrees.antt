@@ -1,11 +1,10 @@
 -- Nodes that have finite trees: they unfold to them, have at most one, and keep them in a graph that keeps its nodes.
-use Rattle.std.specs.Prelude.{◌≡◌, ℕ, zero, suc, ◌+◌, ◌<◌, ◌≤◌, List, [], ◌∷◌, length, Option, Some, slice_get, refl}
-use Rattle.std.proofs.Common.{ap, ◌∙◌, sym, subst, arith}
+use Rattle.std.specs.Prelude.{◌≡◌, ℕ, zero, suc, ◌+◌, ◌<◌, ◌≤◌, List, [], ◌∷◌, length, Option, Some, refl}
+use Rattle.std.proofs.Common.{ap, ◌∙◌, sym, arith}
 use Rattle.std.proofs.lemmas.Option.{slice_get_within}
 use Rattle.pv_graph.specs.declared.node.Op.{Op}
 use Rattle.pv_graph.specs.declared.node.Node.{Node}
 use Rattle.pv_graph.specs.Forms.{Form, form}
-use Rattle.pv_graph.specs.Nodes.{node_of}
 use Rattle.pv_graph.specs.Unfold.{Tree, Trees, cut, over, none, first, trees_of, tree_at, unfold_at, UnfoldsAs}
 use Rattle.pv_graph.specs.Graphs.{Graph, form_at, Extends}
 use Rattle.pv_graph.specs.Finite.{cut_at, cut_all, height, height_all, IsTree, AreTrees}

@@ -16,7 +16,7 @@ use Rattle.pv_dag.specs.declared.node.Op.TheVariants as op
 use Rattle.pv_dag.specs.declared.node.OpSort.TheVariants as sort
 use Rattle.pv_dag.specs.declared.node.Node.{Node}
 use Rattle.pv_dag.specs.Nodes.{IsGraph}
-use Rattle.pv_dag.specs.Trees.{Tree, over, none, first}
+use Rattle.pv_dag.specs.Trees.{Tree}
 use Rattle.pv_dag.specs.Finite.{IsTree}
 use Rattle.pv_dag.specs.FiniteLaws.{leaf_tree, is_tree_kept}
 use Rattle.pv_top.specs.Built.{leaf, over_two, Lays, LaysAll, ReturnsTree}

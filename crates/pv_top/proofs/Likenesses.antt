@@ -12,7 +12,7 @@ use Rattle.pv_value.specs.declared.memory.Memory.{Memory}
 use Rattle.pv_class.specs.declared.file.ClassFile.{ClassFile}
 use Rattle.pv_top.specs.declared.verdict.Verdict.{Verdict}
 use Rattle.pv_top.specs.declared.verdict.Verdict.TheVariants.{Missing, NoCode, Refused, Equivalent, Apart}
-use Rattle.pv_top.specs.Verdicts.{IsLike, IsPartner, IsVerdict, IsVerdictOn}
+use Rattle.pv_top.specs.Verdicts.{IsPartner, IsVerdict, IsVerdictOn}
 use Rattle.pv_top.specs.Judging.{IsVerdictAt, IsVerdictOnPlaces, IsLikeAt}
 use Rattle.pv_top.specs.declared.partners.Likeness.{Likeness}
 use Rattle.pv_top.specs.contracts.partners.LikenessPartialEq.TheImpl as likeness
@@ -117,6 +117,6 @@ as_verdict f g m p Apart partner on = (p, partner, on)
 pub verdict_at : (f g : ClassFile) (place other : ℕ) (m : Method) (r : Result Verdict Memory) → slice_get f.methods place ≡ Some m → IsLikeAt m g.methods other → IfOk r (λ v. IsVerdictOnPlaces f place g other v) → IfOk r (λ v. IsVerdictAt f place g v)
 verdict_at f g place other m (Ok v) here like h =
     λ n at. let same = slice_once f.methods place m n here at in
-      subst (λ (x : Method). IsVerdict f g x v) same
-      (as_verdict f g m like.0 v (record { among = contains_here g.methods other like.0 like.1; like = like.2 }) (h m like.0 here like.1))
+    subst (λ (x : Method). IsVerdict f g x v) same
+    (as_verdict f g m like.0 v (record { among = contains_here g.methods other like.0 like.1; like = like.2 }) (h m like.0 here like.1))
 verdict_at f g place other m (Err e) here like h = tt

@@ -1,6 +1,6 @@
 -- A run of a program whose straight-line code returns the value of a tree.
-use Rattle.std.proofs.Common.{◌≡◌, ℕ, zero, suc, ◌+◌, ◌-◌, ◌<◌, ℤ, List, [], ◌∷◌, ◌++◌, length, Bool, false, Option, Some, None, refl, sym, ap, subst, ◌∙◌, arith, append_assoc, length-append}
-use Rattle.std.specs.Prelude.{slice_get, replicate, unwrap_or, option_map}
+use Rattle.std.proofs.Common.{◌≡◌, ℕ, zero, suc, ◌-◌, ◌<◌, ℤ, List, [], ◌∷◌, ◌++◌, length, Bool, false, Option, Some, None, refl, sym, ap, subst, ◌∙◌, arith, append_assoc, length-append}
+use Rattle.std.specs.Prelude.{slice_get, replicate, unwrap_or}
 use Rattle.std.specs.List.{AllByRecursion, AllZip, flat_map}
 use Rattle.std.proofs.lemmas.List.{append-nil}
 use Rattle.pv_value.specs.declared.number.Num.{Num}
@@ -20,11 +20,11 @@ use Rattle.pv_frame.specs.declared.sort.Sort.TheVariants as sorts
 use Rattle.pv_frame.specs.declared.action.Action.{Action}
 use Rattle.pv_frame.specs.declared.action.Action.TheVariants as act
 use Rattle.pv_frame.specs.declared.program.Program.{Program}
-use Rattle.pv_machine.specs.Machine.{State, Now, running, ended, perform, perform_at, go_on, after, start, passed, padded, locals_of, given, RunEnds}
+use Rattle.pv_machine.specs.Machine.{State, running, ended, perform, perform_at, go_on, after, start, passed, padded, locals_of, given, RunEnds}
 use Rattle.pv_dag.specs.declared.node.Op.TheVariants as op
 use Rattle.pv_dag.specs.declared.node.OpSort.TheVariants as sort
 use Rattle.pv_dag.specs.Denote.{number_of}
-use Rattle.pv_dag.specs.Trees.{Tree, over, none, first}
+use Rattle.pv_dag.specs.Trees.{Tree}
 use Rattle.pv_dag.specs.Finite.{tree_value}
 use Rattle.pv_top.specs.Built.{leaf, over_two, Lays, LaysAll, IsStraight}
 

@@ -16,7 +16,7 @@ use Rattle.pv_frame.proofs.CauseLaws.{one_program}
 use Rattle.pv_machine.specs.Machine.{IsProgram, RunEnds, Ends, AreEquivalentMethods}
 use Rattle.pv_dag.specs.Trees.{Tree}
 use Rattle.pv_dag.specs.Finite.{tree_value}
-use Rattle.pv_top.specs.Built.{IsBuilt, IsStraight}
+use Rattle.pv_top.specs.Built.{IsBuilt}
 use Rattle.pv_top.specs.Roots.{HasTree, returning}
 use Rattle.pv_top.proofs.Meanings.{program_ends}
 

@@ -10,8 +10,8 @@ use crate::laying::returned_node;
 use crate::nodes::root_of;
 use crate::reason::{Reason, Stop};
 use pv_class::ClassFile;
-use pv_frame::{Refused, infer};
 use pv_dag::{Graph, NodeId};
+use pv_frame::{Refused, infer};
 use pv_value::{Descriptor, JType};
 use std::alloc::Global;
 

@@ -10,8 +10,8 @@ ghost use Rattle.pv_top.specs.Conversion.{Grows, GivesInt, IsLeaf, AreInts, Lays
 
 use crate::nodes::{computed, leaf};
 use crate::operands::Operands;
-use pv_frame::{Action, Sort};
 use pv_dag::{Graph, NodeId, Op, OpSort};
+use pv_frame::{Action, Sort};
 use pv_value::{IntOp, Memory, Num, ScalarOp};
 use std::alloc::Global;
 

@@ -5,7 +5,7 @@ ghost use Rattle.pv_dag.specs.Nodes.{IsGraph};
 ghost use Rattle.pv_top.specs.Conversion.{Grows, HasOver, IsLeaf, IsInt, IsRootOver};
 
 use pv_dag::{Graph, GraphFault, NodeId, Op, OpSort};
-use pv_value::{Memory, IntOp};
+use pv_value::{IntOp, Memory};
 use std::alloc::Global;
 
 /// The node of an operation without kids, of this sort.

@@ -1,6 +1,4 @@
-use Rattle.std.proofs.Common.{List, ℕ, ◌≡◌, length, false, rules, subst, sym}
-use Rattle.pv_value.specs.declared.descriptor.JType.{JType}
-use Rattle.pv_frame.specs.declared.action.Action.{Action}
+use Rattle.std.proofs.Common.{◌≡◌, length, false, rules}
 use Rattle.pv_frame.specs.Answers.{IsTyping}
 use Rattle.pv_dag.specs.Trees.{Tree}
 use Rattle.pv_top.specs.Built.{IsOfInts, ReturnsTree}

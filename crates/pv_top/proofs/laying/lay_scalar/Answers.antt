@@ -1,6 +1,6 @@
 use Rattle.std.proofs.Common.{List, ℕ, ◌∷◌, ◌≡◌, subst, ap, ◌∙◌}
 use Rattle.pv_top.specs.Conversion.{AreInts}
-use Rattle.pv_top.proofs.Lays.{lays_no_scalar, lays_on_none, lays_on_one, lays_scalar}
+use Rattle.pv_top.proofs.Lays.{lays_no_scalar, lays_scalar}
 use Rattle.pv_top.proofs.laying.lay_scalar.Goals as goal
 
 pub returns-in_default-clause-lays : goal.returns-in_default-clause-lays

@@ -1,5 +1,4 @@
 use Rattle.std.proofs.Common.{refl, ◌≡◌, get_or}
-use Rattle.pv_class.specs.declared.file.Method.{Method}
 use Rattle.pv_top.proofs.Places.{here_again}
 use Rattle.pv_top.proofs.SoFar.{Flags, same, cleared, nothing_so_far, one_more}
 use Rattle.pv_top.proofs.report.compare.Goals as goal

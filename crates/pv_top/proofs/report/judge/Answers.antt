@@ -1,4 +1,4 @@
-use Rattle.std.proofs.Common.{List, inl, inr, Ok, Err, subst}
+use Rattle.std.proofs.Common.{inl, inr, Ok, Err}
 use Rattle.pv_top.specs.Judging.{ReadsFetched}
 use Rattle.pv_top.proofs.Judgements.{judges}
 use Rattle.pv_top.proofs.report.judge.Goals as goal

@@ -1,5 +1,3 @@
-use Rattle.std.proofs.Common.{List, length, ◌≡◌, ◌<◌, ◌∙◌, subst, ap, sym}
-use Rattle.pv_class.specs.declared.file.Method.{Method}
 use Rattle.pv_top.specs.Judging.{IsLikeAt}
 use Rattle.pv_top.proofs.Places.{here_again}
 use Rattle.pv_top.proofs.Likenesses.{verdict_at}

@@ -34,12 +34,13 @@ impl Model for State {
 }
 
 impl State {
-    ghost use Rattle.std.specs.Prelude.{◌≡◌, ◌≤◌, OnOk};
+    ghost use Rattle.std.specs.Prelude.{◌≡◌, ◌≤◌, ◌<◌, OnOk, OnErr};
 
-    /// Makes room on the operand stack for as many values as the method may have there. The state
-    /// stays, whatever the result.
+    /// Makes room on the operand stack for as many values as the method may have there. It fails only
+    /// where there was less, and the state stays, whatever the result.
     pub fn reserve(&mut self) -> Result<(), Memory>
         ensures ok { OnOk result (self.new.max_stack ≤ self.new.room) }
+        ensures err { OnErr result (self.old.room < self.old.max_stack) }
         ensures state { self.new.state ≡ self.old.state }
         ensures max_stack { self.new.max_stack ≡ self.old.max_stack }
         ensures room { self.old.room ≤ self.new.room }

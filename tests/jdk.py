@@ -3,7 +3,8 @@
 
 It works on the program that `cd crates/punthizha && rt run` leaves. The class files are extracted from
 the JDK's image with `jimage`. For each of major version 45 to 69 the status must be 0 or 1, with a line
-for each method, in the order of the file; the methods are counted by a reader of its own.
+for each method, in the order of the file; the methods are counted by a reader of its own. It prints how
+many lines say what, without places. No method of the JDK may be `types` or `code`.
 
     tests/jdk.py [IMAGE]      IMAGE is the file lib/modules of a JDK
 """
@@ -15,6 +16,7 @@ import subprocess
 import sys
 import tempfile
 import time
+from collections import Counter
 from concurrent.futures import ThreadPoolExecutor
 
 TOP = os.path.dirname(os.path.dirname(os.path.abspath(__file__)))
@@ -30,7 +32,7 @@ def image():
 
 
 def members(data, at):
-    """The (name index, descriptor index) of each member of a table, and the offset behind it."""
+    """The (name index, descriptor index) of each member of a table, and the offset after it."""
     (count,) = struct.unpack_from(">H", data, at)
     at += 2
     found = []
@@ -73,7 +75,7 @@ def run(path):
         data = file.read()
     major, wanted = methods(data)
     if not 45 <= major <= 69:
-        return path, None, 0, 0.0
+        return path, None, 0, 0.0, Counter()
     begin = time.monotonic()
     done = subprocess.run([PROGRAM, "validate", path, path], capture_output=True, timeout=60)
     took = time.monotonic() - begin
@@ -86,7 +88,12 @@ def run(path):
         and all(line.startswith(front) for line, front in zip(lines, fronts))
         and (done.returncode == 0) == all(line.endswith(" equivalent") for line in lines)
     )
-    return path, right, len(lines), took
+    return path, right, len(lines), took, Counter(said(line, front) for line, front in zip(lines, fronts))
+
+
+def said(line, front):
+    """What a line says of its method, without the address."""
+    return line[len(front) :].split(" at ")[0]
 
 
 def main():
@@ -107,11 +114,15 @@ def main():
     read = [a for a in answers if a[1] is not None]
     wrong = [a for a in read if not a[1]]
     slowest = max(read, key=lambda a: a[3])
-    for path, _, _, _ in wrong[:20]:
+    said_of = sum((a[4] for a in read), Counter())
+    bad = [word for word in said_of if word.endswith((" types", " code"))]
+    for path, *_ in wrong[:20]:
         print("FAILED ", os.path.relpath(path, work))
     print(f"{len(read)} files, {sum(a[2] for a in read)} methods, {len(answers) - len(read)} of other versions")
     print(f"{took:.1f} s, the slowest {slowest[3]:.3f} s: {os.path.relpath(slowest[0], work)}")
-    sys.exit(1 if wrong else 0)
+    for word, count in said_of.most_common():
+        print(f"{count:8} {word}")
+    sys.exit(1 if wrong or bad else 0)
 
 
 main()

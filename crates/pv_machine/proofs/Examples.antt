@@ -344,19 +344,19 @@ le = (refl, refl, refl)
 
 -- ---- what a world tells
 
--- the field that a symbol stands for: of the home class that is told, or of the class that the symbol names
-home_told : (w : World) (f : Sym) (c : List ℕ) → get w.homes f ≡ Some c → home w f ≡ record f { class = c }
-home_told w f c e = rw e refl
+-- the field that a symbol stands for: of the home class that is known, or of the class that the symbol names
+home_known : (w : World) (f : Sym) (c : List ℕ) → get w.homes f ≡ Some c → home w f ≡ record f { class = c }
+home_known w f c e = rw e refl
 
-home_untold : (f : Sym) → home empty_world f ≡ f
-home_untold f = let none : get empty_world.homes f ≡ None = get-empty _ f in rw none refl
+home_unknown : (f : Sym) → home empty_world f ≡ f
+home_unknown f = let none : get empty_world.homes f ≡ None = get-empty _ f in rw none refl
 
 -- so two symbols of one home stand for one place, and of different names never
 one_place : (w : World) (f g : Sym) (c : List ℕ) → get w.homes f ≡ Some c → get w.homes g ≡ Some c → f.name ≡ g.name → f.desc ≡ g.desc → static_place w f ≡ static_place w g
 one_place w f g c d e n t = rw (d, e, n, t) refl
 
-length_untold : (r : ℕ) → length_of empty_world r ≡ pos 0
-length_untold r = let none : get empty_world.lengths r ≡ None = get-empty _ r in rw none refl
+length_unknown : (r : ℕ) → length_of empty_world r ≡ pos 0
+length_unknown r = let none : get empty_world.lengths r ≡ None = get-empty _ r in rw none refl
 
-literal_told : (w : World) (text : List ℕ) (r : ℕ) → get w.literals text ≡ Some r → literal_of w text ≡ r
-literal_told w text r e = rw e refl
+literal_known : (w : World) (text : List ℕ) (r : ℕ) → get w.literals text ≡ Some r → literal_of w text ≡ r
+literal_known w text r e = rw e refl

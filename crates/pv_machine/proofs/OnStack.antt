@@ -18,20 +18,20 @@ module _ {A : Type 0} where
   parts : (xs : List A) (m : ℕ) → reverse xs ≡ reverse (drop m xs) ++ reverse (take m xs)
   parts xs m = ap reverse (sym (take-append-drop m xs)) ∙ reverse-append (take m xs) (drop m xs)
 
-  behind : (xs : List A) (m k : ℕ) → m + k ≡ length xs → length (reverse (drop m xs)) ≡ k
-  behind xs m k e =
+  last_many : (xs : List A) (m k : ℕ) → m + k ≡ length xs → length (reverse (drop m xs)) ≡ k
+  last_many xs m k e =
       let long = length-reverse (drop m xs) ∙ length-drop m xs in
       omega (arith, long)
 
   -- without the last k, from the end
   pub drop_reverse : (xs : List A) (m k : ℕ) → m + k ≡ length xs → drop k (reverse xs) ≡ reverse (take m xs)
   drop_reverse xs m k e =
-      ap (λ n. drop n (reverse xs)) (sym (behind xs m k e)) ∙ ap (drop (length (reverse (drop m xs)))) (parts xs m) ∙ drop-append_seam (reverse (drop m xs)) (reverse (take m xs))
+      ap (λ n. drop n (reverse xs)) (sym (last_many xs m k e)) ∙ ap (drop (length (reverse (drop m xs)))) (parts xs m) ∙ drop-append_seam (reverse (drop m xs)) (reverse (take m xs))
 
   -- the last k
   pub take_reverse : (xs : List A) (m k : ℕ) → m + k ≡ length xs → reverse (take k (reverse xs)) ≡ drop m xs
   take_reverse xs m k e =
-      ap (λ n. reverse (take n (reverse xs))) (sym (behind xs m k e)) ∙ ap (λ l. reverse (take (length (reverse (drop m xs))) l)) (parts xs m)
+      ap (λ n. reverse (take n (reverse xs))) (sym (last_many xs m k e)) ∙ ap (λ l. reverse (take (length (reverse (drop m xs))) l)) (parts xs m)
       ∙ ap reverse (take-append_seam (reverse (drop m xs)) (reverse (take m xs))) ∙ reverse-reverse (drop m xs)
 
 -- ---- operands

@@ -143,9 +143,9 @@ module _ (p : Program) (w : World) (s : State) where
   call_ok d f nums g None typed world is e = waits d f refl is
   call_ok d f nums g (Some (Threw x h)) typed world is e = ends _
   call_ok d f nums g (Some (Returned r h)) typed world is e =
-      let told = (world.calls _ (Returned r h) is).reply in
-      let same_type : told.0.0 ≡ d = method_type_once f.desc told.0.0 d told.0.1 typed in
-      returned_ok d f nums g d.result r h (subst (λ (x : Descriptor). IsOfResult x.result r) same_type told.0.2) e
+      let answered = (world.calls _ (Returned r h) is).reply in
+      let same_type : answered.0.0 ≡ d = method_type_once f.desc answered.0.0 d answered.0.1 typed in
+      returned_ok d f nums g d.result r h (subst (λ (x : Descriptor). IsOfResult x.result r) same_type answered.0.2) e
 
 -- ---- the operands of an action
 

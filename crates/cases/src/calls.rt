@@ -37,7 +37,6 @@ pub fn answer<R: Files + Threads + Sync>(rt: &R, bench: &Bench, line: &str) -> A
         "decode" => codes::decoding(bench, rest),
         "count" => codes::count(bench, rest),
         "respell" => codes::respelling(bench, rest),
-        "spell" => codes::spelling_of_one(bench, rest),
         "respell-file" => codes::respelling_file(rt, bench.alloc(), rest),
 
         "graph" => graphs::graph(bench, rest),

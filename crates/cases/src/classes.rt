@@ -4,8 +4,11 @@
 //! |---|---|
 //! | `class BYTES` | how many indices the constant pool has, and each method: its name, descriptor and flags in hexadecimal, its code, max_stack, max_locals and number of handlers; or the fault |
 
-ghost use Rattle.std.specs.Prelude.{IfOk};
+ghost use Rattle.std.specs.Prelude.{◌≡◌, ◌<◌, ◌↔◌, Some, IfOk, IsTrue, length, slice_get};
 ghost use Rattle.pv_frame.specs.Answers.{HasCode, HasReferences};
+ghost use Rattle.pv_class.specs.declared.file.Method.{Method};
+ghost use Rattle.pv_top.specs.Judging.{IsRead};
+ghost use Rattle.pv_top.specs.Verdicts as verdict;
 
 use crate::answers::{Answer, List, NoAnswer, shown};
 use crate::bench::Bench;
@@ -56,14 +59,36 @@ pub fn with_code(alloc: Global, bytes: &[u8]) -> Result<ClassFile, NoAnswer>
     ensures code { IfOk result (λ file. HasCode file 0) }
     ensures references { IfOk result (λ file. HasReferences file) }
 {
-    let class = match read_class(alloc, bytes) {
-        Ok(class) => class,
-        Err(ClassFault::Memory) => return Err(NoAnswer::Memory),
-        Err(_) => return Err(NoAnswer::Unreadable),
-    };
-    let methods = class.methods.as_slice();
-    if methods.is_empty() || methods[0].code.is_none() {
-        return Err(NoAnswer::Unreadable);
+    let class = read(alloc, bytes)?;
+    if begins_with_code(&class) {
+        Ok(class)
+    } else {
+        Err(NoAnswer::Unreadable)
     }
-    Ok(class)
+}
+
+fn read(alloc: Global, bytes: &[u8]) -> Result<ClassFile, NoAnswer>
+    ensures { IfOk result (λ file. IsRead file) }
+{
+    match read_class(alloc, bytes) {
+        Ok(class) => Ok(class),
+        Err(ClassFault::Memory) => Err(NoAnswer::Memory),
+        Err(_) => Err(NoAnswer::Unreadable),
+    }
+}
+
+// Whether a class has a first method, and that has a code.
+fn begins_with_code(class: &ClassFile) -> bool
+    requires { IsRead class.now }
+    ensures { IsTrue result → HasCode class.now 0 }
+{
+    !class.methods.as_slice().is_empty() && has_code(class)
+}
+
+// Whether the first method has a code.
+fn has_code(class: &ClassFile) -> bool
+    requires { 0 < length class.now.methods }
+    ensures { (m : Method) → slice_get class.now.methods 0 ≡ Some m → IsTrue result ↔ verdict.HasCode m }
+{
+    class.methods.as_slice()[0].code.is_some()
 }

@@ -5,38 +5,26 @@
 //! | `decode CODE` | the instructions, each after its address; or the fault |
 //! | `count CODE` | how many instructions there are |
 //! | `respell CODE` | the bytes that the decoded instructions spell |
-//! | `spell CODE ADDRESS INSTRUCTION` | the bytes that this one instruction spells, in a code with these bytes |
 //! | `respell-file PATH` | decodes the code of each method of a class file, spells it back and compares: how many methods and bytes, or the first method that fails and what is wrong |
-//!
-//! An INSTRUCTION is its form and its numbers: `plain 4`, `push 16 -128`, `local 21 255`, `iinc 1 -1`,
-//! `pool 18 255`, `branch 167 0`, `refused 23`. A target is a place in the list of instructions.
 
 use crate::answers::{Answer, List, NoAnswer, shown};
-use crate::bench::{Bench, number, words};
+use crate::bench::Bench;
 use crate::classes;
 use crate::spelling::spelled;
 use crate::values::escaped;
 use pv_base::{Files, HostFiles};
 use pv_class::{Method, read_class};
-use pv_insn::{CodeFault, Insn, Insns, Placed, decode};
+use pv_insn::{Placed, decode};
 use std::alloc::Global;
 use std::rt;
 
 /// The bytes of the longest file that is read.
 const LONGEST_FILE: usize = 4194304;
 
-// A code, decoded, or its fault.
-fn decoded(alloc: Global, code: &[u8]) -> Result<Result<Insns, CodeFault>, NoAnswer> {
-    if u32::try_from(code.len()).is_err() {
-        return Err(NoAnswer::Unreadable);
-    }
-    Ok(decode(alloc, code))
-}
-
 /// `decode CODE`
 pub fn decoding(bench: &Bench, rest: &str) -> Answer {
     let alloc = bench.alloc();
-    let insns = match decoded(alloc, &bench.bytes(rest)?)? {
+    let insns = match decode(alloc, &bench.bytes(rest)?) {
         Ok(insns) => insns,
         Err(fault) => return shown(alloc, fault),
     };
@@ -50,7 +38,7 @@ pub fn decoding(bench: &Bench, rest: &str) -> Answer {
 
 /// `count CODE`
 pub fn count(bench: &Bench, rest: &str) -> Answer {
-    match decoded(bench.alloc(), &bench.bytes(rest)?)? {
+    match decode(bench.alloc(), &bench.bytes(rest)?) {
         Ok(insns) => shown(bench.alloc(), insns.as_slice().len()),
         Err(fault) => shown(bench.alloc(), fault),
     }
@@ -59,36 +47,9 @@ pub fn count(bench: &Bench, rest: &str) -> Answer {
 /// `respell CODE`
 pub fn respelling(bench: &Bench, rest: &str) -> Answer {
     let code = bench.bytes(rest)?;
-    match decoded(bench.alloc(), &code)? {
+    match decode(bench.alloc(), &code) {
         Ok(insns) => spelling(bench.alloc(), &code, insns.as_slice()),
         Err(fault) => shown(bench.alloc(), fault),
-    }
-}
-
-/// `spell CODE ADDRESS INSTRUCTION`
-pub fn spelling_of_one(bench: &Bench, rest: &str) -> Answer {
-    let words = words(bench.alloc(), rest)?;
-    let [code, at, insn @ ..] = words.as_slice() else {
-        return Err(NoAnswer::Unreadable);
-    };
-    let placed = Placed {
-        at: number(at)?,
-        insn: read_insn(insn)?,
-    };
-    spelling(bench.alloc(), &bench.bytes(code)?, &[placed])
-}
-
-// The instruction that words write, which is no switch.
-fn read_insn(words: &[&str]) -> Result<Insn, NoAnswer> {
-    match *words {
-        ["plain", opcode] => Ok(Insn::Plain(number(opcode)?)),
-        ["push", opcode, n] => Ok(Insn::Push(number(opcode)?, number(n)?)),
-        ["local", opcode, local] => Ok(Insn::Local(number(opcode)?, number(local)?)),
-        ["iinc", local, by] => Ok(Insn::Iinc(number(local)?, number(by)?)),
-        ["pool", opcode, index] => Ok(Insn::Pool(number(opcode)?, number(index)?)),
-        ["branch", opcode, target] => Ok(Insn::Branch(number(opcode)?, number(target)?)),
-        ["refused", opcode] => Ok(Insn::Refused(number(opcode)?)),
-        _ => Err(NoAnswer::Unreadable),
     }
 }
 
@@ -132,7 +93,7 @@ fn respelling_methods(alloc: Global, methods: &[Method]) -> Answer {
 
 // What is wrong with a code: it doesn't decode, or what was decoded spells other bytes.
 fn wrong_spelling(alloc: Global, code: &[u8]) -> Result<Option<String>, NoAnswer> {
-    let insns = match decoded(alloc, code)? {
+    let insns = match decode(alloc, code) {
         Ok(insns) => insns,
         Err(fault) => return Ok(Some(shown(alloc, fault)?)),
     };

@@ -68,7 +68,10 @@ fn setting_of(alloc: Global, setting: &str) -> Result<(World, Heap), NoAnswer> {
             ["put", place, n] => heap.put(read_place(alloc, place)?, number(n)?)?,
             ["throws", class, name, desc, thrown] => {
                 let sym = read_sym(alloc, class, name, desc)?;
-                let reply = Outcome::Threw(Fault::Thrown(number(thrown)?), heap.copy()?);
+                let thrown: u64 = number(thrown)?;
+                let left = heap.copy()?;
+                left.law_ranges();
+                let reply = Outcome::Threw(Fault::Thrown(thrown), left);
                 let args = Nums::from(Vec::new(alloc));
                 world.add_call(sym, heap.copy()?, args, reply)?;
             }

@@ -38,7 +38,7 @@ impl From<AllocError> for SpellFault {
 
 /// The bytes that the instructions of a code spell.
 ///
-/// They follow from the instructions and their addresses alone, but for what stands behind the
+/// They follow from the instructions and their addresses alone, but for what stands after the
 /// opcode of an instruction that isn't accepted: that is taken from the code. A local is spelled in
 /// two bytes where the next address is that of the wide form; the padding of a switch is 0.
 pub fn spelled(alloc: Global, code: &[u8], placed: &[Placed]) -> Result<Vec<u8>, SpellFault> {
@@ -81,7 +81,7 @@ impl Speller<'_> {
         }
     }
 
-    // The address behind the instruction at a place.
+    // The address after the instruction at a place.
     fn end(&self, place: usize) -> usize {
         match self.placed.get(place.saturating_add(1)) {
             Some(next) => next.at as usize,
@@ -210,7 +210,7 @@ impl Speller<'_> {
         Ok(())
     }
 
-    // The opcode, and what the code has behind it.
+    // The opcode, and what the code has after it.
     fn refused(&mut self, at: u32, place: usize, opcode: u8) -> Result<(), SpellFault> {
         let own = self.code.get(at as usize..self.end(place));
         match own {
@@ -227,9 +227,9 @@ impl Speller<'_> {
     }
 }
 
-// The last of so many numbers from a lowest on.
+// The last of this many numbers from a lowest on.
 fn highest(low: i32, count: usize) -> Option<i32> {
-    let behind = i64::from(low).checked_add(i64::try_from(count).ok()?)?;
-    let high = i32::try_from(behind.checked_sub(1)?).ok()?;
+    let after = i64::from(low).checked_add(i64::try_from(count).ok()?)?;
+    let high = i32::try_from(after.checked_sub(1)?).ok()?;
     if high < low { None } else { Some(high) }
 }

@@ -5,8 +5,6 @@
 #
 #   tests/cost.sh [CRATE ..]      all crates if none is named; what a named one stands on is proved first,
 #                                 and not measured
-#
-# The output is the table of docs/CONTRIBUTING.md.
 set -eu
 top=$(cd "$(dirname "$0")/.." && pwd)
 work=$(mktemp -d)

@@ -91,7 +91,7 @@ theta_or_not (theta d) = inl (d, refl)
 theta_or_not s = inr refl
 
 -- kids of one sort in both have one list of sorts
-same_sorts_of : (all all' : List OpSort) (ks : List ℕ) (ss ts : List OpSort) → HaveSorts all ks ss → HaveSorts all' ks ts → ((p k : ℕ) → slice_get ks p ≡ Some k → slice_get all k ≡ slice_get all' k) → ss ≡ ts
+pub same_sorts_of : (all all' : List OpSort) (ks : List ℕ) (ss ts : List OpSort) → HaveSorts all ks ss → HaveSorts all' ks ts → ((p k : ℕ) → slice_get ks p ≡ Some k → slice_get all k ≡ slice_get all' k) → ss ≡ ts
 same_sorts_of all all' [] [] [] h y same = refl
 same_sorts_of all all' [] [] (t ∷ ts) h y same = absurd y
 same_sorts_of all all' [] (s ∷ ss) ts h y same = absurd h
@@ -157,7 +157,7 @@ module _ (nodes : List Node) (cycles : LeavesNoSortOpen nodes) (all all' : List 
   each_same : (n : ℕ) → n < length nodes → slice_get all n ≡ slice_get all' n
   each_same n lt = sort_same n (all_grounded (form_at nodes) cycles numbers_of n (in_range 0 (length nodes) n (omega arith) (omega arith))) lt
 
-same_everywhere : (xs ys : List OpSort) → length xs ≡ length ys → ((n : ℕ) → n < length xs → slice_get xs n ≡ slice_get ys n) → xs ≡ ys
+pub same_everywhere : (xs ys : List OpSort) → length xs ≡ length ys → ((n : ℕ) → n < length xs → slice_get xs n ≡ slice_get ys n) → xs ≡ ys
 same_everywhere [] [] e h = refl
 same_everywhere [] (y ∷ ys) e h = absurd (omega arith)
 same_everywhere (x ∷ xs) [] e h = absurd (omega arith)

@@ -13,3 +13,4 @@ pub mod Reaching
 pub mod Marking
 pub mod TieLaws
 pub mod FiniteTrees
+pub mod Basing

@@ -142,7 +142,7 @@ in_place [] p k e = absurd (let z = e in cc)
 in_place (l ∷ ks) zero k e = inl (same_Some l k e)
 in_place (l ∷ ks) (suc p) k e = inr (in_place ks p k e)
 
-place_of : {A : Type 0} → (ks : List A) (k : A) → In ks k → (p : ℕ) × (slice_get ks p ≡ Some k)
+pub place_of : {A : Type 0} → (ks : List A) (k : A) → In ks k → (p : ℕ) × (slice_get ks p ≡ Some k)
 place_of [] k m = absurd m
 place_of (l ∷ ks) k (inl e) = (0, ap Some e)
 place_of (l ∷ ks) k (inr m) = let r = place_of ks k m in (suc r.0, r.1)

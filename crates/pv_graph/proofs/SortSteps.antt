@@ -14,7 +14,7 @@ use Rattle.pv_graph.specs.declared.node.OpSort.{OpSort}
 use Rattle.pv_graph.specs.declared.node.OpSort.TheVariants.{I, L, A, N, F, T, H, R}
 use Rattle.pv_graph.specs.Ops.{same_sort, same_sorts, exactly, type_sort, type_sorts, HaveSorts}
 
-same_sort_test : (s t : OpSort) → sort_eq.it s t ≡ same_sort s t
+pub same_sort_test : (s t : OpSort) → sort_eq.it s t ≡ same_sort s t
 same_sort_test I I = refl
 same_sort_test L L = refl
 same_sort_test A A = refl

@@ -13,3 +13,4 @@ pub mod SortCode
 pub mod Index
 pub mod Kept
 pub mod Reach
+pub mod Base

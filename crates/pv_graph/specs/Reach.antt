@@ -8,20 +8,24 @@ use Rattle.pv_graph.specs.declared.reach.Use.{Use}
 use Rattle.pv_graph.specs.declared.reach.Look.{Look}
 use Rattle.pv_graph.specs.declared.reach.Look.TheVariants as look
 use Rattle.pv_graph.specs.Ops.{may_not_end}
+use Rattle.pv_graph.specs.SortCode.{is_source}
 use Rattle.pv_graph.specs.Walks.{In}
 
--- a node with the operation is one to be reached
+-- a node with the operation is one to be reached; for a sort these are told apart
 abbrev pub begins : Look → Op → Bool
 begins (look.Free d) (op.Theta e) = e == d
 begins (look.Free d) o = false
 begins look.All o = may_not_end o
+begins look.Sort o = false
 
--- the kid at a place counts: for a depth that is free not the first kid of its eval, nor the kid of its pass
+-- the kid at a place counts: for a depth that is free not the first kid of its eval, nor the kid of its pass; for a sort
+-- the kid alone whose sort is taken
 abbrev pub follows : Look → Op → ℕ → Bool
 follows (look.Free d) (op.Eval e) place = not (e == d) || not (place == 0)
 follows (look.Free d) (op.Pass e) place = not (e == d)
 follows (look.Free d) o place = true
 follows look.All o place = true
+follows look.Sort o place = is_source o place
 
 -- for each node the places at which it is a kid
 abbrev pub Uses : Type 0

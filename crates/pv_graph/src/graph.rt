@@ -8,17 +8,21 @@ ghost use Rattle.pv_graph.specs.Nodes.{node_of, AreTied, IsOpen, IsAbsent};
 ghost use Rattle.pv_graph.specs.Index.{IsIndex};
 ghost use Rattle.pv_graph.specs.Reach.{IsSearched};
 ghost use Rattle.pv_graph.specs.Ops.{HaveSorts, HasSort, is_depth};
-ghost use Rattle.pv_graph.specs.Calls.{AreNodes, Added, FitsOver, Begun, HaveItsSort, HaveOneSort, IsFinished, IsFree, IsOpenTheta, IsSame, IsSettledIn, MayAdd, Sealed, Tied, empty_graph};
+ghost use Rattle.pv_graph.specs.Calls.{AreNodes, AreSorts, Added, FitsOver, Begun, HaveItsSort, HaveOneSort, IsBase, IsDistinct, IsFinished, IsFree, IsOpenTheta, IsSame, IsSettledIn, LeavesNoSortOpen, MayAdd, Sealed, Tied, empty_graph};
 
+use crate::base::{base_sorts, see_ranges};
 use crate::fault::GraphFault;
 use crate::index::Index;
 use crate::node::{Node, NodeId, Op, OpSort};
 use crate::prepared::{Prepared, prepared_of};
 use crate::reach::{Look, left_out, marks_of, uses_of};
-use crate::sort::sort_of;
+use crate::sort::{sort_of, sorts_of};
 use pv_value::Memory;
 use std::alloc::{AllocError, Global};
 use std::marker::Model;
+
+// A graph has fewer than 2^32 nodes.
+const MOST_NODES: usize = 0xFFFF_FFFF;
 
 /// A graph, seen as its nodes and their sorts, whether it is open, how many nodes its base has, and
 /// whether it is prepared.
@@ -43,18 +47,6 @@ impl Model for Graph {
     ghost invariant = { λ g. IsKept (graph_of g.nodes.items g.sorts.items g.is_open g.base g.prepared) g.index.numbers g.prepared };
 }
 
-// The sorts of nodes.
-fn sorts_of(alloc: Global, sorts: &Vec<OpSort>, kids: &[NodeId]) -> Result<Vec<OpSort>, AllocError>
-    requires { All (λ k. k < vec_len sorts.now) kids.now }
-    ensures { IfOk result (λ found. HaveSorts sorts.now.items kids.now found.items) }
-{
-    let mut found = Vec::new(alloc);
-    for kid in kids {
-        found.push(sorts[*kid as usize])?;
-    }
-    Ok(found)
-}
-
 // Makes room for one more node, of which there are then fewer than 2^32.
 fn reserve(nodes: &mut Vec<Node>, sorts: &mut Vec<OpSort>) -> Result<(), Memory>
     ensures nodes { nodes.new.items ≡ nodes.old.items }
@@ -63,7 +55,7 @@ fn reserve(nodes: &mut Vec<Node>, sorts: &mut Vec<OpSort>) -> Result<(), Memory>
     ensures node_room { OnOk result (vec_len nodes.new < vec_capacity nodes.new) }
     ensures sort_room { OnOk result (vec_len sorts.new < vec_capacity sorts.new) }
 {
-    if nodes.len() >= 0xFFFF_FFFF {
+    if nodes.len() >= MOST_NODES {
         return Err(Memory);
     }
     nodes.reserve(1)?;
@@ -286,6 +278,33 @@ impl Graph {
             index: index_of(alloc, &self.nodes)?,
             is_open: self.is_open,
             base: self.base,
+            prepared: None,
+        })
+    }
+
+    /// The sealed graph of these nodes, each of which may name later ones. `Sort` says that some node's
+    /// kids are too few, too many, of the wrong sort or no nodes, `Memory` that memory ran out or that
+    /// there are 2^32 nodes or more. Its time is linear in the number of nodes and kids.
+    pub fn of_base(alloc: Global, nodes: Vec<Node>) -> Result<Graph, GraphFault>
+        requires distinct { IsDistinct nodes.items }
+        requires cycles { LeavesNoSortOpen nodes.items }
+        ensures ok { IfOk result (λ g. IsBase g nodes.items) }
+        ensures sort { result ≡ Err GraphFault.Sort → (sorts : List OpSort) → AreSorts nodes.items sorts → ⊥ }
+    {
+        if nodes.len() > MOST_NODES {
+            return Err(GraphFault::Memory);
+        }
+        let Some(sorts) = base_sorts(alloc, &nodes)? else {
+            return Err(GraphFault::Sort);
+        };
+        see_ranges(&nodes);
+        let index = index_of(alloc, &nodes)?;
+        Ok(Graph {
+            base: nodes.len() as u32,
+            nodes,
+            sorts,
+            index,
+            is_open: false,
             prepared: None,
         })
     }

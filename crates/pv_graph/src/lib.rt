@@ -11,15 +11,17 @@
 //!
 //! The layers above use the clauses of `Graph`: `add` gives the least number of a node (`Added`),
 //! `theta`, `tie` and `seal` say exactly what they change (`Begun`, `Tied`, `Sealed`), an error leaves
-//! the graph as it was, and `free`, `settled` and their forms on a prepared graph answer exactly
-//! `Free` and `IsSettled`. `laws` has the laws (`Laws`), each as the contract of a function that does
-//! nothing.
+//! the graph as it was, `of_base` makes the sealed graph of a list of nodes (`IsBase`), and `free`,
+//! `settled` and their forms on a prepared graph answer exactly `Free` and `IsSettled`. `laws` has the
+//! laws (`Laws`), each as the contract of a function that does nothing.
 //!
-//! `Index`, `Kept`, `Reach` and `SortCode` are private to this crate: how a node finds its number, what
-//! a graph keeps, and how the nodes that reach others are found, from these back along the places at
-//! which they are kids, by a list of work.
+//! `Index`, `Kept`, `Reach`, `SortCode` and `Base` are private to this crate: how a node finds its
+//! number, what a graph keeps, how the nodes that reach others are found, from these back along the
+//! places at which they are kids, by a list of work, and how the sorts of a base are found so: for each
+//! sort, back from the operations that give it to the nodes that take it.
 #![tactic(auto)]
 
+mod base;
 mod fault;
 mod graph;
 mod index;

@@ -14,12 +14,13 @@ pub(crate) struct Use {
     pub(crate) place: usize,
 }
 
-// What is looked for: the thetas of a depth, through the kids through which it is free; or what may not
-// end, through all kids.
+// What is looked for: the thetas of a depth, through the kids through which it is free; what may not
+// end, through all kids; or what gives a sort, through the kids whose sorts are taken.
 #[derive(Clone, Copy)]
 pub(crate) enum Look {
     Free(u32),
     All,
+    Sort,
 }
 
 impl Look {
@@ -41,6 +42,9 @@ impl Look {
         match (self, op) {
             (Look::Free(d), Op::Eval(e)) => *e != d || place != 0,
             (Look::Free(d), Op::Pass(e)) => *e != d,
+            (Look::Sort, Op::Phi) => place == 1,
+            (Look::Sort, Op::Theta(_) | Op::Eval(_) | Op::Shift(_)) => place == 0,
+            (Look::Sort, _) => false,
             _ => true,
         }
     }

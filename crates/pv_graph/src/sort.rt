@@ -1,13 +1,16 @@
 //! The sort of an operation over kids of some sorts.
 
-ghost use Rattle.std.specs.Prelude.{◌≡◌, ◌∷◌, List, MatchOption, IfOk, None, Some};
+ghost use Rattle.std.specs.Prelude.{◌≡◌, ◌∷◌, ◌<◌, List, MatchOption, IfOk, None, Some, vec_len};
+ghost use Rattle.std.specs.List.{All};
 ghost use Rattle.pv_value.specs.Spelled.{bind, field_type, method_type};
-ghost use Rattle.pv_graph.specs.Ops.{sort_over, exactly, param_sort, but_root, alike, choice_sort, eval_sort, shift_sort, root_sort, type_sort, type_sorts, kind_sort, field_sort, call_sorts};
-ghost use Rattle.pv_graph.specs.SortCode.{scalar_sort, in_loop, IsOnField};
+ghost use Rattle.pv_graph.specs.Ops.{HaveSorts, sort_over, exactly, param_sort, but_root, alike, choice_sort, eval_sort, shift_sort, root_sort, type_sort, type_sorts, kind_sort, field_sort, call_sorts};
+ghost use Rattle.pv_value.specs.Operations.{gives};
+ghost use Rattle.pv_graph.specs.Ops.{word_sort};
+ghost use Rattle.pv_graph.specs.SortCode.{scalar_sort, in_loop, own_result, own_sort, IsOnField};
 
-use crate::node::{Op, OpSort};
+use crate::node::{NodeId, Op, OpSort};
 use pv_value::{Descriptor, JType, Kind, Memory, ScalarOp, Sym, read_descriptor, read_field_type};
-use std::alloc::Global;
+use std::alloc::{AllocError, Global};
 
 // The sort over kids of exactly these sorts.
 fn exactly(takes: &[OpSort], gives: OpSort, kids: &[OpSort]) -> Option<OpSort>
@@ -285,5 +288,72 @@ pub(crate) fn sort_of(alloc: Global, op: &Op, kids: &[OpSort]) -> Result<Option<
         Op::CallRes(sym) => result_sort(alloc, sym, kids),
         Op::CallFault(sym) => part_sort(alloc, sym, F, kids),
         Op::CallHeap(sym) => part_sort(alloc, sym, H, kids),
+    }
+}
+
+/// The sorts of nodes.
+pub(crate) fn sorts_of(
+    alloc: Global,
+    sorts: &Vec<OpSort>,
+    kids: &[NodeId],
+) -> Result<Vec<OpSort>, AllocError>
+    requires { All (λ k. k < vec_len sorts.now) kids.now }
+    ensures { IfOk result (λ found. HaveSorts sorts.now.items kids.now found.items) }
+{
+    let mut found = Vec::new(alloc);
+    for kid in kids {
+        found.push(sorts[*kid as usize])?;
+    }
+    Ok(found)
+}
+
+// The sort that an operation on numbers gives.
+fn scalar_gives(op: ScalarOp) -> OpSort
+    ensures { result ≡ word_sort (gives op) }
+{
+    use ScalarOp::*;
+    match op {
+        I2l | Ladd | Lsub | Lmul | Ldiv | Lrem | Lshl | Lshr | Lushr | Land | Lor | Lxor | Lneg => {
+            OpSort::L
+        }
+        _ => OpSort::I,
+    }
+}
+
+// The sort of a call's result, which a void call doesn't have.
+fn own_result(alloc: Global, sym: &Sym) -> Result<Option<OpSort>, Memory>
+    ensures { IfOk result (λ found. found ≡ own_result sym.now) }
+{
+    match call_sorts(alloc, sym)? {
+        Some(call) => Ok(call.result),
+        None => Ok(None),
+    }
+}
+
+/// The sort that an operation gives whatever its kids are; `None` where it takes the sort of a kid, or
+/// gives none at all. It takes memory where the operation is one of a call.
+pub(crate) fn own_sort(alloc: Global, op: &Op) -> Result<Option<OpSort>, Memory>
+    ensures { IfOk result (λ found. found ≡ own_sort op.now) }
+{
+    use OpSort::{A, F, H, I, L, N, R, T};
+    match op {
+        Op::Int(_) | Op::IsClear | Op::Aeq | Op::Length => Ok(Some(I)),
+        Op::Long(_) => Ok(Some(L)),
+        Op::Null | Op::Literal(_) | Op::This => Ok(Some(A)),
+        Op::Param(_, sort) => Ok(Some(*sort)),
+        Op::Heap0 | Op::PutStatic(_) | Op::PutField(_) | Op::Store(_) | Op::CallHeap(_) => Ok(Some(
+            H,
+        )),
+        Op::Unit | Op::Never | Op::Both | Op::CallEnd(_) => Ok(Some(T)),
+        Op::Clear | Op::FNull | Op::FArith | Op::FIndex | Op::Thrown | Op::CallFault(_) => Ok(Some(
+            F,
+        )),
+        Op::Zero | Op::Succ | Op::Pass(_) => Ok(Some(N)),
+        Op::Root => Ok(Some(R)),
+        Op::Scalar(op) => Ok(Some(scalar_gives(*op))),
+        Op::GetStatic(sym) | Op::GetField(sym) => Ok(field_sort(sym)),
+        Op::Load(kind) => Ok(Some(kind_sort(*kind))),
+        Op::CallRes(sym) => own_result(alloc, sym),
+        Op::Phi | Op::Theta(_) | Op::Eval(_) | Op::Shift(_) => Ok(None),
     }
 }

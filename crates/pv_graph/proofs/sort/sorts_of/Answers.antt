@@ -1,6 +1,6 @@
 use Rattle.std.proofs.Common.{◌<◌, length, get_or, rules}
 use Rattle.pv_graph.proofs.SortSteps.{have_push}
-use Rattle.pv_graph.proofs.graph.sorts_of.Goals as goal
+use Rattle.pv_graph.proofs.sort.sorts_of.Goals as goal
 
 pub loop-kid-preserved : goal.loop-kid-preserved
 loop-kid-preserved c =

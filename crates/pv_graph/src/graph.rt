@@ -2,12 +2,11 @@
 
 ghost use Rattle.std.specs.Prelude.{◌≡◌, ◌≢◌, ◌↔◌, ◌<◌, ◌+◌, ◌^◌, ◌∷◌, ◌++◌, [], length, slice_get, true, false, Some, List, ℕ, IsTrue, IfOk, OnOk, OnErr, vec_len, vec_capacity};
 ghost use Rattle.pv_graph.specs.Graphs.{IsGraph, IsRanged};
-ghost use Rattle.std.specs.List.{All};
 ghost use Rattle.std.specs.Bool.{OnTrue, OnFalse};
 ghost use Rattle.pv_graph.specs.Nodes.{node_of, AreTied, IsOpen, IsAbsent};
 ghost use Rattle.pv_graph.specs.Index.{IsIndex};
 ghost use Rattle.pv_graph.specs.Reach.{IsSearched};
-ghost use Rattle.pv_graph.specs.Ops.{HaveSorts, HasSort, is_depth};
+ghost use Rattle.pv_graph.specs.Ops.{HasSort, is_depth};
 ghost use Rattle.pv_graph.specs.Calls.{AreNodes, AreSorts, Added, FitsOver, Begun, HaveItsSort, HaveOneSort, IsBase, IsDistinct, IsFinished, IsFree, IsOpenTheta, IsSame, IsSettledIn, LeavesNoSortOpen, MayAdd, Sealed, Tied, empty_graph};
 
 use crate::base::{base_sorts, see_ranges};
@@ -18,10 +17,10 @@ use crate::prepared::{Prepared, prepared_of};
 use crate::reach::{Look, left_out, marks_of, uses_of};
 use crate::sort::{sort_of, sorts_of};
 use pv_value::Memory;
-use std::alloc::{AllocError, Global};
+use std::alloc::Global;
 use std::marker::Model;
 
-// A graph has fewer than 2^32 nodes.
+// The most nodes that a graph has.
 const MOST_NODES: usize = 0xFFFF_FFFF;
 
 /// A graph, seen as its nodes and their sorts, whether it is open, how many nodes its base has, and

@@ -6,11 +6,10 @@ use Rattle.std.proofs.lemmas.Option.{slice_get_within, slice_get-get_or, same_So
 use Rattle.std.proofs.lemmas.List.Elements.{All-from_recursion}
 use Rattle.std.proofs.lemmas.Map.Keys.{IsDistinct-from_apart}
 use Rattle.std.proofs.lemmas.Map.Steps.{length-le_from_distinct_below}
-use Rattle.pv_dag.specs.declared.node.Node.{Node}
-use Rattle.pv_dag.specs.Nodes.{IsGraph}
+use Rattle.pv_graph.specs.declared.node.Node.{Node}
 use Rattle.pv_alike.specs.Visits.{Visits}
 use Rattle.pv_alike.specs.Renumbered.{IsClosed}
-use Rattle.pv_alike.proofs.Places.{contains_at, Apart, apart_none}
+use Rattle.pv_alike.proofs.Places.{place_of, contains_at, Apart, apart_none}
 use Rattle.pv_alike.proofs.Orders.{visits_apart, visits_closed}
 use Rattle.pv_alike.proofs.Seen.{has_found}
 
@@ -42,10 +41,15 @@ distinct_apart xs apart = IsDistinct-from_apart eqb xs (λ i j d lt lt'. differ 
         let one : i ≡ j = apart i j (get_or xs j d) (slice_get-get_or xs i d (omega arith) ∙ ap Some same) (slice_get-get_or xs j d lt') in
         absurd (omega arith)
 
+-- numbers below a bound, none twice, are no more than the bound
+pub apart_low : (xs : List ℕ) (n : ℕ) → Apart xs → ((p x : ℕ) → slice_get xs p ≡ Some x → x < n) → length xs ≤ n
+apart_low xs n apart low =
+    length-le_from_distinct_below xs n (distinct_apart xs apart) (λ x found. let at = place_of xs x (has_found xs x found) in low at.0 x at.1)
+
 -- the order is no longer than the graph
-pub order_small : (g : List Node) (order todo : List ℕ) → IsGraph g → Visits g order [] todo → length order < 2 ^ 32
-order_small g order todo graph visits =
+pub order_small : (g : List Node) (order todo : List ℕ) → length g < 2 ^ 32 → Visits g order [] todo → length order < 2 ^ 32
+order_small g order todo small visits =
     let le : length order ≤ length g =
-    length-le_from_distinct_below order (length g) (distinct_apart order (visits_apart g order [] todo visits apart_none))
-    (λ n found. let has = visits_closed g order todo visits n (has_found order n found) in slice_get_within g n has.0 has.1) in
-    omega (arith, graph.small)
+    apart_low order (length g) (visits_apart g order [] todo visits apart_none)
+    (λ p n at. let has = visits_closed g order todo visits n (contains_at order n p at) in slice_get_within g n has.0 has.1) in
+    omega arith

@@ -2,10 +2,11 @@
 use Rattle.std.proofs.Common.{◌≡◌, ℕ, zero, suc, ◌<◌, List, [], ◌∷◌, ◌++◌, length, slice_get, Some, refl, sym, ap, ◌∙◌, subst, arith, length-append}
 use Rattle.std.specs.List.{range_with_len}
 use Rattle.std.proofs.lemmas.Option.{slice_get_within, same_Some}
-use Rattle.pv_dag.specs.declared.node.Op.{Op}
-use Rattle.pv_dag.specs.declared.node.Node.{Node}
-use Rattle.pv_dag.specs.Trees.{Tree, over, trees_of, unfold_at}
-use Rattle.pv_dag.specs.TreeLaws.{unfold_of}
+use Rattle.pv_graph.specs.declared.node.Op.{Op}
+use Rattle.pv_graph.specs.declared.node.Node.{Node}
+use Rattle.pv_graph.specs.Unfold.{Tree, over, trees_of, unfold_at}
+use Rattle.pv_graph.specs.Graphs.{form_at}
+use Rattle.pv_graph.proofs.NodeLaws.{unfold_of}
 use Rattle.pv_alike.specs.Visits.{Visits, done, again, new}
 use Rattle.pv_alike.specs.Least.{UnfoldsAs}
 use Rattle.pv_alike.specs.Renumbered.{ArePlaces, IsCopyOf, IsRenumbered}
@@ -31,10 +32,10 @@ copy_unfolds g order h copies p n at (suc m) =
     let copy = found.0 in
     let node = found.2.0 in
     let is = found.2.2 in
-    let kids : trees_of copy.kids (unfold_at h m) ≡ trees_of node.kids (unfold_at g m) =
-    kids_unfold order copy.kids node.kids (unfold_at h m) (unfold_at g m) (λ q k there. copy_unfolds g order h copies q k there m) is.kids in
+    let kids : trees_of copy.kids (unfold_at (form_at h) m) ≡ trees_of node.kids (unfold_at (form_at g) m) =
+    kids_unfold order copy.kids node.kids (unfold_at (form_at h) m) (unfold_at (form_at g) m) (λ q k there. copy_unfolds g order h copies q k there m) is.kids in
     unfold_of h p m copy found.1
-    ∙ ap (λ (o : Op). over o (trees_of copy.kids (unfold_at h m))) is.op
+    ∙ ap (λ (o : Op). over o (trees_of copy.kids (unfold_at (form_at h) m))) is.op
     ∙ ap (over node.op) kids
     ∙ sym (unfold_of g n m node found.2.1)
 

@@ -3,13 +3,14 @@ use Rattle.std.proofs.Common.{◌≡◌, ℕ, suc, ◌<◌, List, [], ◌∷◌,
 use Rattle.std.specs.List.{Contains, AllZip, AllByRecursion, range_with_len}
 use Rattle.std.proofs.lemmas.Option.{same_Some}
 use Rattle.std.proofs.lemmas.List.FromFn.{length-range_with_len}
-use Rattle.pv_dag.specs.declared.node.Op.{Op}
-use Rattle.pv_dag.specs.declared.node.Node.{Node}
-use Rattle.pv_dag.specs.Elements.{found}
-use Rattle.pv_dag.specs.Trees.{over, trees_of, unfold_at, UnfoldEqually}
-use Rattle.pv_dag.specs.TreeLaws.{unfold_of}
+use Rattle.pv_graph.specs.declared.node.Op.{Op}
+use Rattle.pv_graph.specs.declared.node.Node.{Node}
+use Rattle.pv_graph.specs.Elements.{found}
+use Rattle.pv_graph.specs.Unfold.{over, trees_of, unfold_at}
+use Rattle.pv_graph.specs.Graphs.{form_at}
+use Rattle.pv_graph.proofs.NodeLaws.{unfold_of}
 use Rattle.pv_alike.specs.Visits.{Visits, done, again, new}
-use Rattle.pv_alike.specs.Least.{UnfoldsAs, IsLeast}
+use Rattle.pv_alike.specs.Least.{UnfoldEqually, UnfoldsAs, IsLeast}
 use Rattle.pv_alike.proofs.Places.{place_of, contains_at, partner, zip_length, zip_append, range_get, range_below}
 use Rattle.pv_alike.proofs.Orders.{front_at, visits_all}
 use Rattle.pv_alike.proofs.LeastLaws.{least_within}
@@ -20,7 +21,7 @@ use Rattle.pv_alike.proofs.LeastLaws.{least_within}
 abbrev pub AllUnfold : List Node → List Node → List ℕ → List ℕ → Type 0
 AllUnfold h h' ps qs = AllZip (λ p q. UnfoldsAs h p h' q) ps qs
 
-all_unfold : (h h' : List Node) (ks ls : List ℕ) → ((m : ℕ) → trees_of ks (unfold_at h m) ≡ trees_of ls (unfold_at h' m)) → AllUnfold h h' ks ls
+all_unfold : (h h' : List Node) (ks ls : List ℕ) → ((m : ℕ) → trees_of ks (unfold_at (form_at h) m) ≡ trees_of ls (unfold_at (form_at h') m)) → AllUnfold h h' ks ls
 all_unfold h h' [] [] same = tt
 all_unfold h h' [] (l ∷ ls) same = let e = same 0 in absurd (cc)
 all_unfold h h' (k ∷ ks) [] same = let e = same 0 in absurd (cc)
@@ -29,7 +30,7 @@ all_unfold h h' (k ∷ ks) (l ∷ ls) same = ((λ m. let e = same m in cc), all_
 -- nodes that unfold equally have one operation, and kids that unfold equally
 pub parts : (h h' : List Node) (p q : ℕ) (x y : Node) → slice_get h p ≡ Some x → slice_get h' q ≡ Some y → UnfoldsAs h p h' q → (x.op ≡ y.op) × AllUnfold h h' x.kids y.kids
 parts h h' p q x y at at' same =
-    let both : (m : ℕ) → over x.op (trees_of x.kids (unfold_at h m)) ≡ over y.op (trees_of y.kids (unfold_at h' m)) =
+    let both : (m : ℕ) → over x.op (trees_of x.kids (unfold_at (form_at h) m)) ≡ over y.op (trees_of y.kids (unfold_at (form_at h') m)) =
     λ m. sym (unfold_of h p m x at) ∙ same (suc m) ∙ unfold_of h' q m y at' in
     ((let e = both 0 in cc), all_unfold h h' x.kids y.kids (λ m. let e = both m in cc))
 

@@ -1,11 +1,24 @@
 pub mod Places
 pub mod Orders
+pub mod Seen
+pub mod Rows
 pub mod Copies
 pub mod LeastLaws
 pub mod LeastOnce
-pub mod LeastFewest
-pub mod Seen
+pub mod Origins
+pub mod Repeating
+pub mod Fewest
+pub mod Ruled
+pub mod Search
+pub mod Passes
+pub mod Made
 pub mod Closed
 pub mod Work
 pub mod Visiting
-mod Examples
+pub mod Upward
+pub mod Settled
+pub mod Keying
+pub mod Classing
+pub mod Refining
+pub mod Quotients
+pub mod Based

@@ -1,11 +1,10 @@
 -- A visit that has come some way: what has been visited, and the stack of what is to be visited, whose end is next.
 use Rattle.std.proofs.Common.{◌≡◌, ℕ, ◌+◌, ◌-◌, ◌<◌, Bool, true, false, List, [], ◌∷◌, ◌++◌, length, reverse, slice_get, Some, refl, sym, ap, ◌∙◌, subst, arith, length-append}
 use Rattle.std.specs.List.{All, Contains}
-use Rattle.std.proofs.lemmas.List.Elements.{All-append, All-contains, All-weaker, All-from_recursion, Contains-push}
+use Rattle.std.proofs.lemmas.List.Elements.{All-append, All-contains, Contains-push}
 use Rattle.std.proofs.lemmas.List.{get_or_append_left, get_or-reverse, reverse-append, reverse-reverse, length-reverse}
-use Rattle.std.proofs.lemmas.Option.{slice_get_within}
-use Rattle.pv_dag.specs.declared.node.Node.{Node}
-use Rattle.pv_dag.specs.Nodes.{IsGraph}
+use Rattle.pv_graph.specs.declared.node.Node.{Node}
+use Rattle.pv_alike.specs.Renumbered.{AreKidsWithin}
 use Rattle.pv_alike.specs.Visits.{Visits, done, again, new, Visited}
 use Rattle.pv_alike.proofs.Work.{work, work_visit}
 
@@ -42,16 +41,15 @@ All-reverse P xs all = λ k d lt.
     let lt' : k < length xs = omega (arith, length-reverse xs) in
     subst P (sym (get_or-reverse xs k d lt')) (all (length xs - 1 - k) d (omega arith))
 
-kids_low : (g : List Node) (n : ℕ) (node : Node) → IsGraph g → slice_get g n ≡ Some node → All (λ k. k < length g) (reverse node.kids)
-kids_low g n node graph is = All-reverse (λ k. k < length g) node.kids
-    (All-weaker (λ k. k < n) (λ k. k < length g) (λ k lt. let within : n < length g = slice_get_within g n node is in omega arith) node.kids (All-from_recursion (λ k. k < n) node.kids (graph.acyclic n node is)))
+kids_low : (g : List Node) (n : ℕ) (node : Node) → AreKidsWithin g → slice_get g n ≡ Some node → All (λ k. k < length g) (reverse node.kids)
+kids_low g n node within is = All-reverse (λ k. k < length g) node.kids (within n node is)
 
 -- the kids of a node that is new are next
-pub visiting_new : (g : List Node) (first second : ℕ) (order stack rest : List ℕ) (n : ℕ) (node : Node) → IsGraph g → IsVisiting g first second order stack → stack ≡ rest ++ n ∷ [] → (Contains order n → ⊥) → slice_get g n ≡ Some node → IsVisiting g first second (order ++ n ∷ []) (rest ++ reverse node.kids)
-visiting_new g first second order stack rest n node graph is e absent at = record {
+pub visiting_new : (g : List Node) (first second : ℕ) (order stack rest : List ℕ) (n : ℕ) (node : Node) → AreKidsWithin g → IsVisiting g first second order stack → stack ≡ rest ++ n ∷ [] → (Contains order n → ⊥) → slice_get g n ≡ Some node → IsVisiting g first second (order ++ n ∷ []) (rest ++ reverse node.kids)
+visiting_new g first second order stack rest n node within is e absent at = record {
   continues = λ whole visits. is.continues whole (subst (λ (todo : List ℕ). Visits g whole order todo) (sym (todo_taken stack rest n e))
       (new order n (reverse rest) node absent at (subst (λ (todo : List ℕ). Visits g whole (order ++ n ∷ []) todo) (todo_put rest node.kids) visits)));
-  low = All-append (λ k. k < length g) rest (reverse node.kids) (front_low g stack rest n e is.low) (kids_low g n node graph at);
+  low = All-append (λ k. k < length g) rest (reverse node.kids) (front_low g stack rest n e is.low) (kids_low g n node within at);
 }
 
 -- nothing is left to be visited
@@ -75,12 +73,12 @@ turn_again g first second order order' stack rest n is_new is e visit old =
     let there = subst (λ b. Visited order order' n b) old visit in
     subst (λ (xs : List ℕ). IsVisiting g first second xs rest) (sym there.1) (visiting_again g first second order stack rest n is e there.0)
 
-pub turn_new : (g : List Node) (first second : ℕ) (order order' stack rest : List ℕ) (n : ℕ) (is_new : Bool) (node : Node) (kids stack' : List ℕ) → IsGraph g → IsVisiting g first second order stack → stack ≡ rest ++ n ∷ [] → Visited order order' n is_new → is_new ≡ true → slice_get g n ≡ Some node → kids ≡ node.kids → stack' ≡ rest ++ reverse kids → IsVisiting g first second order' stack'
-turn_new g first second order order' stack rest n is_new node kids stack' graph is e visit young at same e' =
+pub turn_new : (g : List Node) (first second : ℕ) (order order' stack rest : List ℕ) (n : ℕ) (is_new : Bool) (node : Node) (kids stack' : List ℕ) → AreKidsWithin g → IsVisiting g first second order stack → stack ≡ rest ++ n ∷ [] → Visited order order' n is_new → is_new ≡ true → slice_get g n ≡ Some node → kids ≡ node.kids → stack' ≡ rest ++ reverse kids → IsVisiting g first second order' stack'
+turn_new g first second order order' stack rest n is_new node kids stack' within is e visit young at same e' =
     let absent = subst (λ b. Visited order order' n b) young visit in
     let put : stack' ≡ rest ++ reverse node.kids = e' ∙ ap (λ (ks : List ℕ). rest ++ reverse ks) same in
     subst (λ (xs : List ℕ). IsVisiting g first second xs stack') (sym absent.1)
-    (subst (IsVisiting g first second (order ++ n ∷ [])) (sym put) (visiting_new g first second order stack rest n node graph is e absent.0 at))
+    (subst (IsVisiting g first second (order ++ n ∷ [])) (sym put) (visiting_new g first second order stack rest n node within is e absent.0 at))
 
 pub turn_new_less : (g : List Node) (order order' stack rest : List ℕ) (n : ℕ) (is_new : Bool) (node : Node) (kids stack' : List ℕ) → stack ≡ rest ++ n ∷ [] → Visited order order' n is_new → is_new ≡ true → slice_get g n ≡ Some node → kids ≡ node.kids → stack' ≡ rest ++ reverse kids → left g order' stack' < left g order stack
 turn_new_less g order order' stack rest n is_new node kids stack' e visit young at same e' =

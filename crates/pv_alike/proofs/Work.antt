@@ -3,7 +3,7 @@ use Rattle.std.proofs.Common.{◌≡◌, ℕ, zero, suc, ◌+◌, ◌<◌, Bool,
 use Rattle.std.specs.List.{Contains, list_any}
 use Rattle.std.proofs.lemmas.Option.{same_Some, none-some}
 use Rattle.std.proofs.lemmas.List.Elements.{Contains-push, Contains-append_left, Contains-push_cases}
-use Rattle.pv_dag.specs.declared.node.Node.{Node}
+use Rattle.pv_graph.specs.declared.node.Node.{Node}
 use Rattle.pv_alike.proofs.Seen.{has_found, found_has}
 
 -- one for the node and one for each of its kids, where it has not been visited

@@ -1,31 +1,56 @@
 -- The least graph of two nodes of a graph.
-use Rattle.std.specs.Prelude.{◌≡◌, ◌↔◌, ℕ, ◌<◌, List, [], ◌∷◌, length}
+use Rattle.std.specs.Prelude.{◌≡◌, ◌↔◌, ℕ, ◌<◌, List, [], ◌∷◌, false, length}
 use Rattle.std.specs.List.{range_with_len}
 use Rattle.pv_value.specs.declared.world.World.{World}
 use Rattle.pv_value.specs.declared.outcome.Input.{Input}
 use Rattle.pv_value.specs.declared.outcome.Val.{Val}
-use Rattle.pv_dag.specs.declared.node.Node.{Node}
-use Rattle.pv_dag.specs.Denote.{Index, Value}
-use Rattle.pv_dag.specs.Trees.{unfold_at, UnfoldEqually}
+use Rattle.pv_graph.specs.declared.node.Node.{Node}
+use Rattle.pv_denote.specs.Denote.{Index}
+use Rattle.pv_denote.specs.Denote as denote
+use Rattle.pv_graph.specs.Unfold.{unfold_at}
+use Rattle.pv_graph.specs.Graphs.{Graph, form_at, IsWellMade}
 use Rattle.pv_alike.specs.Visits.{Visits}
 
--- nodes, and two of them as roots
+-- a graph, and two of its nodes as roots
 pub record Rooted : Type 0 where
-  pub nodes : List Node
+  pub graph : Graph
   pub first : ℕ
   pub second : ℕ
 
+-- nodes unfold equally
+abbrev pub UnfoldEqually : List Node → ℕ → ℕ → Type 0
+UnfoldEqually g a b = (m : ℕ) → unfold_at (form_at g) m a ≡ unfold_at (form_at g) m b
+
 -- a node of one graph unfolds as a node of another
 abbrev pub UnfoldsAs : List Node → ℕ → List Node → ℕ → Type 0
-UnfoldsAs h r g a = (m : ℕ) → unfold_at h m r ≡ unfold_at g m a
+UnfoldsAs h r g a = (m : ℕ) → unfold_at (form_at h) m r ≡ unfold_at (form_at g) m a
 
 -- a node of one graph has exactly the values of a node of another
 abbrev pub MeansAs : List Node → ℕ → List Node → ℕ → Type 0
-MeansAs h r g a = (w : World) (x : Input) (i : Index) (v : Val) → Value h w x r i v ↔ Value g w x a i v
+MeansAs h r g a = (w : World) (x : Input) (i : Index) (v : Val) → denote.Value (form_at h) w x r i v ↔ denote.Value (form_at g) w x a i v
 
--- h, with r and s, is the least graph of the nodes a and b of g
+-- h, with r and s, are the nodes of the least graph of the nodes a and b of g: the roots unfold as these nodes, no two
+-- nodes unfold equally, and the nodes are exactly those that are reached, numbered by their first visits, from the
+-- first root and then from the second, a node before its kids and kids from left to right
 pub record IsLeast (g : List Node) (a b : ℕ) (h : List Node) (r s : ℕ) : Type 0 where
   pub first_root : UnfoldsAs h r g a
   pub second_root : UnfoldsAs h s g b
   pub distinct : (m n : ℕ) → m < length h → n < length h → UnfoldEqually h m n → m ≡ n
   pub numbered : Visits h (range_with_len 0 (length h)) [] (r ∷ s ∷ [])
+
+-- ---- least(alloc: Global, g: &Graph, first: NodeId, second: NodeId) -> Result<Least, Memory>
+--        requires made { IsWellMade g.now }
+--        requires sealed { g.now.is_open ≡ false }
+--        requires first { first < length g.now.nodes }
+--        requires second { second < length g.now.nodes }
+--        ensures least { IfOk result (λ l. IsLeastOf g.now first second l) }
+--        ensures one { IfOk result (λ l. (l.first ≡ l.second) ↔ UnfoldEqually g.now.nodes first second) }
+--        ensures first_means { IfOk result (λ l. MeansAs l.graph.nodes l.first g.now.nodes first) }
+--        ensures second_means { IfOk result (λ l. MeansAs l.graph.nodes l.second g.now.nodes second) }
+
+-- a sealed and well-made graph, of which all nodes are its base, with the roots
+pub record IsLeastOf (g : Graph) (a b : ℕ) (l : Rooted) : Type 0 where
+  pub least : IsLeast g.nodes a b l.graph.nodes l.first l.second
+  pub sealed : l.graph.is_open ≡ false
+  pub base : l.graph.base ≡ length l.graph.nodes
+  pub made : IsWellMade l.graph

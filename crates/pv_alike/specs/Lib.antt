@@ -1,3 +1,8 @@
 pub mod Visits
-pub mod Least
 pub mod Renumbered
+pub mod Least
+pub mod Algorithm
+pub mod Laws
+pub mod BottomUp
+pub mod Keys
+pub mod Quotient

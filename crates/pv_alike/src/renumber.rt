@@ -5,7 +5,7 @@ ghost use Rattle.std.specs.List.{All, Contains};
 ghost use Rattle.pv_alike.specs.Renumbered.{ArePlaces, IsClosed, IsCopy, IsRenumbered};
 
 use crate::order::Order;
-use pv_dag::{Graph, Kids, Node, NodeId};
+use pv_graph::{Kids, Node, NodeId};
 use pv_value::Memory;
 use std::alloc::Global;
 
@@ -29,20 +29,20 @@ fn copy(alloc: Global, order: &Order, node: &Node) -> Result<Node, Memory>
     ensures { IfOk result (λ copy. IsCopy order.now node.now copy) }
 {
     Ok(Node {
-        op: node.op,
+        op: node.op.copy(alloc)?,
         kids: places(alloc, order, node.kids.as_slice())?,
     })
 }
 
 /// The nodes of an order, over the places of their kids.
-pub fn renumbered(alloc: Global, g: &Graph, order: &Order) -> Result<Vec<Node>, Memory>
-    requires closed { IsClosed g.now order.now }
+pub(crate) fn renumbered(alloc: Global, nodes: &[Node], order: &Order) -> Result<Vec<Node>, Memory>
+    requires closed { IsClosed nodes.now order.now }
     requires small { length order.now < 2 ^ 32 }
-    ensures { IfOk result (λ copies. IsRenumbered g.now order.now copies.items) }
+    ensures { IfOk result (λ copies. IsRenumbered nodes.now order.now copies.items) }
 {
     let mut copies = Vec::new(alloc);
     for n in order.as_slice() {
-        copies.push(copy(alloc, order, g.node(*n))?)?;
+        copies.push(copy(alloc, order, &nodes[*n as usize])?)?;
     }
     Ok(copies)
 }

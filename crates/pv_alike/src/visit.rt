@@ -2,12 +2,11 @@
 
 ghost use Rattle.std.specs.Prelude.{◌≡◌, ◌<◌, ◌^◌, ◌++◌, ◌∷◌, [], length, reverse, IfOk, OnOk};
 ghost use Rattle.std.specs.List.{Contains};
-ghost use Rattle.pv_dag.specs.Nodes.{IsGraph};
-ghost use Rattle.pv_alike.specs.Renumbered.{IsClosed};
+ghost use Rattle.pv_alike.specs.Renumbered.{IsClosed, AreKidsWithin};
 ghost use Rattle.pv_alike.specs.Visits.{Visits};
 
 use crate::order::Order;
-use pv_dag::{Graph, NodeId};
+use pv_graph::{Node, NodeId};
 use pv_value::Memory;
 use std::alloc::Global;
 
@@ -21,14 +20,20 @@ fn push_all(stack: &mut Vec<NodeId>, nodes: &[NodeId]) -> Result<(), Memory>
 
 /// The nodes under two roots in the order of their first visits: from the first root, and then from
 /// the second, a node before its kids and kids from left to right.
-pub fn visited(alloc: Global, g: &Graph, first: NodeId, second: NodeId) -> Result<Order, Memory>
-    requires graph { IsGraph g.now }
-    requires first { first < length g.now }
-    requires second { second < length g.now }
+pub(crate) fn visited(
+    alloc: Global,
+    nodes: &[Node],
+    first: NodeId,
+    second: NodeId,
+) -> Result<Order, Memory>
+    requires within { AreKidsWithin nodes.now }
+    requires small { length nodes.now < 2 ^ 32 }
+    requires first { first < length nodes.now }
+    requires second { second < length nodes.now }
 
-    ensures visits { IfOk result (λ order. Visits g.now order [] (first ∷ second ∷ [])) }
+    ensures visits { IfOk result (λ order. Visits nodes.now order [] (first ∷ second ∷ [])) }
     ensures roots { IfOk result (λ order. Contains order first × Contains order second) }
-    ensures closed { IfOk result (λ order. IsClosed g.now order) }
+    ensures closed { IfOk result (λ order. IsClosed nodes.now order) }
     ensures small { IfOk result (λ order. length order < 2 ^ 32) }
 {
     let mut order = Order::new(alloc);
@@ -39,7 +44,7 @@ pub fn visited(alloc: Global, g: &Graph, first: NodeId, second: NodeId) -> Resul
         if !is_new {
             continue;
         }
-        push_all(&mut stack, g.node(n).kids.as_slice())?;
+        push_all(&mut stack, nodes[n as usize].kids.as_slice())?;
     }
     Ok(order)
 }

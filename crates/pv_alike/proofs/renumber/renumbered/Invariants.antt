@@ -4,4 +4,4 @@ use Rattle.pv_alike.specs.Renumbered.{IsCopyOf}
 use Rattle.pv_alike.proofs.renumber.renumbered.Given as goal
 
 abbrev pub invariant-loop-n : goal.invariant-loop-n
-invariant-loop-n l = AllZip (IsCopyOf l.g l.order) (take l.n-index l.n-items) l.copies.items
+invariant-loop-n l = AllZip (IsCopyOf l.nodes l.order) (take l.n-index l.n-items) l.copies.items

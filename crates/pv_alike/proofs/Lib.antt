@@ -22,3 +22,4 @@ pub mod Classing
 pub mod Refining
 pub mod Quotients
 pub mod Based
+mod Examples

@@ -14,3 +14,4 @@ pub mod Evaluating
 pub mod Alike
 pub mod Readings
 pub mod Tying
+pub mod TreeMeans

@@ -13,11 +13,13 @@ use Rattle.pv_graph.specs.Forms.{form}
 use Rattle.pv_denote.specs.Denote.{Index, at_depth, den}
 use Rattle.pv_denote.specs.Means.{Means}
 use Rattle.pv_denote.specs.Typed.{IsOf}
-use Rattle.pv_graph.specs.Unfold.{UnfoldsAs}
+use Rattle.pv_graph.specs.Unfold.{Tree, Trees, over, UnfoldsAs}
+use Rattle.pv_graph.specs.Finite.{IsTree}
 use Rattle.pv_graph.specs.Walks.{In, Reaches, Free, IsClosed, IsSettled, Spine}
 use Rattle.pv_graph.specs.Graphs.{Graph, form_at, IsGraph, IsWellMade, Extends}
 use Rattle.pv_graph.specs.Calls.{Tied}
 use Rattle.pv_denote.specs.Meaning.{Value}
+use Rattle.pv_denote.specs.TreeValues.{list_of, TreeValue}
 
 -- more fuel keeps a value
 abbrev pub MoreFuel : Type 0
@@ -70,3 +72,10 @@ SettledValue = (g : Graph) (w : World) (x : Input) (assumed : List ℕ) (n : ℕ
 -- a count is less than the fuel that gives it
 abbrev pub CountLow : Type 0
 CountLow = (g : Graph) (w : World) (x : Input) (fuel n : ℕ) (i : Index) (k : ℕ) → den (form_at g.nodes) w x fuel n i ≡ Some (val.Count k) → k < fuel
+
+-- a node that has a tree has exactly the values of the tree; a tree has exactly those that its operation means over the
+-- values of the trees under it, and at most one
+pub record TreesMean : Type 0 where
+  pub node : (g : Graph) (w : World) (x : Input) (n : ℕ) (t : Tree) (i : Index) (v : Val) → IsTree (form_at g.nodes) n t → Value g w x n i v ↔ TreeValue w x t i v
+  pub means : (w : World) (x : Input) (o : Op) (ts : Trees) (i : Index) (v : Val) → TreeValue w x (over o ts) i v ↔ Means w x (TreeValue w x) (shape o) o (list_of ts) i v
+  pub once : (w : World) (x : Input) (t : Tree) (i : Index) (u v : Val) → TreeValue w x t i u → TreeValue w x t i v → u ≡ v

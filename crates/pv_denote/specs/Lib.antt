@@ -4,4 +4,5 @@ pub mod Typed
 pub mod Meaning
 pub mod Given
 pub mod Words
+pub mod TreeValues
 pub mod Laws

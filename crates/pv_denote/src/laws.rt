@@ -1,6 +1,6 @@
 //! The laws of what nodes mean, each as the contract of a function that does nothing.
 
-ghost use Rattle.pv_denote.specs.Laws.{MoreFuel, ValueOnce, ValueMeans, UnfoldsMeans, GrowthKeeps, TieKeeps, NotFree, ClosedValue, SpineValue, ValueSort, SettledValue, CountLow};
+ghost use Rattle.pv_denote.specs.Laws.{MoreFuel, ValueOnce, ValueMeans, UnfoldsMeans, GrowthKeeps, TieKeeps, NotFree, ClosedValue, SpineValue, ValueSort, SettledValue, CountLow, TreesMean};
 
 /// More fuel keeps a value, and a node has at most one.
 pub fn law_value()
@@ -16,6 +16,12 @@ pub fn law_means()
 /// Nodes that unfold equally, also in two graphs, have the same values.
 pub fn law_unfolds()
     ensures { UnfoldsMeans }
+{}
+
+/// A node that has a finite tree has the values of the tree. What a tree's values are, from those of the
+/// trees under its operation; it has at most one at an index.
+pub fn law_trees()
+    ensures { TreesMean }
 {}
 
 /// A graph that keeps its nodes keeps their values, and one whose theta is tied keeps the unfoldings

@@ -2,8 +2,8 @@
 //!
 //! This layer stands on `pv_graph` and `pv_value`. `specs/` says what a node means in a world, at an
 //! input and an iteration of the loops around it, with some fuel (`Denote`), the same as a relation
-//! (`Means`), which values a sort has (`Typed`), and what the nodes of a graph mean (`Meaning`);
-//! `Given` and `Words` are private to this crate.
+//! (`Means`), which values a sort has (`Typed`), what the nodes of a graph mean (`Meaning`), and what
+//! finite trees mean (`TreeValues`); `Given` and `Words` are private to this crate.
 //!
 //! `den` evaluates a node: its clause `value` is the definition of `Denote`. The layers above use
 //! that clause, and the laws of `laws` (`Laws`), which speak of the values that some fuel gives.

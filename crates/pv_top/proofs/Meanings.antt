@@ -1,10 +1,11 @@
 -- A root over the tree of a method means what the method's program does.
-use Rattle.std.proofs.Common.{◌≡◌, ◌↔◌, ℕ, ℤ, List, length, false, Some, refl, ap, subst, ◌∙◌}
+use Rattle.std.proofs.Common.{◌≡◌, ◌↔◌, ℕ, ℤ, [], length, false, Some, refl, subst}
 use Rattle.pv_value.specs.declared.number.Num.TheVariants as num
 use Rattle.pv_value.specs.declared.world.World.{World}
 use Rattle.pv_value.specs.declared.outcome.Input.{Input}
 use Rattle.pv_value.specs.declared.outcome.Outcome.{Outcome}
 use Rattle.pv_value.specs.declared.outcome.Outcome.TheVariants.{Returned}
+use Rattle.pv_value.specs.declared.outcome.Fault.TheVariants.{Clear}
 use Rattle.pv_value.specs.declared.outcome.Val.{Val}
 use Rattle.pv_value.specs.declared.outcome.Val.TheVariants as val
 use Rattle.pv_value.specs.Inputs.{Fits}
@@ -13,57 +14,73 @@ use Rattle.pv_class.specs.declared.file.Method.{Method}
 use Rattle.pv_frame.specs.declared.program.Program.{Program}
 use Rattle.pv_machine.specs.Machine.{RunEnds, start}
 use Rattle.pv_machine.proofs.Typing.{ends_once}
-use Rattle.pv_dag.specs.declared.node.Node.{Node}
-use Rattle.pv_dag.specs.Trees.{Tree}
-use Rattle.pv_dag.specs.Finite.{IsTree, tree_value}
-use Rattle.pv_dag.specs.FiniteLaws.{tree_den}
+use Rattle.pv_graph.specs.declared.node.Op.TheVariants as op
+use Rattle.pv_graph.specs.Unfold.{Tree, none, first}
+use Rattle.pv_graph.specs.Graphs.{Graph, form_at}
+use Rattle.pv_graph.specs.Finite.{IsTree}
+use Rattle.pv_denote.specs.Denote.{outside, strict}
+use Rattle.pv_denote.specs.TreeValues.{TreeValue}
+use Rattle.pv_denote.proofs.TreeMeans.{tree_means, tree_makes, tree_once}
 use Rattle.pv_frame.specs.declared.typed.Typed.{Typed}
 use Rattle.pv_frame.specs.Answers.{IsTyping}
-use Rattle.pv_dag.specs.FiniteLaws.{is_tree_kept}
 use Rattle.pv_top.specs.declared.reason.Reason.TheVariants as reason
-use Rattle.pv_top.specs.Built.{IsBuilt, IsStraight, IsOfInts, ReturnsTree}
+use Rattle.pv_top.specs.Built.{leaf, IsBuilt, IsStraight, IsOfInts, ReturnsTree}
 use Rattle.pv_top.specs.Roots.{IsRootOf, returning}
 use Rattle.pv_top.specs.Conversion.{Grows, IsReturned, IsRootOver}
 use Rattle.pv_top.specs.Verdicts.{Meets}
+use Rattle.pv_top.proofs.IntNodes.{tree_kept}
 use Rattle.pv_top.proofs.Runs.{returns_value}
 
 abbrev End : Outcome → Val
 End o = val.End o
 
+-- a token without an effect, no fault, and the heap at the start
+leaf_gives : (w : World) (x : Input) → TreeValue w x (leaf op.Unit) outside val.Unit × TreeValue w x (leaf op.Clear) outside (val.Fault Clear) × TreeValue w x (leaf op.Heap0) outside (val.Heap x.heap)
+unfolding strict
+leaf_gives w x = (
+  tree_makes w x op.Unit none outside val.Unit ([], tt, refl),
+  tree_makes w x op.Clear none outside (val.Fault Clear) ([], tt, refl),
+  tree_makes w x op.Heap0 none outside (val.Heap x.heap) ([], tt, refl),
+)
+
 -- the root over a value that is an int ends with it
-returning_value : (w : World) (x : Input) (t : Tree) (n : ℤ) → tree_value w x t ≡ Some (val.Num (num.Int n)) → tree_value w x (returning t) ≡ Some (End (Returned (Some (num.Int n)) x.heap))
-unfolding tree_value
-returning_value w x t n e = rw e refl
+returning_value : (w : World) (x : Input) (t : Tree) (n : ℤ) → TreeValue w x t outside (val.Num (num.Int n)) → TreeValue w x (returning t) outside (End (Returned (Some (num.Int n)) x.heap))
+returning_value w x t n e =
+    let leaves = leaf_gives w x in
+    tree_makes w x op.Root (first (leaf op.Unit) (first (leaf op.Clear) (first t (first (leaf op.Heap0) none)))) outside (End (Returned (Some (num.Int n)) x.heap))
+    (Clear, x.heap, leaves.0, leaves.1, leaves.2, (val.Num (num.Int n), Some (num.Int n), e, refl, refl))
 
 run_once : (p : Program) (w : World) (x : Input) (o q : Outcome) → RunEnds p w x o → RunEnds p w x q → o ≡ q
 run_once p w x o q a b = ends_once p w (start p x) a.0 b.0 o q a.1 b.1
 
 -- a straight program ends exactly where its tree's root does
-pub program_ends : (p : Program) (t : Tree) (w : World) (x : Input) (o : Outcome) → IsStraight p t → Fits p.desc x → RunEnds p w x o ↔ (tree_value w x (returning t) ≡ Some (End o))
+pub program_ends : (p : Program) (t : Tree) (w : World) (x : Input) (o : Outcome) → IsStraight p t → Fits p.desc x → RunEnds p w x o ↔ TreeValue w x (returning t) outside (End o)
 program_ends p t w x o is fits =
     let run = returns_value p w x t fits is in
     let value = returning_value w x t run.n run.gives in (
-      λ other. value ∙ ap (λ (q : Outcome). Some (End q)) (run_once p w x (Returned (Some (num.Int run.n)) x.heap) o run.ends other),
-      λ e. let same : Returned (Some (num.Int run.n)) x.heap ≡ o = cc (value, e) in subst (λ (q : Outcome). RunEnds p w x q) same run.ends,
+      λ other. subst (λ (q : Outcome). TreeValue w x (returning t) outside (End q)) (run_once p w x (Returned (Some (num.Int run.n)) x.heap) o run.ends other) value,
+      λ e.
+          let one : End (Returned (Some (num.Int run.n)) x.heap) ≡ End o = tree_once w x (returning t) outside (End (Returned (Some (num.Int run.n)) x.heap)) (End o) value e in
+          let same : Returned (Some (num.Int run.n)) x.heap ≡ o = cc one in subst (λ (q : Outcome). RunEnds p w x q) same run.ends,
     )
 
 -- a node with the tree of a method's root means what the program does
-pub root_of_method : (g : List Node) (root : ℕ) (file : ClassFile) (m : Method) (t : Tree) → IsBuilt file m t → IsTree g root (returning t) → IsRootOf g root file m
+pub root_of_method : (g : Graph) (root : ℕ) (file : ClassFile) (m : Method) (t : Tree) → IsBuilt file m t → IsTree (form_at g.nodes) root (returning t) → IsRootOf g root file m
 root_of_method g root file m t b is = record {
   tree = returning t;
   has = record { value = t; built = b; tree = refl };
   is = is;
   means = λ w fine x fits o.
       let ends = program_ends b.program t w x o b.straight fits in
-      let den = tree_den g w x root (returning t) is (End o) in
-      (λ e. den.0 (ends.0 e), λ v. ends.1 (den.1 v));
+      let den = tree_means (form_at g.nodes) w x root (returning t) outside (End o) is in
+      (λ e. den.1 (ends.0 e), λ v. ends.1 (den.0 v));
 }
 
 -- where the actions of a typed method of ints return a node
-pub root_typed : (file : ClassFile) (m : Method) (t : Typed) (g new : List Node) (n root : ℕ) → IsTyping file m t → t.program.instance ≡ false → IsOfInts t.program.desc → IsReturned g (length t.program.desc.params) t.program.actions n → Grows g new → IsRootOver new root n
+pub root_typed : (file : ClassFile) (m : Method) (t : Typed) (g new : Graph) (n root : ℕ) → IsTyping file m t → t.program.instance ≡ false → IsOfInts t.program.desc → IsReturned g (length t.program.desc.params) t.program.actions n → Grows g new → IsRootOver new root n
     → IsRootOf new root file m
 root_typed file m t g new n root typing static ints node grows over =
-    let is = is_tree_kept g new n node.value grows.extends node.is in
+    let is = tree_kept g new n node.value grows node.is in
     let built : IsBuilt file m node.value = record { program = t.program; accepted = typing.accepted; straight = record { static = static; ints = ints; returns = node.returns } } in
     root_of_method new root file m node.value built (over node.value is)
 

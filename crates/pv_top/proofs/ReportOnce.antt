@@ -11,7 +11,7 @@ use Rattle.pv_class.specs.declared.fault.ClassFault.{ClassFault}
 use Rattle.pv_class.specs.ClassFiles.{IsClass}
 use Rattle.pv_class.specs.ClassFaults.{IsBad}
 use Rattle.pv_class.proofs.Outcomes.{is_comes, comes_once}
-use Rattle.pv_dag.specs.Trees.{Tree}
+use Rattle.pv_graph.specs.Unfold.{Tree}
 use Rattle.pv_top.specs.declared.verdict.Side.{Side}
 use Rattle.pv_top.specs.declared.verdict.Side.TheVariants as side
 use Rattle.pv_top.specs.declared.verdict.Verdict.{Verdict}

@@ -8,25 +8,25 @@ use Rattle.pv_value.specs.declared.number.Num.TheVariants as num
 use Rattle.pv_value.specs.declared.descriptor.JType.{JType}
 use Rattle.pv_value.specs.declared.descriptor.JType.TheVariants as type
 use Rattle.pv_value.specs.declared.operation.ScalarOp.{ScalarOp}
-use Rattle.pv_value.specs.declared.int_op.IntOp.{IntOp}
-use Rattle.pv_value.specs.declared.int_op.IntOp.TheVariants.{Iadd, Isub, Imul}
+use Rattle.pv_value.specs.declared.operation.ScalarOp.TheVariants.{Iadd, Isub, Imul}
 use Rattle.pv_value.specs.declared.world.World.{World}
 use Rattle.pv_value.specs.declared.outcome.Input.{Input}
 use Rattle.pv_value.specs.declared.outcome.Val.TheVariants as val
 use Rattle.pv_value.specs.declared.outcome.Outcome.TheVariants.{Returned}
 use Rattle.pv_value.specs.Inputs.{IsOfType, Fits}
-use Rattle.pv_value.specs.IntOps.{operation, scalar_of}
+use Rattle.pv_value.specs.Operations.{scalar_of}
 use Rattle.pv_frame.specs.declared.sort.Sort.TheVariants as sorts
 use Rattle.pv_frame.specs.declared.action.Action.{Action}
 use Rattle.pv_frame.specs.declared.action.Action.TheVariants as act
 use Rattle.pv_frame.specs.declared.program.Program.{Program}
 use Rattle.pv_machine.specs.Machine.{State, running, ended, perform, perform_at, go_on, after, start, passed, padded, locals_of, given, RunEnds}
-use Rattle.pv_dag.specs.declared.node.Op.TheVariants as op
-use Rattle.pv_dag.specs.declared.node.OpSort.TheVariants as sort
-use Rattle.pv_dag.specs.Denote.{number_of}
-use Rattle.pv_dag.specs.Trees.{Tree}
-use Rattle.pv_dag.specs.Finite.{tree_value}
-use Rattle.pv_top.specs.Built.{leaf, over_two, Lays, LaysAll, IsStraight}
+use Rattle.pv_graph.specs.declared.node.Op.TheVariants as op
+use Rattle.pv_graph.specs.declared.node.OpSort.TheVariants as sort
+use Rattle.pv_graph.specs.Unfold.{Tree, none, first}
+use Rattle.pv_denote.specs.Denote.{outside, number_of, strict}
+use Rattle.pv_denote.specs.TreeValues.{TreeValue}
+use Rattle.pv_denote.proofs.TreeMeans.{tree_makes}
+use Rattle.pv_top.specs.Built.{leaf, over_two, IsBuiltOp, Lays, LaysAll, IsStraight}
 
 -- ---- what the locals hold
 
@@ -62,24 +62,32 @@ abbrev numbers : List ℤ → List Num
 numbers [] = []
 numbers (n ∷ ns) = num.Int n ∷ numbers ns
 
--- a tree has this value
+-- a tree has this value outside every loop
 abbrev Gives : World → Input → Tree → ℤ → Type 0
-Gives w x t n = tree_value w x t ≡ Some (val.Num (num.Int n))
+Gives w x t n = TreeValue w x t outside (val.Num (num.Int n))
 
 abbrev AllGive : World → Input → List Tree → List ℤ → Type 0
 AllGive w x ts ns = AllZip (Gives w x) ts ns
 
 gives_const : (w : World) (x : Input) (n : ℤ) → Gives w x (leaf (op.Int n)) n
-unfolding tree_value
-gives_const w x n = refl
+unfolding strict
+gives_const w x n = tree_makes w x (op.Int n) none outside (val.Num (num.Int n)) ([], tt, refl)
 
 gives_param : (w : World) (x : Input) (k : ℕ) (n : ℤ) → slice_get x.args k ≡ Some (num.Int n) → Gives w x (leaf (op.Param k sort.I)) n
-unfolding tree_value
-gives_param w x k n e = ap (λ (o : Option Num). Some (val.Num (number_of sort.I o))) e
+unfolding strict
+gives_param w x k n e = tree_makes w x (op.Param k sort.I) none outside (val.Num (num.Int n)) ([], tt, ap (λ (o : Option Num). Some (val.Num (number_of sort.I o))) e)
 
-gives_scalar : (w : World) (x : Input) (o : IntOp) (a b : Tree) (n m : ℤ) → Gives w x a n → Gives w x b m → Gives w x (over_two (op.Scalar o) a b) (scalar_of o n m)
-unfolding tree_value
-gives_scalar w x o a b n m p q = rw (p, q) refl
+-- the value of an operation over two ints
+scalar_gives : (w : World) (x : Input) (o : ScalarOp) (n m : ℤ) → IsBuiltOp o → strict w x (op.Scalar o) (val.Num (num.Int n) ∷ val.Num (num.Int m) ∷ []) ≡ Some (val.Num (num.Int (scalar_of o n m)))
+unfolding strict
+scalar_gives w x Iadd n m built = refl
+scalar_gives w x Isub n m built = refl
+scalar_gives w x Imul n m built = refl
+scalar_gives w x o n m built = absurd built
+
+gives_scalar : (w : World) (x : Input) (o : ScalarOp) (a b : Tree) (n m : ℤ) → IsBuiltOp o → Gives w x a n → Gives w x b m → Gives w x (over_two (op.Scalar o) a b) (scalar_of o n m)
+gives_scalar w x o a b n m built p q =
+    tree_makes w x (op.Scalar o) (first a (first b none)) outside (val.Num (num.Int (scalar_of o n m))) (val.Num (num.Int n) ∷ val.Num (num.Int m) ∷ [], (p, (q, tt)), scalar_gives w x o n m built)
 
 -- ---- steps
 
@@ -99,10 +107,11 @@ two_operands w x a b rest (m ∷ []) h = absurd h.1
 two_operands w x a b rest (m ∷ n ∷ ms) h = (n, m, ms, refl, h.1.0, h.0, h.1.1)
 
 -- an operation takes its two operands from the stack
-computes : (p : Program) (w : World) (input : Input) (at : ℕ) (i : IntOp) (n m : ℤ) (ms : List ℤ) → perform p w (state p input at (m ∷ n ∷ ms)) (act.Scalar (operation i)) ≡ running (state p input (suc at) (scalar_of i n m ∷ ms))
-computes p w input at Iadd n m ms = refl
-computes p w input at Isub n m ms = refl
-computes p w input at Imul n m ms = refl
+computes : (p : Program) (w : World) (input : Input) (at : ℕ) (o : ScalarOp) (n m : ℤ) (ms : List ℤ) → IsBuiltOp o → perform p w (state p input at (m ∷ n ∷ ms)) (act.Scalar o) ≡ running (state p input (suc at) (scalar_of o n m ∷ ms))
+computes p w input at Iadd n m ms built = refl
+computes p w input at Isub n m ms built = refl
+computes p w input at Imul n m ms built = refl
+computes p w input at o n m ms built = absurd built
 
 steps : (p : Program) (w : World) (input : Input) (at params : ℕ) (a : Action) (s t : List Tree) (ns : List ℤ) → ((k : ℕ) → k < params → HoldsInt p input k) → Lays params a s t → AllGive w input s ns → Steps p w input at a ns t
 steps p w input at params act.Nop s t ns hold lays give = record { ms = ns; give = subst (λ (l : List Tree). AllGive w input l ns) (sym lays) give; goes = refl }
@@ -115,19 +124,16 @@ steps p w input at params (act.Load sorts.Int k) s t ns hold (lt, is) give =
       give = subst (λ (l : List Tree). AllGive w input l (held.n ∷ ns)) (sym is) (gives_param w input k held.n held.argument, give);
       goes = rw held.local refl;
     }
-steps p w input at params (act.Scalar o) s t ns hold (i, is_i, a, b, rest, e, is) give =
+steps p w input at params (act.Scalar o) s t ns hold (built, a, b, rest, e, is) give =
     let given : AllGive w input (b ∷ a ∷ rest) ns = subst (λ (l : List Tree). AllGive w input l ns) e give in
     let two = two_operands w input a b rest ns given in
     let n = two.0 in
     let m = two.1 in
     let ms = two.2 in
     record {
-      ms = scalar_of i n m ∷ ms;
-      give = subst (λ (l : List Tree). AllGive w input l (scalar_of i n m ∷ ms)) (sym is) (gives_scalar w input i a b n m two.4 two.5, two.6);
-      goes =
-          ap (λ (l : List ℤ). perform p w (state p input at l) (act.Scalar o)) two.3
-          ∙ ap (λ (x : ScalarOp). perform p w (state p input at (m ∷ n ∷ ms)) (act.Scalar x)) (sym is_i)
-          ∙ computes p w input at i n m ms;
+      ms = scalar_of o n m ∷ ms;
+      give = subst (λ (l : List Tree). AllGive w input l (scalar_of o n m ∷ ms)) (sym is) (gives_scalar w input o a b n m built two.4 two.5, two.6);
+      goes = ap (λ (l : List ℤ). perform p w (state p input at l) (act.Scalar o)) two.3 ∙ computes p w input at o n m ms built;
     }
 steps p w input at params a s t ns hold lays give = absurd lays
 
@@ -177,7 +183,7 @@ walk p w input params hold done (a ∷ front) rest s t e (m, lays, laid) c =
 -- what a program that returns a tree ends with
 pub record EndsWith (p : Program) (w : World) (input : Input) (value : Tree) : Type 0 where
   pub n : ℤ
-  pub gives : tree_value w input value ≡ Some (val.Num (num.Int n))
+  pub gives : TreeValue w input value outside (val.Num (num.Int n))
   pub ends : RunEnds p w input (Returned (Some (num.Int n)) input.heap)
 
 -- it returns the int on top

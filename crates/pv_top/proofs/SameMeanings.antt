@@ -1,5 +1,5 @@
 -- Methods of one descriptor and one tree have the same meaning.
-use Rattle.std.proofs.Common.{◌≡◌, ◌↔◌, List, ℕ, Some, sym, subst, ◌∙◌}
+use Rattle.std.proofs.Common.{◌≡◌, ◌↔◌, List, ℕ, sym, subst, ◌∙◌}
 use Rattle.pv_value.specs.declared.descriptor.Descriptor.{Descriptor}
 use Rattle.pv_value.specs.declared.world.World.{World}
 use Rattle.pv_value.specs.declared.outcome.Input.{Input}
@@ -14,8 +14,9 @@ use Rattle.pv_class.proofs.CodeBytes.{HasBytes}
 use Rattle.pv_frame.specs.declared.program.Program.{Program}
 use Rattle.pv_frame.proofs.CauseLaws.{one_program}
 use Rattle.pv_machine.specs.Machine.{IsProgram, RunEnds, Ends, AreEquivalentMethods}
-use Rattle.pv_dag.specs.Trees.{Tree}
-use Rattle.pv_dag.specs.Finite.{tree_value}
+use Rattle.pv_graph.specs.Unfold.{Tree}
+use Rattle.pv_denote.specs.Denote.{outside}
+use Rattle.pv_denote.specs.TreeValues.{TreeValue}
 use Rattle.pv_top.specs.Built.{IsBuilt}
 use Rattle.pv_top.specs.Roots.{HasTree, returning}
 use Rattle.pv_top.proofs.Meanings.{program_ends}
@@ -27,7 +28,7 @@ program_of : (file : ClassFile) (m : Method) (t : Tree) (b : IsBuilt file m t) �
 program_of file m t b = record { of_method = b.accepted.of_method; typed = b.accepted.typed }
 
 -- a method ends exactly where the root of its tree does
-built_ends : (file : ClassFile) (m : Method) (t : Tree) (d : Descriptor) (w : World) (x : Input) (o : Outcome) → HasBytes m → IsBuilt file m t → IsMethodType m.desc d → Fits d x → Ends file m w x o ↔ (tree_value w x (returning t) ≡ Some (val.End o))
+built_ends : (file : ClassFile) (m : Method) (t : Tree) (d : Descriptor) (w : World) (x : Input) (o : Outcome) → HasBytes m → IsBuilt file m t → IsMethodType m.desc d → Fits d x → Ends file m w x o ↔ TreeValue w x (returning t) outside (val.End o)
 built_ends file m t d w x o bytes b is fits =
     let p = b.program in
     let same : d ≡ p.desc = method_type_once m.desc d p.desc is b.accepted.of_method.desc in

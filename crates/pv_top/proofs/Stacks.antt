@@ -1,33 +1,23 @@
 -- What actions leave on the operand stack, as trees: one stack for one list of actions.
 use Rattle.std.proofs.Common.{◌≡◌, ℕ, List, [], ◌∷◌, ◌++◌, refl, sym, subst, ◌∙◌}
 use Rattle.pv_value.specs.declared.number.Num.TheVariants as num
-use Rattle.pv_value.specs.declared.int_op.IntOp.{IntOp}
-use Rattle.pv_value.specs.declared.int_op.IntOp.TheVariants.{Iadd, Isub, Imul}
-use Rattle.pv_value.specs.IntOps.{operation}
 use Rattle.pv_frame.specs.declared.sort.Sort.TheVariants as sort
 use Rattle.pv_frame.specs.declared.action.Action.{Action}
 use Rattle.pv_frame.specs.declared.action.Action.TheVariants as act
-use Rattle.pv_dag.specs.Trees.{Tree}
+use Rattle.pv_graph.specs.Unfold.{Tree}
 use Rattle.pv_top.specs.Built.{Lays, LaysAll, ReturnsTree}
 
 same_operands : (a b a' b' : Tree) (rest rest' : List Tree) → b ∷ a ∷ rest ≡ b' ∷ a' ∷ rest' → (a ≡ a') × (b ≡ b') × (rest ≡ rest')
 same_operands a b a' b' rest rest' e = (cc e, cc e, cc e)
-
--- an operation is one of two ints in one way
-one_operation : (i j : IntOp) → operation i ≡ operation j → i ≡ j
-one_operation Iadd Iadd e = refl
-one_operation Isub Isub e = refl
-one_operation Imul Imul e = refl
-one_operation i j e = absurd (cc)
 
 -- an action makes one stack of a stack
 pub lays_once : (params : ℕ) (a : Action) (s t u : List Tree) → Lays params a s t → Lays params a s u → t ≡ u
 lays_once params act.Nop s t u p q = p ∙ sym q
 lays_once params (act.Push (num.Int n)) s t u p q = p ∙ sym q
 lays_once params (act.Load sort.Int k) s t u p q = p.1 ∙ sym q.1
-lays_once params (act.Scalar o) s t u (i, is_i, a, b, rest, e, is) (j, is_j, a', b', rest', e', is') =
+lays_once params (act.Scalar o) s t u (built, a, b, rest, e, is) (built', a', b', rest', e', is') =
     let same = same_operands a b a' b' rest rest' (sym e ∙ e') in
-    is ∙ rw (one_operation i j (is_i ∙ sym is_j), same.0, same.1, same.2) refl ∙ sym is'
+    is ∙ rw (same.0, same.1, same.2) refl ∙ sym is'
 lays_once params a s t u p q = absurd p
 
 pub lays_all_once : (params : ℕ) (actions : List Action) (s t u : List Tree) → LaysAll params actions s t → LaysAll params actions s u → t ≡ u

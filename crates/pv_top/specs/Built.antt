@@ -4,8 +4,8 @@ use Rattle.std.specs.List.{AllByRecursion}
 use Rattle.pv_value.specs.declared.number.Num.TheVariants as num
 use Rattle.pv_value.specs.declared.descriptor.JType.TheVariants as type
 use Rattle.pv_value.specs.declared.descriptor.Descriptor.{Descriptor}
-use Rattle.pv_value.specs.declared.int_op.IntOp.{IntOp}
-use Rattle.pv_value.specs.IntOps.{operation}
+use Rattle.pv_value.specs.declared.operation.ScalarOp.{ScalarOp}
+use Rattle.pv_value.specs.declared.operation.ScalarOp.TheVariants.{Iadd, Isub, Imul}
 use Rattle.pv_class.specs.declared.file.ClassFile.{ClassFile}
 use Rattle.pv_class.specs.declared.file.Method.{Method}
 use Rattle.pv_frame.specs.declared.sort.Sort.TheVariants as sort
@@ -13,10 +13,10 @@ use Rattle.pv_frame.specs.declared.action.Action.{Action}
 use Rattle.pv_frame.specs.declared.action.Action.TheVariants as act
 use Rattle.pv_frame.specs.declared.program.Program.{Program}
 use Rattle.pv_frame.specs.Causes.{IsAccepted}
-use Rattle.pv_dag.specs.declared.node.Op.{Op}
-use Rattle.pv_dag.specs.declared.node.Op.TheVariants as op
-use Rattle.pv_dag.specs.declared.node.OpSort.TheVariants as of
-use Rattle.pv_dag.specs.Trees.{Tree, over, none, first}
+use Rattle.pv_graph.specs.declared.node.Op.{Op}
+use Rattle.pv_graph.specs.declared.node.Op.TheVariants as op
+use Rattle.pv_graph.specs.declared.node.OpSort.TheVariants as of
+use Rattle.pv_graph.specs.Unfold.{Tree, over, none, first}
 
 abbrev pub leaf : Op → Tree
 leaf o = over o none
@@ -25,12 +25,19 @@ leaf o = over o none
 abbrev pub over_two : Op → Tree → Tree → Tree
 over_two o a b = over o (first a (first b none))
 
+-- the operations on numbers that are built: the sum, the difference and the product of two ints
+abbrev pub IsBuiltOp : ScalarOp → Type 0
+IsBuiltOp Iadd = Unit {0}
+IsBuiltOp Isub = Unit {0}
+IsBuiltOp Imul = Unit {0}
+IsBuiltOp o = ⊥
+
 -- Trees stand for the values of the operand stack, its top first. An action takes the stack s to the stack t, where the locals below params hold the arguments.
 abbrev pub Lays : ℕ → Action → List Tree → List Tree → Type 0
 Lays params act.Nop s t = t ≡ s
 Lays params (act.Push (num.Int n)) s t = t ≡ leaf (op.Int n) ∷ s
 Lays params (act.Load sort.Int k) s t = (k < params) × (t ≡ leaf (op.Param k of.I) ∷ s)
-Lays params (act.Scalar o) s t = (i : IntOp) × (operation i ≡ o) × (a : Tree) × (b : Tree) × (rest : List Tree) × (s ≡ b ∷ a ∷ rest) × (t ≡ over_two (op.Scalar i) a b ∷ rest)
+Lays params (act.Scalar o) s t = IsBuiltOp o × (a : Tree) × (b : Tree) × (rest : List Tree) × (s ≡ b ∷ a ∷ rest) × (t ≡ over_two (op.Scalar o) a b ∷ rest)
 Lays params a s t = ⊥
 
 -- one action after the other

@@ -7,7 +7,7 @@ use Rattle.pv_class.specs.declared.file.Code.{Code}
 use Rattle.pv_frame.specs.declared.program.Program.{Program}
 use Rattle.pv_frame.specs.Programs.{is_instance}
 use Rattle.pv_frame.specs.Causes.{IsRefused, IsAccepted}
-use Rattle.pv_dag.specs.Trees.{Tree}
+use Rattle.pv_graph.specs.Unfold.{Tree}
 use Rattle.pv_top.specs.declared.reason.Reason.{Reason}
 use Rattle.pv_top.specs.declared.reason.Reason.TheVariants as reason
 use Rattle.pv_top.specs.declared.verdict.Side.TheVariants as side

@@ -2,16 +2,15 @@
 
 ghost use Rattle.std.specs.Prelude.{◌↔◌, IsTrue};
 ghost use Rattle.pv_frame.specs.Answers.{HasCode, HasReferences};
-ghost use Rattle.pv_dag.specs.Nodes.{IsGraph};
 ghost use Rattle.pv_top.specs.Built.{IsOfInts};
-ghost use Rattle.pv_top.specs.Conversion.{ConvertsAt, Grows};
+ghost use Rattle.pv_top.specs.Conversion.{ConvertsAt, Grows, IsWhole};
 
 use crate::laying::returned_node;
 use crate::nodes::root_of;
 use crate::reason::{Reason, Stop};
 use pv_class::ClassFile;
-use pv_dag::{Graph, NodeId};
 use pv_frame::{Refused, infer};
+use pv_graph::{Graph, NodeId};
 use pv_value::{Descriptor, JType};
 use std::alloc::Global;
 
@@ -24,7 +23,7 @@ pub(crate) fn convert(
 ) -> Result<NodeId, Stop>
     requires code { HasCode class.now method }
     requires references { HasReferences class.now }
-    requires graph { IsGraph g.old }
+    requires whole { IsWhole g.old }
     ensures converted { ConvertsAt g.new class.now method result }
     ensures grows { Grows g.old g.new }
 {

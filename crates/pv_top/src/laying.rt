@@ -1,18 +1,15 @@
 //! From the actions of a method to the node of what they return.
 
-ghost use Rattle.std.specs.Prelude.{◌≡◌, IfOk, OnOk, MatchOption};
-ghost use Rattle.pv_value.specs.IntOps.{operation};
-ghost use Rattle.pv_value.specs.declared.int_op.IntOp.{IntOp};
-ghost use Rattle.pv_dag.specs.Nodes.{IsGraph};
-ghost use Rattle.pv_dag.specs.Trees.{Tree};
-ghost use Rattle.pv_top.specs.Built.{ReturnsTree};
-ghost use Rattle.pv_top.specs.Conversion.{Grows, GivesInt, IsLeaf, AreInts, LaysNodes, TopsLeaf, IsReturned};
+ghost use Rattle.std.specs.Prelude.{◌↔◌, IsTrue, IfOk, OnOk, MatchOption};
+ghost use Rattle.pv_graph.specs.Unfold.{Tree};
+ghost use Rattle.pv_top.specs.Built.{IsBuiltOp, ReturnsTree};
+ghost use Rattle.pv_top.specs.Conversion.{Grows, IsWhole, IsLeaf, AreInts, LaysNodes, TopsLeaf, IsReturned};
 
 use crate::nodes::{computed, leaf};
 use crate::operands::Operands;
-use pv_dag::{Graph, NodeId, Op, OpSort};
 use pv_frame::{Action, Sort};
-use pv_value::{IntOp, Memory, Num, ScalarOp};
+use pv_graph::{Graph, NodeId, Op, OpSort};
+use pv_value::{Memory, Num, ScalarOp};
 use std::alloc::Global;
 
 /// The node of what the actions return, `None` where the last of them, and no other, isn't one
@@ -23,7 +20,7 @@ pub(crate) fn returned_node(
     params: usize,
     g: &mut Graph,
 ) -> Result<Option<NodeId>, Memory>
-    requires { IsGraph g.old }
+    requires { IsWhole g.old }
     ensures node { IfOk result (λ found. MatchOption found ((value : Tree) → ReturnsTree params actions.now value → ⊥) (λ n. IsReturned g.new params actions.now n)) }
     ensures grows { Grows g.old g.new }
 {
@@ -50,7 +47,7 @@ fn lay(
     operands: &mut Operands,
     g: &mut Graph,
 ) -> Result<bool, Memory>
-    requires graph { IsGraph g.old }
+    requires whole { IsWhole g.old }
     requires ints { AreInts g.old operands.old }
     ensures lays { IfOk result (λ on. LaysNodes params action.now g.old g.new operands.old operands.new on) }
     ensures grows { Grows g.old g.new }
@@ -72,10 +69,9 @@ fn lay(
 
 // Puts the node of an operation without kids on top, whose value is an int.
 fn lay_leaf(alloc: Global, op: Op, operands: &mut Operands, g: &mut Graph) -> Result<(), Memory>
-    requires graph { IsGraph g.old }
+    requires whole { IsWhole g.old }
     requires ints { AreInts g.old operands.old }
     requires leaf { IsLeaf op OpSort.I }
-    requires int { GivesInt op }
     ensures tops { OnOk result (TopsLeaf op g.old g.new operands.old operands.new) }
     ensures grows { Grows g.old g.new }
 {
@@ -91,14 +87,14 @@ fn lay_scalar(
     operands: &mut Operands,
     g: &mut Graph,
 ) -> Result<bool, Memory>
-    requires graph { IsGraph g.old }
+    requires whole { IsWhole g.old }
     requires ints { AreInts g.old operands.old }
     ensures lays { IfOk result (λ on. LaysNodes 0 (Action.Scalar op) g.old g.new operands.old operands.new on) }
     ensures grows { Grows g.old g.new }
 {
-    let Some(op) = int_op(op) else {
+    if !is_built(op) {
         return Ok(false);
-    };
+    }
     let Some(second) = operands.pop() else {
         return Ok(false);
     };
@@ -110,14 +106,9 @@ fn lay_scalar(
     Ok(true)
 }
 
-// The operation on two ints that this is, where it is one that is built.
-fn int_op(op: ScalarOp) -> Option<IntOp>
-    ensures { MatchOption result ((i : IntOp) → operation i ≡ op → ⊥) (λ i. operation i ≡ op) }
+// Whether it is an operation that is built: the sum, the difference or the product of two ints.
+fn is_built(op: ScalarOp) -> bool
+    ensures { IsTrue result ↔ IsBuiltOp op }
 {
-    match op {
-        ScalarOp::Iadd => Some(IntOp::Iadd),
-        ScalarOp::Isub => Some(IntOp::Isub),
-        ScalarOp::Imul => Some(IntOp::Imul),
-        _ => None,
-    }
+    matches!(op, ScalarOp::Iadd | ScalarOp::Isub | ScalarOp::Imul)
 }

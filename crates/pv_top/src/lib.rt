@@ -3,7 +3,8 @@
 //! This is the highest layer: it stands on all others, and `main` calls `run`. `specs/` says which
 //! words are a command (`Words`), which methods are converted by now and what their root is
 //! (`Built`, `Roots`), what the lines of a report are (`Verdicts`, `Lines`, `Report`), and what
-//! `run` answers and leaves (`Run`).
+//! `run` answers and leaves (`Run`). Two methods are converted into one graph of `pv_graph`, in which
+//! `pv_alike` compares their roots; what the nodes mean is told by `pv_denote`.
 //!
 //! `main` uses the clauses of `run`: each whole line `.. equivalent` that the sink took is true
 //! (`equivalent`), what each answer says of the words, of the files and of the outside (`answered`,

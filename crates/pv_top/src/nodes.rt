@@ -1,18 +1,19 @@
 //! The nodes of a method's root.
 
 ghost use Rattle.std.specs.Prelude.{◌∷◌, [], IfOk};
-ghost use Rattle.pv_dag.specs.Nodes.{IsGraph};
-ghost use Rattle.pv_top.specs.Conversion.{Grows, HasOver, IsLeaf, IsInt, IsRootOver};
+ghost use Rattle.pv_top.specs.Built.{IsBuiltOp};
+ghost use Rattle.pv_top.specs.Conversion.{Grows, HasOver, IsWhole, IsLeaf, IsOfSort, IsInt, IsRootOver};
 
-use pv_dag::{Graph, GraphFault, NodeId, Op, OpSort};
-use pv_value::{IntOp, Memory};
+use pv_graph::{Graph, GraphFault, NodeId, Op, OpSort};
+use pv_value::{Memory, ScalarOp};
 use std::alloc::Global;
 
 /// The node of an operation without kids, of this sort.
 pub fn leaf(alloc: Global, op: Op, sort: OpSort, g: &mut Graph) -> Result<NodeId, Memory>
-    requires graph { IsGraph g.old }
+    requires whole { IsWhole g.old }
     requires sort { IsLeaf op sort }
     ensures node { IfOk result (λ n. HasOver g.new n op []) }
+    ensures sort { IfOk result (λ n. IsOfSort g.new n sort) }
     ensures grows { Grows g.old g.new }
 {
     match g.add(alloc, op, &[]) {
@@ -22,18 +23,20 @@ pub fn leaf(alloc: Global, op: Op, sort: OpSort, g: &mut Graph) -> Result<NodeId
     }
 }
 
-/// The node of an operation over two ints.
+/// The node of a sum, a difference or a product of two ints.
 pub fn computed(
     alloc: Global,
-    op: IntOp,
+    op: ScalarOp,
     first: NodeId,
     second: NodeId,
     g: &mut Graph,
 ) -> Result<NodeId, Memory>
-    requires graph { IsGraph g.old }
+    requires whole { IsWhole g.old }
+    requires built { IsBuiltOp op }
     requires first { IsInt g.old first }
     requires second { IsInt g.old second }
     ensures node { IfOk result (λ n. HasOver g.new n (Op.Scalar op) (first ∷ second ∷ [])) }
+    ensures int { IfOk result (λ n. IsInt g.new n) }
     ensures grows { Grows g.old g.new }
 {
     match g.add(alloc, Op::Scalar(op), &[first, second]) {
@@ -45,7 +48,7 @@ pub fn computed(
 
 /// The root of a method that returns an int, at the heap at its start.
 pub fn root_of(alloc: Global, value: NodeId, g: &mut Graph) -> Result<NodeId, Memory>
-    requires graph { IsGraph g.old }
+    requires whole { IsWhole g.old }
     requires value { IsInt g.old value }
     ensures root { IfOk result (λ root. IsRootOver g.new root value) }
     ensures grows { Grows g.old g.new }

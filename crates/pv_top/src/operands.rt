@@ -2,7 +2,7 @@
 
 ghost use Rattle.std.specs.Prelude.{◌≡◌, [], ◌∷◌, OnOk, MatchOption};
 
-use pv_dag::NodeId;
+use pv_graph::NodeId;
 use std::alloc::{AllocError, Global};
 use std::marker::Model;
 

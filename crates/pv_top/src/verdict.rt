@@ -1,7 +1,10 @@
 //! What is said of a method.
 
-ghost use Rattle.std.specs.Prelude.{◌≡◌, ◌↔◌, ◌<◌, length, slice_get, Some, IfOk, IsTrue};
+ghost use Rattle.std.specs.Prelude.{◌≡◌, ◌↔◌, ◌<◌, length, slice_get, true, Some, IfOk, IsTrue};
 ghost use Rattle.pv_class.specs.declared.file.Method.{Method};
+ghost use Rattle.pv_graph.specs.Unfold.{UnfoldEqually};
+ghost use Rattle.pv_graph.specs.Graphs.{form_at};
+ghost use Rattle.pv_top.specs.Conversion.{IsWhole};
 ghost use Rattle.pv_top.specs.Verdicts.{HasCode};
 ghost use Rattle.pv_top.specs.Judging.{IsRead, IsVerdictAt, IsVerdictOnPlaces};
 ghost use Rattle.pv_top.specs.Partnering.{IsIndexOf};
@@ -11,7 +14,7 @@ use crate::partners::{Partners, partner_of};
 use crate::reason::{Reason, Stop};
 use pv_alike::least;
 use pv_class::ClassFile;
-use pv_dag::Graph;
+use pv_graph::{Graph, NodeId};
 use pv_value::Memory;
 use std::alloc::Global;
 
@@ -97,10 +100,25 @@ fn verdict_with(
         Err(Stop::Reason(why)) => return Ok(Verdict::Refused(Side::Second, why)),
         Err(Stop::Memory) => return Err(Memory),
     };
-    let roots = least(alloc, &g, one, two)?;
-    if roots.first() == roots.second() {
+    let alike = are_alike(alloc, g, one, two)?;
+    if alike {
         Ok(Verdict::Equivalent)
     } else {
         Ok(Verdict::Apart)
     }
+}
+
+// Whether two nodes of an open graph unfold equally.
+fn are_alike(alloc: Global, mut g: Graph, one: NodeId, two: NodeId) -> Result<bool, Memory>
+    requires whole { IsWhole g }
+    requires open { g.is_open ≡ true }
+    requires one { one < length g.nodes }
+    requires two { two < length g.nodes }
+    ensures { IfOk result (λ alike. IsTrue alike ↔ UnfoldEqually (form_at g.nodes) one two) }
+{
+    if !g.seal() {
+        unreachable!();
+    }
+    let roots = least(alloc, &g, one, two)?;
+    Ok(roots.first() == roots.second())
 }

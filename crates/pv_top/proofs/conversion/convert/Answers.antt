@@ -1,6 +1,6 @@
 use Rattle.std.proofs.Common.{◌≡◌, length, false, rules}
 use Rattle.pv_frame.specs.Answers.{IsTyping}
-use Rattle.pv_dag.specs.Trees.{Tree}
+use Rattle.pv_graph.specs.Unfold.{Tree}
 use Rattle.pv_top.specs.Built.{IsOfInts, ReturnsTree}
 use Rattle.pv_top.specs.Conversion.{IsReturned}
 use Rattle.pv_top.proofs.Meanings.{root_typed, not_built}

@@ -9,8 +9,8 @@ use Rattle.pv_top.proofs.laying.returned_node.Goals as goal
 pub loop-action-init : goal.loop-action-init
 loop-action-init c = rw c.new-operands.ensures (walked_none c.args.params c.in-Some.front.now c.args.g.now c.requires)
 
-pub lay-requires-clause-graph : goal.lay-requires-clause-graph
-lay-requires-clause-graph c = c.loop-action.invariant.grows.graph
+pub lay-requires-clause-whole : goal.lay-requires-clause-whole
+lay-requires-clause-whole c = c.loop-action.invariant.grows.whole
 
 pub lay-requires-clause-ints : goal.lay-requires-clause-ints
 lay-requires-clause-ints c = c.loop-action.invariant.ints

@@ -1,13 +1,13 @@
 -- Worked examples: two loops of their own that stay at 0 are one, and a loop that goes to 1 is another.
-use Rattle.std.specs.Prelude.{◌≡◌, ℕ, zero, suc, ◌<◌, pos, List, [], ◌∷◌, ◌++◌, length, Option, Some, slice_get, refl}
-use Rattle.std.specs.List.{AllZip, Contains}
+use Rattle.std.specs.Prelude.{◌≡◌, ℕ, zero, suc, ◌<◌, pos, List, [], ◌∷◌, refl}
+use Rattle.std.specs.List.{Contains}
 use Rattle.std.proofs.Common.{arith}
 use Rattle.pv_graph.specs.declared.node.Op.TheVariants as op
 use Rattle.pv_graph.specs.declared.node.Node.{Node}
 use Rattle.pv_graph.specs.Nodes.{node_of}
 use Rattle.pv_graph.specs.Unfold.{unfold_at}
 use Rattle.pv_graph.specs.Graphs.{form_at}
-use Rattle.pv_graph.proofs.Bisimulations.{Matched, Bisimulates, bisimulates_unfolds}
+use Rattle.pv_graph.proofs.Bisimulations.{Bisimulates, bisimulates_unfolds}
 use Rattle.pv_alike.specs.Visits.{Visits, done, again, new}
 use Rattle.pv_alike.specs.Least.{UnfoldEqually, UnfoldsAs, IsLeast}
 use Rattle.pv_alike.proofs.Places.{contains_at}

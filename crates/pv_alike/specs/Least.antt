@@ -7,7 +7,7 @@ use Rattle.pv_value.specs.declared.outcome.Val.{Val}
 use Rattle.pv_graph.specs.declared.node.Node.{Node}
 use Rattle.pv_denote.specs.Denote.{Index}
 use Rattle.pv_denote.specs.Denote as denote
-use Rattle.pv_graph.specs.Unfold.{unfold_at}
+use Rattle.pv_graph.specs.Unfold as trees
 use Rattle.pv_graph.specs.Graphs.{Graph, form_at, IsWellMade}
 use Rattle.pv_alike.specs.Visits.{Visits}
 
@@ -19,11 +19,11 @@ pub record Rooted : Type 0 where
 
 -- nodes unfold equally
 abbrev pub UnfoldEqually : List Node → ℕ → ℕ → Type 0
-UnfoldEqually g a b = (m : ℕ) → unfold_at (form_at g) m a ≡ unfold_at (form_at g) m b
+UnfoldEqually g a b = trees.UnfoldEqually (form_at g) a b
 
 -- a node of one graph unfolds as a node of another
 abbrev pub UnfoldsAs : List Node → ℕ → List Node → ℕ → Type 0
-UnfoldsAs h r g a = (m : ℕ) → unfold_at (form_at h) m r ≡ unfold_at (form_at g) m a
+UnfoldsAs h r g a = trees.UnfoldsAs (form_at h) (form_at g) r a
 
 -- a node of one graph has exactly the values of a node of another
 abbrev pub MeansAs : List Node → ℕ → List Node → ℕ → Type 0
@@ -38,17 +38,7 @@ pub record IsLeast (g : List Node) (a b : ℕ) (h : List Node) (r s : ℕ) : Typ
   pub distinct : (m n : ℕ) → m < length h → n < length h → UnfoldEqually h m n → m ≡ n
   pub numbered : Visits h (range_with_len 0 (length h)) [] (r ∷ s ∷ [])
 
--- ---- least(alloc: Global, g: &Graph, first: NodeId, second: NodeId) -> Result<Least, Memory>
---        requires made { IsWellMade g.now }
---        requires sealed { g.now.is_open ≡ false }
---        requires first { first < length g.now.nodes }
---        requires second { second < length g.now.nodes }
---        ensures least { IfOk result (λ l. IsLeastOf g.now first second l) }
---        ensures one { IfOk result (λ l. (l.first ≡ l.second) ↔ UnfoldEqually g.now.nodes first second) }
---        ensures first_means { IfOk result (λ l. MeansAs l.graph.nodes l.first g.now.nodes first) }
---        ensures second_means { IfOk result (λ l. MeansAs l.graph.nodes l.second g.now.nodes second) }
-
--- a sealed and well-made graph, of which all nodes are its base, with the roots
+-- a sealed and well-made graph, of which all nodes are the base, with the roots: the least graph of the nodes a and b of g
 pub record IsLeastOf (g : Graph) (a b : ℕ) (l : Rooted) : Type 0 where
   pub least : IsLeast g.nodes a b l.graph.nodes l.first l.second
   pub sealed : l.graph.is_open ≡ false

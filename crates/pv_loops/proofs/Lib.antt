@@ -7,5 +7,11 @@ mod Reducing
 mod Sweeping
 mod Sticking
 mod Bodies
+mod Gathering
+mod Heading
+mod Nesting
+mod Listing
+mod Filling
+mod Foresting
 mod Orders
 mod Examples

@@ -1,5 +1,5 @@
 -- The nodes of a loop, found from its header by the order of a reduction.
-use Rattle.std.specs.Prelude.{◌≡◌, ◌≢◌, ℕ, ◌<◌, ◌≤◌, ◌+◌, List, length, slice_index, ◌⊎◌, ◌↔◌}
+use Rattle.std.specs.Prelude.{◌≡◌, ◌≢◌, ℕ, ◌<◌, ◌≤◌, List, length, slice_index, ◌⊎◌, ◌↔◌}
 use Rattle.std.specs.List.{Contains}
 use Rattle.pv_loops.specs.Shapes.{Edge}
 
@@ -31,12 +31,3 @@ InBody sources place h x = (x ≡ h) ⊎ Reaches sources place h x
 -- these are the nodes of the body of h
 abbrev pub AreBody : List (List ℕ) → List ℕ → ℕ → List ℕ → Type 0
 AreBody sources place h nodes = (x : ℕ) → Contains nodes x ↔ InBody sources place h x
-
--- these nodes are added to a body, and those that are new to the nodes whose sources are to be added
-pub record AddsNodes (body added todo more nodes : List ℕ) : Type 0 where
-  pub members : (x : ℕ) → Contains added x ↔ (Contains body x ⊎ Contains nodes x)
-  pub fresh : (x : ℕ) → Contains more x → Contains todo x ⊎ (Contains nodes x × (Contains body x → ⊥))
-  pub kept : (x : ℕ) → Contains todo x → Contains more x
-  pub waits : (x : ℕ) → Contains added x → Contains body x ⊎ Contains more x
-  pub grows : length body ≤ length added
-  pub size : length more + length body ≡ length todo + length added

@@ -4,5 +4,7 @@ pub mod Loops
 pub mod Groups
 pub mod Reductions
 pub mod Bodies
+pub mod Nests
+pub mod Forests
 pub mod Faults
 pub mod Laws

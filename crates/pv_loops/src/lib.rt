@@ -1,4 +1,4 @@
-//! Interval reduction of control flow, and loops.
+//! Interval reduction of control flow, and the forest of loops.
 //!
 //! This layer stands on nothing but the standard library. A shape (`specs/Shapes`) has for each node
 //! the nodes that its edges go to; node 0 is the entry. `specs/Steps` has the steps T1 and T2 of Hecht
@@ -7,8 +7,11 @@
 //! the largest sets in which each node is reached from each, their headers, and the loops of such a set
 //! without the edges to its header.
 //!
-//! The layer above uses `check_reducible`, which says exactly whether a shape is reducible, with steps
-//! that are stuck where it isn't. Out of memory is its one other answer. And it uses these laws:
+//! The layer above uses `reduce`. It gives the forest of the loops of a shape (`specs/Forests`): each
+//! loop of the definition, once, by ascending header, with its depth, the next loop around it and its
+//! nodes, and for each node the innermost loop that has it. Where the shape isn't reducible, it gives
+//! steps that are stuck, and where loops nest deeper than 16, the depth 17. Out of memory is its one
+//! other answer. And the layer above uses these laws:
 //!
 //! - `law_confluence`: where some steps reduce a shape to one node, no steps are stuck.
 //! - `law_bodies`: in an order that a reduction gives (`specs/Bodies`), the nodes from which an edge
@@ -18,20 +21,27 @@
 //! `reduction` merges groups of nodes, each into the only group with edges into it (`specs/Reductions`),
 //! in sweeps over the leaders that are left; `groups` has for each node its leader and its place in the
 //! list of its group (`specs/Groups`). A group that is merged goes after the one that it is merged
-//! into, which keeps the nodes of a group in order. Nothing here recurses.
+//! into, which keeps the nodes of a group in order. In this order `headers` has the nodes with an edge
+//! back to them, and `forest` goes over them (`specs/Nests`): `body` finds the nodes of each backwards
+//! from these edges, and the home that the header has by then is the next loop around it. No node is
+//! in more than 17 bodies, so they take time in proportion to the edges, but for the sorting of their
+//! nodes. Nothing here recurses.
 #![tactic(auto)]
 
 ghost use Rattle.pv_loops.specs.Laws.{Confluence, InnerBodies, OutermostBodies};
 
+mod body;
 mod fault;
+mod forest;
 mod groups;
+mod headers;
 mod lists;
 mod order;
 mod reduction;
 mod shape;
 
 pub use fault::{LoopFault, TStep};
-pub use order::check_reducible;
+pub use forest::{Forest, Loop, reduce};
 pub use shape::Shape;
 
 /// The law of confluence: a shape that some steps reduce to one node has no stuck steps.

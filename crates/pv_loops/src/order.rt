@@ -9,15 +9,15 @@ ghost use Rattle.pv_loops.specs.Faults.{OnIrreducible, OnDeep};
 use crate::fault::LoopFault;
 use crate::lists::Lists;
 use crate::reduction::Reduction;
-use crate::shape::{Shape, sources};
+use crate::shape::Shape;
 use std::alloc::Global;
 
 /// All nodes in an order in which each but the entry has an edge from an earlier one, and the place of
 /// each.
 #[derive(Debug, Drop)]
 pub struct Order {
-    nodes: Vec<u32>,
-    place: Vec<usize>,
+    pub nodes: Vec<u32>,
+    pub place: Vec<usize>,
 }
 
 /// Reduces a shape, whose edges have these sources, by T1 and T2 as far as steps apply.
@@ -36,17 +36,4 @@ pub fn ordered(alloc: Global, shape: &Shape, sources: &Lists) -> Result<Order, L
     }
     let (nodes, place) = reduction.into_groups().into_order(alloc);
     Ok(Order { nodes, place })
-}
-
-/// Whether intervals reduce a shape to one node, the entry: `Irreducible` carries steps that are stuck
-/// with two or more nodes, and comes only where some steps are. `Deep` doesn't come.
-pub fn check_reducible(alloc: Global, shape: &Shape) -> Result<(), LoopFault>
-    requires { IsShape shape.now }
-    ensures reducible { OnOk result (IsReducible shape.now) }
-    ensures irreducible { IfErr result (λ e. OnIrreducible e (λ steps. Stuck shape.now steps)) }
-    ensures deep { IfErr result (λ e. OnDeep e (λ _. ⊥)) }
-{
-    let sources = sources(alloc, shape)?;
-    ordered(alloc, shape, &sources)?;
-    Ok(())
 }

@@ -130,12 +130,13 @@ impl Forest {
             return Err(LoopFault::Deep(depth));
         }
         members.sort_unstable();
-        self.loops[i as usize] = Loop {
+        let filled = Loop {
             header: h,
             depth,
             parent,
             members,
         };
+        self.loops[i as usize] = filled;
         Ok(())
     }
 }

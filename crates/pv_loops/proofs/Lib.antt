@@ -13,5 +13,6 @@ mod Nesting
 mod Listing
 mod Filling
 mod Foresting
+mod Unique
 mod Orders
 mod Examples

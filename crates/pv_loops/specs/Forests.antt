@@ -49,3 +49,16 @@ NestsUpTo s most = (headers members : List ℕ) → IsLoop s headers members →
 -- a loop of the shape has this many headers around it, its own included
 abbrev pub HasDepth : List (List ℕ) → ℕ → Type 0
 HasDepth s d = (headers : List ℕ) × (members : List ℕ) × IsLoop s headers members × (length headers ≡ d)
+
+-- one loop with one place in the list
+pub record IsSameLoop (k l : Loop) : Type 0 where
+  pub header : k.header ≡ l.header
+  pub depth : k.depth ≡ l.depth
+  pub parent : k.parent ≡ l.parent
+  pub members : k.members.items ≡ l.members.items
+
+-- the same loops in the same places, and the same homes
+pub record IsSameForest (f g : Forest) : Type 0 where
+  pub size : length f.loops.items ≡ length g.loops.items
+  pub loops : (i : ℕ) (k l : Loop) → slice_get f.loops.items i ≡ Some k → slice_get g.loops.items i ≡ Some l → IsSameLoop k l
+  pub home : f.home.items ≡ g.home.items

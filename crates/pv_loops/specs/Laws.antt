@@ -5,6 +5,8 @@ use Rattle.pv_loops.specs.Shapes.{IsShape, IsReversed}
 use Rattle.pv_loops.specs.Steps.{ReduceToOne, IsReducible}
 use Rattle.pv_loops.specs.Loops.{IsLoop}
 use Rattle.pv_loops.specs.Bodies.{IsOrder, IsHead, InBody, AreBody}
+use Rattle.pv_loops.specs.declared.forest.Forest.{Forest}
+use Rattle.pv_loops.specs.Forests.{IsForest, IsSameForest}
 
 -- where some steps reduce a shape to one node, no steps are stuck
 abbrev pub Confluence : Type 0
@@ -22,3 +24,7 @@ InnerBodies = (s sources : List (List ℕ)) (order place : List ℕ) → IsRever
     → (h outer : ℕ) (around members set : List ℕ) → IsHead sources place h → IsHead sources place outer → AreBody sources place h members → AreBody sources place outer set
     → InBody sources place outer h → outer ≢ h → ((z : ℕ) → IsHead sources place z → InBody sources place z h → z ≢ h → slice_index place z ≤ slice_index place outer)
     → IsLoop s (outer ∷ around) set → IsLoop s (h ∷ outer ∷ around) members
+
+-- a shape has one forest at most
+abbrev pub OneForest : Type 0
+OneForest = (s : List (List ℕ)) (f g : Forest) → IsForest s f → IsForest s g → IsSameForest f g

@@ -17,6 +17,7 @@
 //! - `law_bodies`: in an order that a reduction gives (`specs/Bodies`), the nodes from which an edge
 //!   back to a header is reached without passing the header are its loop, and it is an inner loop of
 //!   the latest other header around it.
+//! - `law_forest`: two forests of one shape have the same loops in the same places, and the same homes.
 //!
 //! `reduction` merges groups of nodes, each into the only group with edges into it (`specs/Reductions`),
 //! in sweeps over the leaders that are left; `groups` has for each node its leader and its place in the
@@ -28,7 +29,7 @@
 //! nodes. Nothing here recurses.
 #![tactic(auto)]
 
-ghost use Rattle.pv_loops.specs.Laws.{Confluence, InnerBodies, OutermostBodies};
+ghost use Rattle.pv_loops.specs.Laws.{Confluence, InnerBodies, OneForest, OutermostBodies};
 
 mod body;
 mod fault;
@@ -54,4 +55,9 @@ pub fn law_confluence()
 pub fn law_bodies()
     ensures outermost { OutermostBodies }
     ensures inner { InnerBodies }
+{}
+
+/// The law of forests: the definition has one forest at most for a shape.
+pub fn law_forest()
+    ensures { OneForest }
 {}

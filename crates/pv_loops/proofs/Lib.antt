@@ -14,5 +14,6 @@ mod Listing
 mod Filling
 mod Foresting
 mod Unique
+mod Walking
 mod Orders
 mod Examples

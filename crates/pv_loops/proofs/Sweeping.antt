@@ -1,5 +1,5 @@
 -- The search for the one group with edges into a leader.
-use Rattle.std.proofs.Common.{◌≡◌, ◌≢◌, ℕ, ◌<◌, ◌≤◌, ◌+◌, ◌-◌, List, [], ◌∷◌, ◌++◌, length, get_or, refl, sym, ◌∙◌, ap, subst, arith, ◌⊎◌, inl, inr, ⊎_elim, Option, Some, None}
+use Rattle.std.proofs.Common.{◌≡◌, ◌≢◌, ℕ, ◌<◌, ◌≤◌, ◌+◌, List, [], ◌∷◌, ◌++◌, length, get_or, refl, sym, ◌∙◌, ap, subst, arith, ◌⊎◌, inl, inr, ⊎_elim, Option, Some, None}
 use Rattle.std.proofs.lemmas.Bool.{cases_eq, cases_lt}
 use Rattle.std.proofs.lemmas.List.Elements.{Contains-get_or}
 use Rattle.std.proofs.lemmas.List.{get_or_push, get_or_append_left, length-append}
@@ -7,7 +7,7 @@ use Rattle.std.specs.List.{All, Contains}
 use Rattle.pv_loops.specs.declared.groups.Groups.{Groups}
 use Rattle.pv_loops.specs.Shapes.{Edge, targets, IsShape, IsReversed}
 use Rattle.pv_loops.specs.Groups.{leader_of, place_of, Leads, AreGroups, Merges}
-use Rattle.pv_loops.specs.Reductions.{IsOnlySource, AreRest, NoneMerges, Reduces, Reduced, Tracks}
+use Rattle.pv_loops.specs.Reductions.{IsOnlySource, AreOthers, AreRest, NoneMerges, Reduces, Reduced, Tracks}
 use Rattle.pv_loops.specs.declared.reduction.Reduction.{Reduction}
 use Rattle.pv_loops.specs.declared.fault.TStep.{TStep}
 use Rattle.pv_loops.specs.Steps.{graph_of, AllApply, after_all}
@@ -161,12 +161,12 @@ pub record Collapsing (now : Reduction) (sources : List (List ℕ)) (rest : List
   pub leaders : AreRest now.groups rest
 
 -- at first each node leads itself
-pub first_rest : (g : Groups) (rest : List ℕ) → ((x : ℕ) → x < length g.leader.items → leader_of g x ≡ x) → length rest ≡ length g.leader.items - 1 → ((k : ℕ) → k < length g.leader.items - 1 → get_or rest k 0 ≡ k + 1) → AreRest g rest
-first_rest g rest own len nodes = record {
-  leads = λ k h. let e = nodes k (omega (arith, len)) in let lt : get_or rest k 0 < length g.leader.items = omega (arith, e, len) in (lt, own (get_or rest k 0) lt);
-  nonzero = λ k h. let e = nodes k (omega (arith, len)) in λ z. omega (arith, e, z);
-  distinct = λ j k less h. let e = nodes j (omega (arith, len)) in let f = nodes k (omega (arith, len)) in λ z. omega (arith, e, f, z);
-  all = λ x l nz. (x - 1, omega (arith, len, l.0), nodes (x - 1) (omega (arith, l.0, nz)) ∙ omega (arith, nz));
+pub first_rest : (g : Groups) (rest : List ℕ) → ((x : ℕ) → x < length g.leader.items → leader_of g x ≡ x) → AreOthers (length g.leader.items) rest → AreRest g rest
+first_rest g rest own others = record {
+  leads = λ k h. let lt = others.within k h in (lt, own (get_or rest k 0) lt);
+  nonzero = others.nonzero;
+  distinct = others.distinct;
+  all = λ x l nz. others.all x l.0 nz;
 }
 
 -- no step is taken yet

@@ -1,9 +1,10 @@
 -- What a reduction keeps while groups of nodes are merged.
-use Rattle.std.specs.Prelude.{◌≡◌, ◌≢◌, ℕ, ◌<◌, ◌≤◌, List, length, slice_index}
-use Rattle.std.specs.List.{Contains}
+use Rattle.std.specs.Prelude.{◌≡◌, ◌≢◌, ℕ, ◌<◌, ◌≤◌, List, Bool, true, false, length, slice_index, slice_index_or}
+use Rattle.std.specs.List.{All, Contains}
 use Rattle.pv_loops.specs.declared.fault.TStep.{TStep}
 use Rattle.pv_loops.specs.declared.groups.Groups.{Groups}
 use Rattle.pv_loops.specs.declared.reduction.Reduction.{Reduction}
+use Rattle.pv_loops.specs.declared.walk.Walk.{Walk}
 use Rattle.pv_loops.specs.Shapes.{Edge, targets, IsReversed}
 use Rattle.pv_loops.specs.Steps.{Graph, graph_of, AllApply, after_all, Stuck}
 use Rattle.pv_loops.specs.Groups.{leader_of, place_of, Leads}
@@ -59,3 +60,29 @@ NoneMerges g sources rest = (k p : ℕ) → k < length rest → IsOnlySource g (
 -- the steps are stuck in the shape whose edges have these sources
 abbrev pub StuckFrom : List (List ℕ) → List TStep → Type 0
 StuckFrom sources steps = (s : List (List ℕ)) → IsReversed s sources → Stuck s steps
+
+-- each of these nodes but the entry, once
+pub record AreOthers (count : ℕ) (nodes : List ℕ) : Type 0 where
+  pub within : (k : ℕ) → k < length nodes → slice_index nodes k < count
+  pub nonzero : (k : ℕ) → k < length nodes → slice_index nodes k ≢ 0
+  pub distinct : (j k : ℕ) → j < k → k < length nodes → slice_index nodes j ≢ slice_index nodes k
+  pub all : (x : ℕ) → x < count → x ≢ 0 → (k : ℕ) × (k < length nodes) × (slice_index nodes k ≡ x)
+
+-- the marks say which nodes are listed, and one is set for the entry, which isn't
+pub record AreListed (listed : List Bool) (nodes : List ℕ) : Type 0 where
+  pub entry : slice_index_or listed 0 false ≡ true
+  pub within : (k : ℕ) → k < length nodes → slice_index nodes k < length listed
+  pub nonzero : (k : ℕ) → k < length nodes → slice_index nodes k ≢ 0
+  pub marked : (k : ℕ) → k < length nodes → slice_index_or listed (slice_index nodes k) false ≡ true
+  pub distinct : (j k : ℕ) → j < k → k < length nodes → slice_index nodes j ≢ slice_index nodes k
+  pub all : (x : ℕ) → slice_index_or listed x false ≡ true → x ≢ 0 → (k : ℕ) × (k < length nodes) × (slice_index nodes k ≡ x)
+
+-- no mark is taken away
+abbrev pub KeepsListed : List Bool → List Bool → Type 0
+KeepsListed old new = (x : ℕ) → slice_index_or old x false ≡ true → slice_index_or new x false ≡ true
+
+-- a walk goes over nodes
+pub record IsWalk (count : ℕ) (w : Walk) : Type 0 where
+  pub size : length w.seen.items ≡ count
+  pub path : All (λ (e : ℕ × ℕ). e.0 < count) w.path.items
+  pub done : All (λ n. n < count) w.done.items

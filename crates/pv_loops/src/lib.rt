@@ -20,13 +20,13 @@
 //! - `law_forest`: two forests of one shape have the same loops in the same places, and the same homes.
 //!
 //! `reduction` merges groups of nodes, each into the only group with edges into it (`specs/Reductions`),
-//! in sweeps over the leaders that are left; `groups` has for each node its leader and its place in the
-//! list of its group (`specs/Groups`). A group that is merged goes after the one that it is merged
-//! into, which keeps the nodes of a group in order. In this order `headers` has the nodes with an edge
-//! back to them, and `forest` goes over them (`specs/Nests`): `body` finds the nodes of each backwards
-//! from these edges, and the home that the header has by then is the next loop around it. No node is
-//! in more than 17 bodies, so they take time in proportion to the edges, but for the sorting of their
-//! nodes. Nothing here recurses.
+//! in sweeps over the leaders that are left, in the order that `walk` gives; `groups` has for each node
+//! its leader and its place in the list of its group (`specs/Groups`). A group that is merged goes after
+//! the one that it is merged into, which keeps the nodes of a group in order. In this order `headers`
+//! has the nodes with an edge back to them, and `forest` goes over them (`specs/Nests`): `body` finds
+//! the nodes of each backwards from these edges, and the home that the header has by then is the next
+//! loop around it. No node is in more than 17 bodies, so they take time in proportion to the edges, but
+//! for the sorting of their nodes. Nothing here recurses.
 #![tactic(auto)]
 
 ghost use Rattle.pv_loops.specs.Laws.{Confluence, InnerBodies, OneForest, OutermostBodies};
@@ -40,6 +40,7 @@ mod lists;
 mod order;
 mod reduction;
 mod shape;
+mod walk;
 
 pub use fault::{LoopFault, TStep};
 pub use forest::{Forest, Loop, reduce};

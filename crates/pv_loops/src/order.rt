@@ -10,6 +10,7 @@ use crate::fault::LoopFault;
 use crate::lists::Lists;
 use crate::reduction::Reduction;
 use crate::shape::Shape;
+use crate::walk::others;
 use std::alloc::Global;
 
 /// All nodes in an order in which each but the entry has an edge from an earlier one, and the place of
@@ -29,7 +30,8 @@ pub fn ordered(alloc: Global, shape: &Shape, sources: &Lists) -> Result<Order, L
     ensures irreducible { IfErr result (λ e. OnIrreducible e (λ steps. Stuck shape.now steps)) }
     ensures deep { IfErr result (λ e. OnDeep e (λ _. ⊥)) }
 {
-    let (reduction, rest) = Reduction::collapse(alloc, shape.len(), sources)?;
+    let others = others(alloc, shape)?;
+    let (reduction, rest) = Reduction::collapse(alloc, shape.len(), sources, others)?;
     if !rest.is_empty() {
         let steps = reduction.into_stuck(sources, rest)?;
         return Err(LoopFault::Irreducible(steps));

@@ -19,17 +19,19 @@ pub struct Reduction {
 }
 
 impl Reduction {
-    ghost use Rattle.pv_loops.specs.Reductions.{Reduces, IsOnlySource, AreRest, NoneMerges, StuckFrom};
+    ghost use Rattle.pv_loops.specs.Reductions.{Reduces, IsOnlySource, AreOthers, AreRest, NoneMerges, StuckFrom};
 
     /// Reduces the shape whose edges have these sources until no leader but the entry can be merged,
-    /// and gives these leaders too.
+    /// and gives these leaders too. The sweeps go over the nodes other than the entry in this order.
     pub fn collapse(
         alloc: Global,
         count: u32,
         sources: &Lists,
+        others: Vec<u32>,
     ) -> Result<(Reduction, Vec<u32>), AllocError>
         requires shape { IsShape sources.now }
         requires count { count ≡ length sources.now }
+        requires others { AreOthers count others.items }
         ensures groups { IfOk result (λ r. AreGroups r.0.groups) }
         ensures size { IfOk result (λ r. length r.0.groups.leader.items ≡ length sources.now) }
         ensures reduced { IfOk result (λ r. Reduces sources.now r.0) }
@@ -40,7 +42,7 @@ impl Reduction {
             groups: Groups::single(alloc, count)?,
             steps: Vec::new(alloc),
         };
-        let mut rest = others(alloc, count)?;
+        let mut rest = others;
         'sweeps: loop {
             let kept = reduction.sweep(alloc, sources, &rest)?;
             if kept.len() == rest.len() {
@@ -168,17 +170,4 @@ fn push_steps(steps: &mut Vec<TStep>, own: bool, n: u32, p: u32) -> Result<(), A
     }
     steps.push(TStep::T2(n, p))?;
     Ok(())
-}
-
-// The nodes of a shape of this size, but for the entry.
-fn others(alloc: Global, count: u32) -> Result<Vec<u32>, AllocError>
-    requires { 0 < count }
-    ensures len { IfOk result (λ rest. length rest.items ≡ count - 1) }
-    ensures nodes { IfOk result (λ rest. (k : ℕ) → k < count - 1 → slice_index rest.items k ≡ k + 1) }
-{
-    let mut rest = Vec::new(alloc);
-    for n in 1..count {
-        rest.push(n)?;
-    }
-    Ok(rest)
 }

@@ -1,5 +1,6 @@
-use Rattle.std.proofs.Common.{◌≡◌, ℕ, ◌<◌, length, ◌∙◌, arith}
+use Rattle.std.proofs.Common.{◌≡◌, ℕ, ◌<◌, length, ◌∙◌, subst, arith}
 use Rattle.pv_loops.specs.Groups.{leader_of}
+use Rattle.pv_loops.specs.Reductions.{AreOthers}
 use Rattle.pv_loops.proofs.Sweeping.{first_rest, reduced_start}
 use Rattle.pv_loops.proofs.reduction.Reduction.collapse.Goals as goal
 
@@ -12,7 +13,7 @@ sweeps-init c =
       groups = c.in_ok-single.ensures.groups;
       size = size;
       reduced = λ s rev. reduced_start s c.args.sources.now _ c.requires.shape.entry size own (λ x h. c.in_ok-single.ensures.groups.first x (h, own x h)) c.new.ensures.items rev c.requires.shape;
-      leaders = first_rest g c.in_ok-rest.rest.items own (omega (arith, c.in_ok-rest.ensures.len, c.in_ok-single.ensures.size)) (λ k h. c.in_ok-rest.ensures.nodes k (omega (arith, h, c.in_ok-single.ensures.size)));
+      leaders = first_rest g c.args.others.items own (subst (λ n. AreOthers n c.args.others.items) (omega (arith, c.requires.count, size)) c.requires.others);
     }
 
 pub returns-then-len-clause-ends : goal.returns-then-len-clause-ends

@@ -1,6 +1,6 @@
 -- Laws of a flow: where instructions stand, and what is reached along edges.
 use Rattle.std.proofs.Common.{◌≡◌, ℕ, zero, suc, ◌<◌, ◌≤◌, List, [], ◌∷◌, length, get_or, Some, refl, sym, ap, ◌∙◌, subst, inl, inr, arith}
-use Rattle.std.specs.Prelude.{◌⊎◌, ◌↔◌, slice_get, Contains}
+use Rattle.std.specs.Prelude.{◌↔◌, slice_get, Contains}
 use Rattle.std.specs.List.{AllZip}
 use Rattle.std.proofs.lemmas.Bool.{cases_lt}
 use Rattle.std.proofs.lemmas.Option.{slice_get_within}
@@ -19,8 +19,8 @@ use Rattle.pv_flow.specs.Exits.{Departure, Goes, Returns, Throws, departures, ta
 use Rattle.pv_flow.specs.Blocks.{Begins, IsBlockAt, IsExit, IsBlock, IsFlow}
 use Rattle.pv_flow.specs.Blocks as begin
 use Rattle.pv_flow.specs.Edges.{targets_of, edges_of, Edge, FromEntry, entry, along}
-use Rattle.pv_flow.specs.Laws.{StandsIn, GoesOn}
-use Rattle.pv_flow.proofs.Departing.{goes_to_successors, target_or_next}
+use Rattle.pv_flow.specs.Laws.{StandsIn, GoesToNext}
+use Rattle.pv_flow.proofs.Departing.{goes_to_successors}
 use Rattle.pv_flow.proofs.Spans.{at_within, before_no_begin, inside_at, inside_reached}
 
 -- ---- exits and edges
@@ -82,7 +82,7 @@ from_place blocks Throws n is = elim is [ ]
 -- ---- a flow
 
 module _ (p : Program) (blocks : List Block) (flow : IsFlow p blocks) where
-  pub straight : (n : ℕ) (b : Block) → slice_get blocks n ≡ Some b → (k : ℕ) → b.first ≤ k → k < b.last → GoesOn p k
+  pub straight : (n : ℕ) (b : Block) → slice_get blocks n ≡ Some b → (k : ℕ) → b.first ≤ k → k < b.last → GoesToNext p k
   straight n b at k from lt =
       let is = flow.each n b at in
       let here = inside_at p b.first b.last is.span is.action is.ends k (omega arith) in

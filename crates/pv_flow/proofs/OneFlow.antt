@@ -1,6 +1,6 @@
 -- A program has one flow.
-use Rattle.std.proofs.Common.{◌≡◌, ℕ, zero, suc, ◌<◌, ◌≤◌, List, [], ◌∷◌, length, map, Some, refl, sym, ap, ◌∙◌, subst, inl, inr, arith}
-use Rattle.std.specs.Prelude.{◌⊎◌, slice_get}
+use Rattle.std.proofs.Common.{◌≡◌, ℕ, zero, suc, ◌<◌, ◌≤◌, List, [], ◌∷◌, map, Some, refl, sym, ap, ◌∙◌, subst, inl, inr, arith}
+use Rattle.std.specs.Prelude.{slice_get}
 use Rattle.std.specs.List.{AllZip}
 use Rattle.std.proofs.lemmas.Bool.{cases_lt}
 use Rattle.pv_frame.specs.declared.action.Action.{Action}
@@ -10,7 +10,7 @@ use Rattle.pv_flow.specs.declared.block.Exit.{Exit}
 use Rattle.pv_flow.specs.declared.block.Exit.TheVariants as exit
 use Rattle.pv_flow.specs.declared.block.Block.{Block}
 use Rattle.pv_flow.specs.Exits.{Departure, Goes, Returns, Throws, departures}
-use Rattle.pv_flow.specs.Blocks.{IsBlockAt, IsSpan, IsExit, IsBlock, IsFlow}
+use Rattle.pv_flow.specs.Blocks.{IsBlockAt, IsSpan, IsExit, IsFlow}
 
 -- ---- ascending lists
 
@@ -139,7 +139,7 @@ one_block p xs ys in_x in_y same n b c at_b at_c =
     let last : b.last ≡ c.last = one_last p c.first b.last c.last (subst (λ (k : ℕ). IsSpan p k b.last) first one.span) other.span in
     let action : one.action ≡ other.action = some_of one.action other.action (sym one.ends ∙ ap (slice_get p.actions) last ∙ other.ends) in
     let left : AllZip (IsExit xs) (departures c.last other.action) b.exits =
-        subst (λ (a : Action). AllZip (IsExit xs) (departures c.last a) b.exits) action (subst (λ (k : ℕ). AllZip (IsExit xs) (departures k one.action) b.exits) last one.exits) in
+    subst (λ (a : Action). AllZip (IsExit xs) (departures c.last a) b.exits) action (subst (λ (k : ℕ). AllZip (IsExit xs) (departures k one.action) b.exits) last one.exits) in
     let exits = one_exits xs ys same (firsts_ascend p ys in_y) (departures c.last other.action) b.exits c.exits left other.exits in
     λ i. record { first = first i; last = last i; exits = exits i }
 

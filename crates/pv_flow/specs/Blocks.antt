@@ -11,13 +11,13 @@ use Rattle.pv_flow.specs.declared.block.Block.{Block}
 use Rattle.pv_flow.specs.Exits.{Departure, Goes, Returns, Throws, departures, ends_block, targets}
 
 -- A block begins at the first instruction, at each target, also of an instruction that isn't reached, and after each
--- instruction that branches, ends the method or can throw.
+-- instruction that branches, ends the method or can throw. It may begin at the end of the code, which isn't reached.
 pub data Begins (p : Program) : ℕ → Type 0 where
   first : Begins p 0
   target : (k j : ℕ) (a : Action) → IsAt p k a → Contains (targets a) j → Begins p j
   next : (k : ℕ) (a : Action) → IsAt p k a → ends_block a ≡ true → Begins p (suc k)
 
--- a block begins at `first`, the next after `last`, and none in between
+-- a block begins at `first`, the next one after `last`, and none between the two
 pub record IsSpan (p : Program) (first last : ℕ) : Type 0 where
   pub begins : Begins p first
   pub some : first ≤ last

@@ -18,7 +18,7 @@ pub record StandsIn (blocks : List Block) (n k : ℕ) : Type 0 where
   pub up_to : k ≤ block.last
 
 -- the instruction at place k goes on to the next one alone, and can't throw
-pub record GoesOn (p : Program) (k : ℕ) : Type 0 where
+pub record GoesToNext (p : Program) (k : ℕ) : Type 0 where
   pub action : Action
   pub at : IsAt p k action
   pub successor : successors k action ≡ suc k ∷ []
@@ -26,7 +26,7 @@ pub record GoesOn (p : Program) (k : ℕ) : Type 0 where
 
 -- in a block each instruction but the last goes on to the next one
 abbrev pub Straight : Type 0
-Straight = (p : Program) (blocks : List Block) → IsFlow p blocks → (n : ℕ) (b : Block) → slice_get blocks n ≡ Some b → (k : ℕ) → b.first ≤ k → k < b.last → GoesOn p k
+Straight = (p : Program) (blocks : List Block) → IsFlow p blocks → (n : ℕ) (b : Block) → slice_get blocks n ≡ Some b → (k : ℕ) → b.first ≤ k → k < b.last → GoesToNext p k
 
 -- in a block each instruction but the first is the target of none
 abbrev pub Untargeted : Type 0

@@ -4,7 +4,7 @@ ghost use Rattle.std.specs.Prelude.{◌≡◌, ◌<◌, ◌^◌, length, map, sl
 ghost use Rattle.pv_flow.specs.Exits.{ends_block, targets};
 ghost use Rattle.pv_flow.specs.Finding.{marked, AreBegins};
 
-use pv_frame::{Action, Program};
+use pv_frame::{Action, Typed};
 use pv_insn::Case;
 use std::alloc::{AllocError, Global};
 
@@ -38,7 +38,7 @@ fn ends_block(action: &Action) -> bool
     }
 }
 
-/// Marks a place, if it is one of those that have a mark.
+/// Marks a place where a block begins, if it is one of those that have a mark.
 fn mark(begins: &mut [bool], place: u32)
     ensures { begins.new ≡ slice_set begins.old place true }
 {
@@ -48,7 +48,7 @@ fn mark(begins: &mut [bool], place: u32)
     }
 }
 
-/// Marks the targets of cases.
+/// Marks the targets of the cases of a switch.
 fn mark_cases(begins: &mut [bool], cases: &[Case])
     ensures { begins.new ≡ marked (map (λ c. c.target) cases.now) begins.old }
 {
@@ -71,12 +71,12 @@ fn mark_targets(begins: &mut [bool], action: &Action)
     }
 }
 
-/// For each place, and the end of the list, whether a block begins there.
-pub(crate) fn begins(alloc: Global, program: &Program) -> Result<Vec<bool>, AllocError>
-    requires { length program.now.actions < 2 ^ 32 }
-    ensures { IfOk result (λ begins. AreBegins program.now begins.items) }
+/// For each place, and for the end of the list, whether a block begins there, reached or not.
+pub(crate) fn begins(alloc: Global, typed: &Typed) -> Result<Vec<bool>, AllocError>
+    requires { length typed.now.program.actions < 2 ^ 32 }
+    ensures { IfOk result (λ begins. AreBegins typed.now.program begins.items) }
 {
-    let actions = program.actions.as_slice();
+    let actions = typed.program.actions.as_slice();
     let mut begins = vec![in alloc; false; actions.len() + 1]?;
     begins[0] = true;
     for (place, action) in actions.iter().enumerate() {

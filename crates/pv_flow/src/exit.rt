@@ -10,7 +10,7 @@ use pv_frame::{Action, Comparison, Test};
 use pv_insn::Case;
 use std::alloc::{AllocError, Global};
 
-/// Whether `eq`, `lt` or `gt` decides the branch by no.
+/// Whether a branch by this comparison is taken on no: `ne`, `ge` and `le` ask as `eq`, `lt` and `gt` do.
 fn branches_on_no_of(comparison: Comparison) -> bool
     ensures { result ≡ branches_on_no_of comparison }
 {
@@ -20,7 +20,7 @@ fn branches_on_no_of(comparison: Comparison) -> bool
     }
 }
 
-/// Whether a branch is taken where the answer of its test is no.
+/// Whether a branch is taken where the answer to what it asks is no.
 fn branches_on_no(test: Test) -> bool
     ensures { result ≡ branches_on_no test }
 {
@@ -70,7 +70,8 @@ fn switch_exits(
     Ok(exits)
 }
 
-/// The exits of the instruction at a place, by the numbers of the blocks that begin at places.
+/// The exits of the instruction at a place, by the numbers of the blocks that begin at places: that of
+/// yes of each of its tests in turn, and last that of no.
 pub(crate) fn exits(
     alloc: Global,
     numbers: &[u32],

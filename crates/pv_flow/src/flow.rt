@@ -12,11 +12,11 @@ use crate::head::{Heads, last_of, number_heads};
 use pv_frame::{Cause, CauseKind, Refused, Typed};
 use std::alloc::{AllocError, Global};
 
-/// The most blocks of a method that may be reached.
+/// The most blocks that may be reached.
 const MOST_BLOCKS: usize = 512;
 
-/// The block that begins at a place, by the marks where blocks begin and the numbers of the blocks
-/// that begin at places.
+/// The block that begins at a place that is reached, by the marks where blocks begin and the numbers of
+/// the blocks at places.
 fn block(
     alloc: Global,
     typed: &Typed,
@@ -54,7 +54,7 @@ pub fn blocks(alloc: Global, typed: &Typed) -> Result<Flow, Refused>
     if typed.program.actions.as_slice().len() >= u32::MAX as usize {
         return Err(Refused::Memory);
     }
-    let begins = begins(alloc, &typed.program)?;
+    let begins = begins(alloc, typed)?;
     let Heads { places, numbers } = number_heads(alloc, &begins, typed.frames.as_slice())?;
     let mut blocks = Vec::new(alloc);
     for first in &places {

@@ -7,7 +7,7 @@ use pv_frame::Frame;
 use std::alloc::{AllocError, Global};
 
 /// Where the blocks begin that are reached.
-#[derive(Debug, Drop)]
+#[derive(Drop)]
 pub(crate) struct Heads {
     /// The places, in ascending order.
     pub(crate) places: Vec<u32>,
@@ -15,7 +15,7 @@ pub(crate) struct Heads {
     pub(crate) numbers: Vec<u32>,
 }
 
-/// Numbers the places where blocks begin that are reached: those with a mark and a frame.
+/// Numbers the places where blocks begin that are reached: those with a mark and a frame, in order.
 pub(crate) fn number_heads(
     alloc: Global,
     begins: &[bool],
@@ -37,7 +37,8 @@ pub(crate) fn number_heads(
     Ok(Heads { places, numbers })
 }
 
-/// The last place of the block that begins at a place: the next block begins after it.
+/// The last place of the block that begins at a place. Each place is asked for once over all blocks, so
+/// that the time is linear.
 pub(crate) fn last_of(begins: &[bool], first: u32) -> u32
     requires few { length begins.now ≤ 2 ^ 32 }
     requires ends { HasLast begins.now first }

@@ -7,11 +7,11 @@ use Rattle.pv_flow.proofs.begin.begins.Goals as goal
 use Rattle.pv_flow.proofs.begin.begins.Goals.{then-ends_block, else-ends_block}
 
 pub loop-place-init : goal.loop-place-init
-loop-place-init c = begins_none c.args.program.now c.in_ok-begins.begins.items (search rules)
+loop-place-init c = begins_none c.args.typed.now.program c.in_ok-begins.begins.items (search rules)
 
 pub loop-place-preserved : goal.loop-place-preserved
 loop-place-preserved c =
-    let p = c.args.program.now in
+    let p = c.args.typed.now.program in
     let n = c.loop-place.place in
     let a = c.index-actions-place.result in
     let at = at_read p c.as_slice-actions.result.now n a c.as_slice-actions.ensures c.loop-place-test.true c.index-actions-place.is in
@@ -27,4 +27,4 @@ loop-place-preserved c =
     ]
 
 pub returns : goal.returns
-returns c = begins_all c.args.program.now c.loop-place.place c.loop-place.begins.items (omega (arith, c.loop-place-test.false, ap length c.as_slice-actions.ensures)) c.loop-place.invariant
+returns c = begins_all c.args.typed.now.program c.loop-place.place c.loop-place.begins.items (omega (arith, c.loop-place-test.false, ap length c.as_slice-actions.ensures)) c.loop-place.invariant

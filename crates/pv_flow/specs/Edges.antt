@@ -11,9 +11,11 @@ target_of (exit.To n) = Some n
 target_of exit.Return = None
 target_of exit.Throw = None
 
+-- the blocks that some exits go to, in their order
 abbrev pub targets_of : List Exit → List ℕ
 targets_of exits = filter_map target_of exits
 
+-- for each block, in order
 abbrev pub edges_of : List Block → List (List ℕ)
 edges_of blocks = map (λ b. targets_of b.exits) blocks
 

@@ -26,11 +26,13 @@ pub record AreBegins (p : Program) (begins : List Bool) : Type 0 where
 
 -- ---- exits by the numbers of blocks
 
+-- to a place below n, or out of the method
 abbrev pub GoesBelow : ℕ → Departure → Type 0
 GoesBelow n (Goes place) = place < n
 GoesBelow n Returns = Unit {0}
 GoesBelow n Throws = Unit {0}
 
+-- an exit, where these are the numbers of the blocks that begin at places
 abbrev pub exit_by : List ℕ → Departure → Exit
 exit_by numbers (Goes place) = exit.To (slice_index numbers place)
 exit_by numbers Returns = exit.Return
@@ -44,7 +46,7 @@ pub record IsHead (begins : List Bool) (frames : List (Option Frame)) (place : �
   pub frame : Frame
   pub there : IsFrameAt frames place frame
 
--- of the places below n, those where a block begins that is reached, and for each place how many of those come before it
+-- of the places below n, those where a block begins that is reached, in order, and the number of each, by place
 pub record AreHeads (begins : List Bool) (frames : List (Option Frame)) (n : ℕ) (places numbers : List ℕ) : Type 0 where
   pub one_each : length numbers ≡ n
   pub few : length places ≤ n
@@ -63,7 +65,7 @@ pub record IsLast (begins : List Bool) (first last : ℕ) : Type 0 where
 abbrev pub HasLast : List Bool → ℕ → Type 0
 HasLast begins first = (last : ℕ) × IsLast begins first last
 
--- the block that begins at a place, its exits by these numbers
+-- a block as it is made for a place: up to where the next one begins, with its exits by these numbers
 pub record IsMade (p : Program) (numbers : List ℕ) (first : ℕ) (b : Block) : Type 0 where
   pub place : b.first ≡ first
   pub span : IsSpan p b.first b.last

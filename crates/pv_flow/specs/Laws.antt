@@ -53,7 +53,7 @@ OneFlow = (p : Program) (xs ys : List Block) → IsFlow p xs → IsFlow p ys →
 abbrev pub Entry : Type 0
 Entry = (p : Program) (blocks : List Block) → IsFlow p blocks → IsBlockAt blocks 0 0
 
--- each edge goes from a block of the list to one
+-- each edge goes from a block of the list to a block of the list
 abbrev pub EdgesWithin : Type 0
 EdgesWithin = (p : Program) (blocks : List Block) → IsFlow p blocks → (m n : ℕ) → Edge (edges_of blocks) m n → (m < length blocks) × (n < length blocks)
 

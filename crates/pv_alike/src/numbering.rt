@@ -14,6 +14,9 @@ use pv_graph::{Graph, Kids, Node, NodeId, Op};
 use pv_value::Memory;
 use std::alloc::Global;
 
+// A depth that no loop has.
+const NO_LOOP: u32 = 0;
+
 /// A number for each node, below `count`.
 #[derive(Drop)]
 pub(crate) struct Numbers {
@@ -73,7 +76,7 @@ fn key_of(
 {
     if is_theta(&node.op) {
         return Ok(Node {
-            op: Op::Theta(0),
+            op: Op::Theta(NO_LOOP),
             kids: Kids::new(alloc, &[classes[n as usize]])?,
         });
     }

@@ -17,7 +17,7 @@ use crate::shape::{Shape, sources};
 use std::alloc::{AllocError, Global};
 
 /// How many loops may lie in one another.
-const MAX_DEPTH: u32 = 16;
+pub const MAX_DEPTH: u32 = 16;
 
 /// A loop of a shape.
 #[derive(Debug, Drop)]

@@ -43,7 +43,7 @@ mod shape;
 mod walk;
 
 pub use fault::{LoopFault, TStep};
-pub use forest::{Forest, Loop, reduce};
+pub use forest::{Forest, Loop, MAX_DEPTH, reduce};
 pub use shape::Shape;
 
 /// The law of confluence: a shape that some steps reduce to one node has no stuck steps.

@@ -3,6 +3,7 @@ pub mod Stacks
 pub mod Runs
 pub mod IntNodes
 pub mod Lays
+pub mod Structures
 pub mod Meanings
 pub mod Likenesses
 pub mod SameRoots

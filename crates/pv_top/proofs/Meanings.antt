@@ -1,5 +1,5 @@
 -- A root over the tree of a method means what the method's program does.
-use Rattle.std.proofs.Common.{◌≡◌, ◌↔◌, ℕ, ℤ, [], length, false, Some, refl, subst}
+use Rattle.std.proofs.Common.{◌≡◌, ◌↔◌, ℕ, ℤ, [], length, false, Some, Result, Ok, Err, refl, subst}
 use Rattle.pv_value.specs.declared.number.Num.TheVariants as num
 use Rattle.pv_value.specs.declared.world.World.{World}
 use Rattle.pv_value.specs.declared.outcome.Input.{Input}
@@ -21,13 +21,14 @@ use Rattle.pv_graph.specs.Finite.{IsTree}
 use Rattle.pv_denote.specs.Denote.{outside, strict}
 use Rattle.pv_denote.specs.TreeValues.{TreeValue}
 use Rattle.pv_denote.proofs.TreeMeans.{tree_means, tree_makes, tree_once}
-use Rattle.pv_frame.specs.declared.typed.Typed.{Typed}
-use Rattle.pv_frame.specs.Answers.{IsTyping}
+use Rattle.pv_frame.specs.Causes.{IsAccepted}
 use Rattle.pv_top.specs.declared.reason.Reason.TheVariants as reason
-use Rattle.pv_top.specs.Built.{leaf, IsBuilt, IsStraight, IsOfInts, ReturnsTree}
+use Rattle.pv_top.specs.declared.reason.Stop.{Stop}
+use Rattle.pv_top.specs.declared.reason.Stop.TheVariants as stop
+use Rattle.pv_top.specs.Structure.{IsStructured}
+use Rattle.pv_top.specs.Built.{leaf, IsBuilt, IsStraight, IsOfInts}
 use Rattle.pv_top.specs.Roots.{IsRootOf, returning}
-use Rattle.pv_top.specs.Conversion.{Grows, IsReturned, IsRootOver}
-use Rattle.pv_top.specs.Verdicts.{Meets}
+use Rattle.pv_top.specs.Conversion.{Grows, IsReturned, IsRootOver, Builds, Converts}
 use Rattle.pv_top.proofs.IntNodes.{tree_kept}
 use Rattle.pv_top.proofs.Runs.{returns_value}
 
@@ -76,14 +77,19 @@ root_of_method g root file m t b is = record {
       (λ e. den.1 (ends.0 e), λ v. ends.1 (den.0 v));
 }
 
--- where the actions of a typed method of ints return a node
-pub root_typed : (file : ClassFile) (m : Method) (t : Typed) (g new : Graph) (n root : ℕ) → IsTyping file m t → t.program.instance ≡ false → IsOfInts t.program.desc → IsReturned g (length t.program.desc.params) t.program.actions n → Grows g new → IsRootOver new root n
-    → IsRootOf new root file m
-root_typed file m t g new n root typing static ints node grows over =
-    let is = tree_kept g new n node.value grows node.is in
-    let built : IsBuilt file m node.value = record { program = t.program; accepted = typing.accepted; straight = record { static = static; ints = ints; returns = node.returns } } in
-    root_of_method new root file m node.value built (over node.value is)
+-- ---- the conversion
 
--- where they return none
-pub not_built : (file : ClassFile) (m : Method) (t : Typed) → IsTyping file m t → ((value : Tree) → ReturnsTree (length t.program.desc.params) t.program.actions value → ⊥) → Meets file m reason.NotBuilt
-not_built file m t typing absent = (t.program, typing.accepted, λ value is. absent value is.returns)
+-- where the actions of a static method of ints return a node
+pub root_returned : (p : Program) (g new : Graph) (n root : ℕ) → p.instance ≡ false → IsOfInts p.desc → IsReturned g (length p.desc.params) p.actions n → Grows g new → IsRootOver new root n → Builds new p (Ok root)
+root_returned p g new n root static ints node grows over =
+    let is = tree_kept g new n node.value grows node.is in
+    (node.value, record { static = static; ints = ints; returns = node.returns }, over node.value is)
+
+-- what is built of an accepted method's structured program
+pub converts_built : (file : ClassFile) (m : Method) (p : Program) (g : Graph) (r : Result ℕ Stop) → IsAccepted file m p → IsStructured p → Builds g p r → Converts g file m r
+converts_built file m p g (Ok root) accepted structured h =
+    let built : IsBuilt file m h.0 = record { program = p; accepted = accepted; structured = structured; straight = h.1 } in
+    root_of_method g root file m h.0 built h.2
+converts_built file m p g (Err (stop.Reason (reason.Met c))) accepted structured h = absurd h
+converts_built file m p g (Err (stop.Reason reason.NotBuilt)) accepted structured h = (p, accepted, structured, h)
+converts_built file m p g (Err stop.Memory) accepted structured h = tt

@@ -19,10 +19,13 @@ use Rattle.pv_top.specs.declared.verdict.Verdict.TheVariants as verdict
 use Rattle.pv_top.specs.declared.status.Status.{Status}
 use Rattle.pv_top.specs.declared.status.Status.TheVariants as status
 use Rattle.pv_class.proofs.CodeBytes.{HasBytes, class_bytes}
+use Rattle.pv_frame.specs.declared.cause.Cause.{Cause}
 use Rattle.pv_frame.specs.declared.program.Program.{Program}
+use Rattle.pv_frame.specs.Causes.{IsAccepted}
 use Rattle.pv_frame.proofs.CauseLaws.{one_program, one_cause, accepted_or_refused}
 use Rattle.pv_top.specs.declared.reason.Reason.{Reason}
 use Rattle.pv_top.specs.declared.reason.Reason.TheVariants as reason
+use Rattle.pv_top.specs.Structure.{IsStructured, MeetsShape}
 use Rattle.pv_top.specs.Built.{IsStraight}
 use Rattle.pv_top.specs.Roots.{HasTree, returning}
 use Rattle.pv_top.specs.Verdicts.{HasCode, Meets, IsPartner, IsVerdict, IsVerdictOn}
@@ -30,6 +33,7 @@ use Rattle.pv_top.specs.Lines.{line_text, bad_class}
 use Rattle.pv_top.specs.Report.{IsReport, IsBadText, Judged, AreEquivalent, lines_of}
 use Rattle.pv_top.proofs.Places.{all_at, here_again}
 use Rattle.pv_top.proofs.Stacks.{returns_once}
+use Rattle.pv_top.proofs.Structures.{one_shape_cause, not_structured}
 
 -- ---- one tree
 
@@ -47,24 +51,42 @@ tree_code : (file : ClassFile) (m : Method) (t : Tree) → HasTree file m t → 
 tree_code file m t h = (h.built.accepted.code, h.built.accepted.has)
 
 meets_code : (file : ClassFile) (m : Method) (why : Reason) → Meets file m why → HasCode m
-meets_code file m (reason.Met cause) h = (h.code, h.has)
+meets_code file m (reason.Met cause) (inl h) = (h.code, h.has)
+meets_code file m (reason.Met cause) (inr h) = (h.accepted.code, h.accepted.has)
 meets_code file m reason.NotBuilt h = (h.1.code, h.1.has)
 
 no_code : (m : Method) → m.code ≡ None → HasCode m → ⊥
 no_code m e h = absurd (let both : ◌≡◌ {A = Option Code} None (Some h.0) = sym e ∙ h.1 in cc)
 
+-- ---- one reason
+
+-- a method that is accepted and structured meets no cause
+no_cause : (file : ClassFile) (m : Method) (p : Program) (cause : Cause) → HasBytes m → IsAccepted file m p → IsStructured p → Meets file m (reason.Met cause) → ⊥
+no_cause file m p cause bytes accepted structured (inl h) = accepted_or_refused file m p cause bytes accepted h
+no_cause file m p cause bytes accepted structured (inr h) =
+    let one = one_program file m h.program p bytes h.accepted.of_method accepted.of_method in
+    not_structured p cause (subst (λ (q : Program). MeetsShape q cause) one h.meets) structured
+
+cause_once : (file : ClassFile) (m : Method) (a b : Cause) → HasBytes m → Meets file m (reason.Met a) → Meets file m (reason.Met b) → a ≡ b
+cause_once file m a b bytes (inl h) (inl k) = one_cause file m a b bytes h k
+cause_once file m a b bytes (inl h) (inr k) = absurd (accepted_or_refused file m k.program a bytes k.accepted h)
+cause_once file m a b bytes (inr h) (inl k) = absurd (accepted_or_refused file m h.program b bytes h.accepted k)
+cause_once file m a b bytes (inr h) (inr k) =
+    let one = one_program file m k.program h.program bytes k.accepted.of_method h.accepted.of_method in
+    one_shape_cause h.program a b h.meets (subst (λ (q : Program). MeetsShape q b) one k.meets)
+
 -- a method with a tree isn't refused
 not_refused : (file : ClassFile) (m : Method) (why : Reason) (t : Tree) → HasBytes m → Meets file m why → HasTree file m t → ⊥
-not_refused file m (reason.Met cause) t bytes h tree = accepted_or_refused file m tree.built.program cause bytes tree.built.accepted h
+not_refused file m (reason.Met cause) t bytes h tree = no_cause file m tree.built.program cause bytes tree.built.accepted tree.built.structured h
 not_refused file m reason.NotBuilt t bytes h tree =
     let one = one_program file m tree.built.program h.0 bytes tree.built.accepted.of_method h.1.of_method in
-    h.2 tree.value (subst (λ (p : Program). IsStraight p tree.value) one tree.built.straight)
+    h.3 tree.value (subst (λ (p : Program). IsStraight p tree.value) one tree.built.straight)
 
 -- it is refused for one reason
 reason_once : (file : ClassFile) (m : Method) (a b : Reason) → HasBytes m → Meets file m a → Meets file m b → a ≡ b
-reason_once file m (reason.Met a) (reason.Met b) bytes h k = ap (λ x. reason.Met x) (one_cause file m a b bytes h k)
-reason_once file m (reason.Met a) reason.NotBuilt bytes h k = absurd (accepted_or_refused file m k.0 a bytes k.1 h)
-reason_once file m reason.NotBuilt (reason.Met b) bytes h k = absurd (accepted_or_refused file m h.0 b bytes h.1 k)
+reason_once file m (reason.Met a) (reason.Met b) bytes h k = ap (λ x. reason.Met x) (cause_once file m a b bytes h k)
+reason_once file m (reason.Met a) reason.NotBuilt bytes h k = absurd (no_cause file m k.0 a bytes k.1 k.2 h)
+reason_once file m reason.NotBuilt (reason.Met b) bytes h k = absurd (no_cause file m h.0 b bytes h.1 h.2 k)
 reason_once file m reason.NotBuilt reason.NotBuilt bytes h k = refl
 
 -- ---- one verdict on a method and its partner

@@ -17,6 +17,7 @@ use Rattle.pv_graph.specs.declared.node.Op.{Op}
 use Rattle.pv_graph.specs.declared.node.Op.TheVariants as op
 use Rattle.pv_graph.specs.declared.node.OpSort.TheVariants as of
 use Rattle.pv_graph.specs.Unfold.{Tree, over, none, first}
+use Rattle.pv_top.specs.Structure.{IsStructured}
 
 abbrev pub leaf : Op → Tree
 leaf o = over o none
@@ -69,4 +70,5 @@ pub record IsStraight (p : Program) (value : Tree) : Type 0 where
 pub record IsBuilt (file : ClassFile) (m : Method) (value : Tree) : Type 0 where
   pub program : Program
   pub accepted : IsAccepted file m program
+  pub structured : IsStructured program
   pub straight : IsStraight program value

@@ -4,6 +4,12 @@ use Rattle.std.specs.List.{AllByRecursion, AllZip}
 use Rattle.pv_class.specs.declared.file.ClassFile.{ClassFile}
 use Rattle.pv_class.specs.declared.file.Method.{Method}
 use Rattle.pv_frame.specs.declared.action.Action.{Action}
+use Rattle.pv_frame.specs.declared.cause.Cause.{Cause}
+use Rattle.pv_frame.specs.declared.cause.CauseKind.{CauseKind}
+use Rattle.pv_frame.specs.declared.cause.Refused.{Refused}
+use Rattle.pv_frame.specs.declared.cause.Refused.TheVariants as refused
+use Rattle.pv_frame.specs.declared.program.Program.{Program}
+use Rattle.pv_frame.specs.Causes.{cause}
 use Rattle.pv_graph.specs.declared.node.Op.{Op}
 use Rattle.pv_graph.specs.declared.node.OpSort.{OpSort}
 use Rattle.pv_graph.specs.declared.node.OpSort.TheVariants.{I}
@@ -13,9 +19,11 @@ use Rattle.pv_graph.specs.Unfold.{Tree}
 use Rattle.pv_graph.specs.Graphs.{Graph, form_at, IsWellMade, Extends}
 use Rattle.pv_graph.specs.Calls.{IsFinished}
 use Rattle.pv_graph.specs.Finite.{IsTree}
+use Rattle.pv_top.specs.declared.reason.Reason.TheVariants as reason
 use Rattle.pv_top.specs.declared.reason.Stop.{Stop}
 use Rattle.pv_top.specs.declared.reason.Stop.TheVariants as stop
-use Rattle.pv_top.specs.Built.{ReturnsTree, Lays, leaf}
+use Rattle.pv_top.specs.Structure.{IsStructured, MeetsShape}
+use Rattle.pv_top.specs.Built.{ReturnsTree, IsStraight, Lays, leaf}
 use Rattle.pv_top.specs.Roots.{IsRootOf, returning}
 use Rattle.pv_top.specs.Verdicts.{Meets}
 
@@ -28,6 +36,34 @@ Converts g file m (Err stop.Memory) = Unit {0}
 -- so it is for the method at a place
 abbrev pub ConvertsAt : Graph → ClassFile → ℕ → Result ℕ Stop → Type 0
 ConvertsAt g file place result = (m : Method) → slice_get file.methods place ≡ Some m → Converts g file m result
+
+-- a root that returns the value of the program's tree, or its form isn't built
+abbrev pub Builds : Graph → Program → Result ℕ Stop → Type 0
+Builds g p (Ok root) = (value : Tree) × IsStraight p value × IsTree (form_at g.nodes) root (returning value)
+Builds g p (Err (stop.Reason (reason.Met c))) = ⊥
+Builds g p (Err (stop.Reason reason.NotBuilt)) = (value : Tree) → IsStraight p value → ⊥
+Builds g p (Err stop.Memory) = Unit {0}
+
+-- why a method stops that was refused
+abbrev pub stop_of : Refused → Stop
+stop_of (refused.Cause c) = stop.Reason (reason.Met c)
+stop_of refused.Memory = stop.Memory
+
+-- a cause that is in no single instruction
+abbrev pub met : CauseKind → Stop
+met k = stop.Reason (reason.Met (cause k 0))
+
+-- a fact of the cause, unless it is out of memory
+abbrev pub OnCause : Refused → (Cause → Type 0) → Type 0
+OnCause (refused.Cause c) P = P c
+OnCause refused.Memory P = Unit {0}
+
+-- the program is structured, or it isn't for this cause
+abbrev pub Checks : Program → Result (Unit {0}) Stop → Type 0
+Checks p (Ok done) = IsStructured p
+Checks p (Err (stop.Reason (reason.Met c))) = MeetsShape p c
+Checks p (Err (stop.Reason reason.NotBuilt)) = ⊥
+Checks p (Err stop.Memory) = Unit {0}
 
 -- a well-made graph in which no theta is left without kids
 pub record IsWhole (g : Graph) : Type 0 where

@@ -1,5 +1,6 @@
 pub mod Statuses
 pub mod Words
+pub mod Structure
 pub mod Built
 pub mod Roots
 pub mod Verdicts

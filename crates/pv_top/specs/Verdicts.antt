@@ -1,9 +1,10 @@
 -- What is said of a method: the first of these cases that holds.
-use Rattle.std.specs.Prelude.{◌≡◌, ◌≢◌, List, Some, None}
+use Rattle.std.specs.Prelude.{◌≡◌, ◌≢◌, ◌⊎◌, List, Some, None}
 use Rattle.std.specs.List.{Contains}
 use Rattle.pv_class.specs.declared.file.ClassFile.{ClassFile}
 use Rattle.pv_class.specs.declared.file.Method.{Method}
 use Rattle.pv_class.specs.declared.file.Code.{Code}
+use Rattle.pv_frame.specs.declared.cause.Cause.{Cause}
 use Rattle.pv_frame.specs.declared.program.Program.{Program}
 use Rattle.pv_frame.specs.Programs.{is_instance}
 use Rattle.pv_frame.specs.Causes.{IsRefused, IsAccepted}
@@ -13,6 +14,7 @@ use Rattle.pv_top.specs.declared.reason.Reason.TheVariants as reason
 use Rattle.pv_top.specs.declared.verdict.Side.TheVariants as side
 use Rattle.pv_top.specs.declared.verdict.Verdict.{Verdict}
 use Rattle.pv_top.specs.declared.verdict.Verdict.TheVariants as verdict
+use Rattle.pv_top.specs.Structure.{IsStructured, MeetsShape}
 use Rattle.pv_top.specs.Built.{IsStraight}
 use Rattle.pv_top.specs.Roots.{HasTree}
 
@@ -30,10 +32,16 @@ pub record IsPartner (m : Method) (others : List Method) (partner : Method) : Ty
 abbrev pub HasCode : Method → Type 0
 HasCode m = (code : Code) × (m.code ≡ Some code)
 
--- why a method is refused: for a cause; or none holds, and its form is not built yet
+-- the method isn't refused before its frames are typed, and its blocks meet this cause
+pub record IsUnstructured (file : ClassFile) (m : Method) (c : Cause) : Type 0 where
+  pub program : Program
+  pub accepted : IsAccepted file m program
+  pub meets : MeetsShape program c
+
+-- why a method is refused: for a cause up to its frames, or of its blocks; or none holds, and its form is not built yet
 abbrev pub Meets : ClassFile → Method → Reason → Type 0
-Meets file m (reason.Met cause) = IsRefused file m cause
-Meets file m reason.NotBuilt = (p : Program) × IsAccepted file m p × ((value : Tree) → IsStraight p value → ⊥)
+Meets file m (reason.Met cause) = IsRefused file m cause ⊎ IsUnstructured file m cause
+Meets file m reason.NotBuilt = (p : Program) × IsAccepted file m p × IsStructured p × ((value : Tree) → IsStraight p value → ⊥)
 
 -- the verdict on a method of a class and its partner in another
 abbrev pub IsVerdictOn : ClassFile → Method → ClassFile → Method → Verdict → Type 0

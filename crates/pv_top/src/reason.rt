@@ -1,6 +1,6 @@
 //! Why a method has no root.
 
-use pv_frame::Cause;
+use pv_frame::{Cause, Refused};
 use pv_value::Memory;
 
 /// Why a method is refused.
@@ -27,5 +27,19 @@ impl From<Memory> for Stop {
 
     fn from(_e: Memory) -> Stop {
         Stop::Memory
+    }
+}
+
+impl From<Refused> for Stop {
+    ghost use Rattle.std.specs.Prelude.{◌≡◌};
+    ghost use Rattle.pv_top.specs.Conversion.{stop_of};
+
+    ghost from_gives = { λ refused stop. stop ≡ stop_of refused };
+
+    fn from(refused: Refused) -> Stop {
+        match refused {
+            Refused::Cause(cause) => Stop::Reason(Reason::Met(cause)),
+            Refused::Memory => Stop::Memory,
+        }
     }
 }

@@ -1,0 +1,35 @@
+-- Structured programs: few blocks, whose edges are reducible and whose loops don't nest too deep. And the causes of the programs that aren't.
+use Rattle.std.specs.Prelude.{◌≡◌, ℕ, ◌≤◌, ◌+◌, List, length}
+use Rattle.pv_frame.specs.declared.cause.Cause.{Cause}
+use Rattle.pv_frame.specs.declared.cause.CauseKind.TheVariants as kind
+use Rattle.pv_frame.specs.declared.program.Program.{Program}
+use Rattle.pv_frame.specs.Causes.{cause}
+use Rattle.pv_flow.specs.declared.block.Block.{Block}
+use Rattle.pv_flow.specs.Blocks.{IsFlow}
+use Rattle.pv_flow.specs.Edges.{edges_of}
+use Rattle.pv_flow.specs.Answers.{most_blocks, HasTooMany}
+use Rattle.pv_loops.specs.declared.fault.TStep.{TStep}
+use Rattle.pv_loops.specs.declared.forest.TheConstants.{MAX_DEPTH}
+use Rattle.pv_loops.specs.Steps.{Stuck, IsReducible}
+use Rattle.pv_loops.specs.Forests.{NestsUpTo, HasDepth}
+
+-- the edges between the blocks that are reached, of which there are at most most_blocks
+pub record HasEdges (p : Program) (edges : List (List ℕ)) : Type 0 where
+  pub blocks : List Block
+  pub flow : IsFlow p blocks
+  pub few : length blocks ≤ most_blocks
+  pub edges_are : edges ≡ edges_of blocks
+
+-- no steps on the edges are stuck, and at most MAX_DEPTH loops lie in one another
+pub record IsStructured (p : Program) : Type 0 where
+  pub edges : List (List ℕ)
+  pub has : HasEdges p edges
+  pub reducible : IsReducible edges
+  pub shallow : NestsUpTo edges MAX_DEPTH
+
+-- What isn't so, in this order: too many blocks are reached; steps lead from the edges to two or more nodes to which no step applies; a
+-- loop lies in MAX_DEPTH others. None of these is in a single instruction.
+pub data MeetsShape (p : Program) : Cause → Type 0 where
+  blocks : HasTooMany p → MeetsShape p (cause kind.Blocks 0)
+  irreducible : (edges : List (List ℕ)) (steps : List TStep) → HasEdges p edges → Stuck edges steps → MeetsShape p (cause kind.Irreducible 0)
+  depth : (edges : List (List ℕ)) → HasEdges p edges → IsReducible edges → HasDepth edges (MAX_DEPTH + 1) → MeetsShape p (cause kind.Depth 0)

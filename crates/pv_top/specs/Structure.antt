@@ -1,4 +1,4 @@
--- Structured programs: few blocks, whose edges are reducible and whose loops don't nest too deep. And the causes of the programs that aren't.
+-- Structured programs: at most most_blocks blocks, whose edges are reducible, and whose loops nest at most MAX_DEPTH deep.
 use Rattle.std.specs.Prelude.{◌≡◌, ℕ, ◌≤◌, ◌+◌, List, length}
 use Rattle.pv_frame.specs.declared.cause.Cause.{Cause}
 use Rattle.pv_frame.specs.declared.cause.CauseKind.TheVariants as kind
@@ -20,15 +20,15 @@ pub record HasEdges (p : Program) (edges : List (List ℕ)) : Type 0 where
   pub few : length blocks ≤ most_blocks
   pub edges_are : edges ≡ edges_of blocks
 
--- no steps on the edges are stuck, and at most MAX_DEPTH loops lie in one another
+-- the edges are reducible, and at most MAX_DEPTH loops lie in one another
 pub record IsStructured (p : Program) : Type 0 where
   pub edges : List (List ℕ)
   pub has : HasEdges p edges
   pub reducible : IsReducible edges
   pub shallow : NestsUpTo edges MAX_DEPTH
 
--- What isn't so, in this order: too many blocks are reached; steps lead from the edges to two or more nodes to which no step applies; a
--- loop lies in MAX_DEPTH others. None of these is in a single instruction.
+-- Why a program isn't structured: too many blocks are reached; or steps lead from its edges to two or more nodes to which no step applies;
+-- or its edges are reducible, and a loop has MAX_DEPTH others around it. Each of these is at 0, since it is in no single instruction.
 pub data MeetsShape (p : Program) : Cause → Type 0 where
   blocks : HasTooMany p → MeetsShape p (cause kind.Blocks 0)
   irreducible : (edges : List (List ℕ)) (steps : List TStep) → HasEdges p edges → Stuck edges steps → MeetsShape p (cause kind.Irreducible 0)

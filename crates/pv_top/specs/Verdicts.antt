@@ -32,13 +32,13 @@ pub record IsPartner (m : Method) (others : List Method) (partner : Method) : Ty
 abbrev pub HasCode : Method → Type 0
 HasCode m = (code : Code) × (m.code ≡ Some code)
 
--- the method isn't refused before its frames are typed, and its blocks meet this cause
+-- the method has typed frames, and its program isn't structured for this cause
 pub record IsUnstructured (file : ClassFile) (m : Method) (c : Cause) : Type 0 where
   pub program : Program
   pub accepted : IsAccepted file m program
   pub meets : MeetsShape program c
 
--- why a method is refused: for a cause up to its frames, or of its blocks; or none holds, and its form is not built yet
+-- why a method is refused: for a cause of its code or of its blocks; or none holds, and its form is not built yet
 abbrev pub Meets : ClassFile → Method → Reason → Type 0
 Meets file m (reason.Met cause) = IsRefused file m cause ⊎ IsUnstructured file m cause
 Meets file m reason.NotBuilt = (p : Program) × IsAccepted file m p × IsStructured p × ((value : Tree) → IsStraight p value → ⊥)

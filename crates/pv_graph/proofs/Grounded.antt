@@ -36,7 +36,7 @@ flat_on [] m fs f d (inr h) = absurd h
 flat_on (p ∷ ms) m fs f d (inl e) = fs d (inl e)
 flat_on (p ∷ ms) m fs f d (inr h) = flat_on ms m (λ e z. fs e (inr z)) f d h
 
-walk_on : {N : Type 0} (view : N → Option (Form N)) (n : N) (ms : List Move) (k : N) (m : Move) (o : N) → Walk view n ms k → Edge view k m o → Walk view n (ms ++ m ∷ []) o
+pub walk_on : {N : Type 0} (view : N → Option (Form N)) (n : N) (ms : List Move) (k : N) (m : Move) (o : N) → Walk view n ms k → Edge view k m o → Walk view n (ms ++ m ∷ []) o
 walk_on view n ms k m o (stop c) e = step c o o m [] e (stop o)
 walk_on view n ms k m o (step c q r p ps a w) e = step c q o p (ps ++ m ∷ []) a (walk_on view q ps r m o w e)
 

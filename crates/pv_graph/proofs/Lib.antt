@@ -14,3 +14,5 @@ pub mod Marking
 pub mod TieLaws
 pub mod FiniteTrees
 pub mod Basing
+pub mod BaseLaws
+pub mod TieRule

@@ -13,5 +13,4 @@ pub mod Worlds
 pub mod Narrowing
 pub mod Operations
 pub mod OperationLaws
-pub mod IntOps
 pub mod Laws

@@ -19,14 +19,12 @@
 //!
 //! `laws` has the laws of these definitions as contracts. `Reading`, `HeapOrder` and `HeapTables`
 //! are for the proofs of this crate. The layers above see a name as its bytes, a list of numbers or
-//! types as a list, a heap as its map and a world as its tables. `IntOp` is what the layers above
-//! have of operations so far.
+//! types as a list, a heap as its map and a world as its tables.
 #![tactic(auto)]
 
 mod descriptor;
 mod heap;
 mod int;
-mod int_op;
 pub mod laws;
 mod long;
 mod memory;
@@ -40,7 +38,6 @@ mod world;
 
 pub use descriptor::{Descriptor, JType, JTypes, read_descriptor, read_field_type};
 pub use heap::{Heap, Kind, Loc};
-pub use int_op::IntOp;
 pub use memory::Memory;
 pub use name::{Name, Sym};
 pub use number::{Num, Nums};

@@ -1,3 +1,0 @@
-pub mod SameNodes
-pub mod Adding
-mod Examples

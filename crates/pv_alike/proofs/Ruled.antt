@@ -28,7 +28,7 @@ in_append [] ys x h = inr h
 in_append (y ∷ xs) ys x (inl e) = inl (inl e)
 in_append (y ∷ xs) ys x (inr h) = elim (in_append xs ys x h) [ inl a ↦ inl (inr a) | inr b ↦ inr b ]
 
--- so many times over
+-- the list k times over
 abbrev pub times : {A : Type 0} → ℕ → List A → List A
 times zero xs = []
 times (suc k) xs = xs ++ times k xs

@@ -32,7 +32,7 @@ pub part_of : (a b : Option (List ℕ)) (bytes front rest : List ℕ) → bytes 
 part_of a b bytes front rest e p =
     (length front, subst (λ (xs : List ℕ). Appends a b xs) (sym (ap (take (length front)) e ∙ take-append_seam front rest)) p)
 
--- what is left of a slice behind its first bytes, as the code has it
+-- what is left of a slice after its first bytes, as the code has it
 rest_of : (n : ℕ) (rest : List ℕ) → take n rest ++ take (length rest - n) (drop n rest) ≡ rest
 rest_of n rest =
     ap (λ (xs : List ℕ). take n rest ++ xs) (take_all (length rest - n) (drop n rest) (omega (arith, length-drop n rest))) ∙ take-append-drop n rest

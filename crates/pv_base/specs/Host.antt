@@ -11,7 +11,7 @@ GivesAll left limit (Ok v) = v.items ≡ left
 GivesAll left limit (Err file.TooLong) = limit < length left
 GivesAll left limit (Err e) = Unit {0}
 
--- a reader gave so many bytes at most
+-- a reader gave `most` bytes at most
 abbrev pub TakesWithin : ℕ → Option (List ℕ) → Option (List ℕ) → Type 0
 TakesWithin most old new = (taken : List ℕ) × (length taken ≤ most) × Consumes old new taken
 

@@ -35,7 +35,7 @@ stored es = from_entries {R = name_cmp} (map (λ (e : List ℕ × Vec ℕ). (e.0
 abbrev pub is_to_fail : MemoryStore → Bool
 is_to_fail store = list_any (λ n. n == length store.asked + 1) store.fail
 
--- the bytes under a name, if there are any and at most so many
+-- the bytes under a name, if there are any, up to a limit
 abbrev pub short_enough : ℕ → Option (List ℕ) → Result (List ℕ) FileFault
 short_enough limit None = Err file.Failed
 short_enough limit (Some bytes) = if nat_le (length bytes) limit then Ok bytes else Err file.TooLong

@@ -77,7 +77,7 @@ module _ (p : Program) (begins : List Bool) (marks : AreBegins p begins) where
     frame_within : (k : ℕ) (f : Frame) → IsFrameAt fs k f → k < length p.actions
     frame_within k f at = let within = slice_get_within fs k (Some f) at in omega (arith, inferred.one_each)
 
-    -- no block begins after the first place up to this one, which is reached; so many places are left
+    -- no block begins after the first place up to this one, which is reached; this number of places is left
     last_from : (left first k : ℕ) → length p.actions ≤ k + left → first ≤ k → Reached p k → ((j : ℕ) → first < j → j ≤ k → slice_get begins j ≡ Some true → ⊥) → HasLast begins first
     last_from zero first k room le reached none = let f = reached_frame p fs inferred.agrees k reached in absurd (omega (arith, frame_within k f.0 f.1))
     last_from (suc left) first k room le reached none = elim (marked_or_not begins (suc k)) [

@@ -96,7 +96,7 @@ pub record AreBegun (nodes : List Node) (out : List Bool) (l : Look) (starts : L
   pub long : length starts ≡ length nodes
   pub says : (n : ℕ) → IsMarked starts n ↔ IsBegun nodes out l n
 
--- of so many nodes the assumed ones are left out
+-- of `len` nodes the assumed ones are left out
 pub record AreOut (len : ℕ) (assumed : List ℕ) (out : List Bool) : Type 0 where
   pub long : length out ≡ len
   pub only : (n : ℕ) → IsMarked out n → In assumed n

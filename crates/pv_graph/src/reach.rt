@@ -83,7 +83,7 @@ pub(crate) fn uses_of(
     Ok(uses)
 }
 
-// No places, for so many nodes.
+// No places, for each of `len` nodes.
 fn no_uses(alloc: Global, len: usize) -> Result<Vec<Vec<Use>>, AllocError>
     ensures len { IfOk result (λ uses. vec_len uses ≡ len) }
     ensures none { IfOk result (λ uses. (k : ℕ) (u : Use) → IsUse uses.items k u → ⊥) }
@@ -170,7 +170,7 @@ fn starts_of(
     Ok(starts)
 }
 
-// Marks for so many nodes, of which these are left out.
+// Marks for `len` nodes, of which these are left out.
 pub(crate) fn left_out(
     alloc: Global,
     len: usize,

@@ -36,7 +36,7 @@ abbrev pub IsParent : List (List ℕ) → List ℕ → List ℕ → ℕ → Opti
 IsParent sources place headers h None = IsAlone sources place h
 IsParent sources place headers h (Some p) = (p < length headers) × IsNext sources place h (slice_index headers p)
 
--- the loop of its header, with at most so many headers around it, its own included
+-- the loop of its header, with at most `most` headers around it, its own included
 pub record IsFilled (sources : List (List ℕ)) (place headers : List ℕ) (most : ℕ) (l : Loop) : Type 0 where
   pub body : AreBody sources place l.header l.members.items
   pub ascend : IsStrictlyIncreasing l.members.items

@@ -38,7 +38,7 @@ no_line line after (c ∷ before) e = cc e
 pub no_line_of_nothing : (line : List ℕ) → IsLineOf [] line → ⊥
 no_line_of_nothing line l = no_line line l.after l.before l.spelled
 
--- one of the lines, or a whole line of those behind it
+-- one of the lines, or a whole line of those after it
 pub first_or_later : (first : List ℕ) (rest line : List ℕ) → IsWhole first → IsLineOf (line_text first ++ rest) line → (line ≡ first) ⊎ IsLineOf rest line
 first_or_later first rest line whole l =
     let same : first ++ 10 ∷ rest ≡ l.before ++ (line ++ 10 ∷ l.after) = sym (append_assoc first (10 ∷ []) rest) ∙ l.spelled in

@@ -10,7 +10,7 @@ pub enum Status {
     AllEquivalent,
     /// Some line of the report says something else, and the sink took it.
     Others,
-    /// A fetched file is no class file that is read by now, and the sink took the line that says so.
+    /// A fetched file is no class file, and the sink took the line that says so.
     BadClass,
     /// A certificate has no reading, or names other files. No command reads one yet.
     BadCert,

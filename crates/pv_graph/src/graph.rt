@@ -164,6 +164,13 @@ impl Graph {
         self.nodes.len() as u32
     }
 
+    /// Whether the base is open: thetas are begun and tied, and no theta is added with its kids.
+    pub fn is_open(&self) -> bool
+        ensures { result ≡ self.now.is_open }
+    {
+        self.is_open
+    }
+
     // Puts a node after the others, and gives it its number.
     fn append(&mut self, alloc: Global, node: Node, sort: OpSort) -> Result<NodeId, Memory>
         requires absent { IsAbsent self.old.nodes node }

@@ -231,8 +231,8 @@ impl Node {
         Node::new(alloc, self.op.copy(alloc)?, self.kids.as_slice())
     }
 
-    // Whether it is a theta without kids.
-    pub(crate) fn is_open(&self) -> bool
+    /// Whether it is a theta that is not tied, which has no kids.
+    pub fn is_open(&self) -> bool
         ensures { IsTrue result ↔ IsOpen self.now }
     {
         matches!(self.op, Op::Theta(_)) && self.kids.as_slice().is_empty()

@@ -3,7 +3,10 @@
 use crate::answers::{Answer, NoAnswer};
 use crate::bench::Bench;
 use crate::pools::Asked;
-use crate::{classes, codes, frames, graphs, machine, outside, pools, runs, values};
+use crate::{
+    bases, classes, codes, flows, frames, graphs, leasts, loops, machine, outside, pools, runs,
+    values,
+};
 use std::rt::Files;
 use std::thread::Threads;
 
@@ -40,6 +43,11 @@ pub fn answer<R: Files + Threads + Sync>(rt: &R, bench: &Bench, line: &str) -> A
         "respell-file" => codes::respelling_file(rt, bench.alloc(), rest),
 
         "graph" => graphs::graph(bench, rest),
+        "base" => bases::base(bench, rest),
+        "chain" => leasts::chain(bench, rest),
+
+        "loops" => loops::loops(bench, rest),
+        "blocks" => flows::flow(bench, rest),
 
         "machine" => machine::machine(bench, false, rest),
         "machine-step" => machine::machine(bench, true, rest),

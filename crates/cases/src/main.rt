@@ -14,18 +14,25 @@
 #![tactic(auto)]
 
 mod answers;
+mod bases;
 mod bench;
 mod calls;
 mod classes;
 mod codes;
+mod flows;
 mod frames;
 mod graphs;
+mod leasts;
+mod loops;
 mod machine;
+mod meanings;
 mod outside;
 mod pools;
 mod repeats;
+mod rules;
 mod runs;
 mod samples;
+mod settings;
 mod spelling;
 mod values;
 

@@ -26,8 +26,8 @@ use pv_value::{
 };
 use std::alloc::Global;
 
-// The operations by their names.
-const OPERATIONS: [(&str, ScalarOp); 33] = [
+/// The operations by their names.
+pub const OPERATIONS: [(&str, ScalarOp); 33] = [
     ("iadd", ScalarOp::Iadd),
     ("isub", ScalarOp::Isub),
     ("imul", ScalarOp::Imul),
@@ -63,7 +63,8 @@ const OPERATIONS: [(&str, ScalarOp); 33] = [
     ("l2i", ScalarOp::L2i),
 ];
 
-const KINDS: [(&str, Kind); 6] = [
+/// The kinds of elements by their names.
+pub const KINDS: [(&str, Kind); 6] = [
     ("int", Kind::Int),
     ("long", Kind::Long),
     ("ref", Kind::Ref),
@@ -123,7 +124,8 @@ pub fn read_nums(alloc: Global, words: &[&str]) -> Result<Nums, NoAnswer> {
     Ok(Nums::from(nums))
 }
 
-fn read_num(word: &str) -> Result<Num, NoAnswer> {
+/// The number that a word writes.
+pub fn read_num(word: &str) -> Result<Num, NoAnswer> {
     if let Some(long) = word.strip_suffix('L') {
         return Ok(Num::Long(number(long)?));
     }

@@ -1,4 +1,4 @@
--- Tests of nodes by their numbers. A step along a kid falls where the kid is smaller than the node, and rises where it is larger.
+-- What tests of nodes by their numbers find. The later kids of a theta are all but its first.
 use Rattle.std.specs.Prelude.{◌≡◌, ◌⊎◌, ℕ, ◌<◌, ◌≤◌, List, Some, slice_get}
 use Rattle.pv_graph.specs.declared.node.Op.{Op}
 use Rattle.pv_graph.specs.declared.node.Node.{Node}

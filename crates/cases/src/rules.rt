@@ -1,5 +1,7 @@
-//! Tests for what some calls of `pv_graph` and `pv_alike` require. They look at the numbers of nodes alone, so
-//! that there are graphs that keep the rules and don't pass.
+//! Tests for what some calls of `pv_graph` and `pv_alike` require. They compare the numbers of nodes alone, so
+//! some graphs that keep the rules don't pass, least graphs among them.
+//!
+//! The later kids of a theta are all but its first.
 
 ghost use Rattle.std.specs.Prelude.{◌≡◌, ◌⊎◌, ◌<◌, length, IsTrue, MatchOption};
 ghost use Rattle.pv_graph.specs.Ops.{shape};
@@ -107,8 +109,8 @@ fn is_uncrossed(graph: &Graph, n: NodeId, node: &Node) -> bool
     }
 }
 
-/// Whether each step of a graph but that to the later kid of a theta falls, and no theta's step to a later kid
-/// passes an eval, a pass or a shift of its depth or less: such a graph is well made.
+/// Whether each kid but a theta's later ones is smaller than its node, and no eval, pass or shift of a theta's depth
+/// or less is larger than the theta and not larger than a later kid of it: such a graph is well made.
 pub fn is_well_made(graph: &Graph) -> bool
     ensures { IsTrue result → IsWellMade graph.now }
 {
@@ -121,8 +123,8 @@ pub fn is_well_made(graph: &Graph) -> bool
     true
 }
 
-/// Whether each step of a list of nodes but that to the later kid of a theta rises: then each cycle takes the
-/// second kid of some theta.
+/// Whether each kid but a theta's later ones is larger than its node: then each cycle takes the second kid of some
+/// theta.
 pub fn rise(nodes: &[Node]) -> bool
     ensures { IsTrue result → LeavesNoSortOpen nodes.now }
 {

@@ -52,8 +52,8 @@ fn read_targets(alloc: Global, word: &str) -> Result<Vec<u32>, NoAnswer> {
     Ok(targets)
 }
 
-// Whether there is an entry, and each target is a node.
-fn is_shape(shape: &Shape) -> bool
+/// Whether there is an entry, and each target is a node.
+pub(crate) fn is_shape(shape: &Shape) -> bool
     ensures { IsTrue result → IsShape shape.now }
 {
     let nodes = shape.len();

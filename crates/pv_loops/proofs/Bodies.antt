@@ -94,14 +94,14 @@ module _ (sources : List (List ℕ)) (order place : List ℕ) (S : IsShape sourc
   body_low h x (inl e) = let q = ap P e in omega (arith, q)
   body_low h x (inr r) = (guarded h x r).0
 
-  body_in : (h x : ℕ) → h < length sources → Body h x → x < length sources
+  pub body_in : (h x : ℕ) → h < length sources → Body h x → x < length sources
   body_in h x hh (inl e) = omega (arith, e)
   body_in h x hh (inr r) = reach_in h x r
 
-  body_zero : (h : ℕ) → h < length sources → Body h 0 → h ≡ 0
+  pub body_zero : (h : ℕ) → h < length sources → Body h 0 → h ≡ 0
   body_zero h hh b = let low = body_low h 0 b in same h 0 hh S.entry (let f = O.first in omega (arith, low, f))
 
-  closed : (h x y : ℕ) → Body h x → x ≢ h → Edge sources x y → Body h y
+  pub closed : (h x y : ℕ) → Body h x → x ≢ h → Edge sources x y → Body h y
   closed h x y (inl e) ne f = absurd (ne e)
   closed h x y (inr r) ne f = inr (before x y r ne f)
 

@@ -44,6 +44,16 @@ bare_nested sources place headers most count f size homes none B = record {
   filled = λ i l _ before. absurd (omega (arith, before));
 }
 
+-- the order that a forest carries is no part of its loops
+pub nested_with : (sources : List (List ℕ)) (place headers : List ℕ) (most n : ℕ) (f g : Forest) → g.loops ≡ f.loops → g.home ≡ f.home → IsNested sources place headers most n f → IsNested sources place headers most n g
+nested_with sources place headers most n f g loops home N = record {
+  size = subst (λ v. length v.items ≡ length headers) (sym loops) N.size;
+  header = subst (λ v. (i : ℕ) (l : Loop) → slice_get v.items i ≡ Some l → l.header ≡ get_or headers i 0) (sym loops) N.header;
+  homes = subst (λ v. length v.items ≡ length sources) (sym home) N.homes;
+  home = subst (λ v. (x : ℕ) → x < length sources → IsHomeBefore sources place headers n x (get_or v.items x None)) (sym home) N.home;
+  filled = subst (λ v. (i : ℕ) (l : Loop) → slice_get v.items i ≡ Some l → get_or place l.header 0 < n → IsFilled sources place headers most l) (sym loops) N.filled;
+}
+
 pub some_of : (o : Option ℕ) → o ≢ None → (i : ℕ) × (o ≡ Some i)
 some_of None ne = absurd (ne refl)
 some_of (Some i) ne = (i, refl)

@@ -41,7 +41,7 @@ module _ (s sources : List (List ℕ)) (order place : List ℕ) (rev : IsReverse
   head_at : (i : ℕ) (l : Loop) → slice_get loops i ≡ Some l → Head l.header
   head_at i l e = subst (λ v. Head v) (sym (N.header i l e)) (H.heads i (in_headers i l e))
 
-  filled : (i : ℕ) (l : Loop) → slice_get loops i ≡ Some l → IsFilled sources place nodes most l
+  pub filled : (i : ℕ) (l : Loop) → slice_get loops i ≡ Some l → IsFilled sources place nodes most l
   filled i l e = N.filled i l e (in_order l.header (head_at i l e))
 
   -- the loop of a header
@@ -55,7 +55,7 @@ module _ (s sources : List (List ℕ)) (order place : List ℕ) (rev : IsReverse
   bodies h head = let l = found h head in (l.1.members.items, subst (λ v. AreBody sources place v l.1.members.items) l.3 (filled l.0 l.1 l.2).body)
 
   -- the headers around a header are those of its parents
-  around_is : (h : ℕ) (around : List ℕ) → Encloses sources place h around → (i : ℕ) (l : Loop) → slice_get loops i ≡ Some l → l.header ≡ h → AreAround loops l around
+  pub around_is : (h : ℕ) (around : List ℕ) → Encloses sources place h around → (i : ℕ) (l : Loop) → slice_get loops i ≡ Some l → l.header ≡ h → AreAround loops l around
   around_is _ _ (alone h head sole) i l at own = go l.parent refl (subst (λ v. IsParent sources place nodes v l.parent) own (filled i l at).parent)
     where
       go : (o : Option ℕ) → l.parent ≡ o → IsParent sources place nodes h o → AreAround loops l []

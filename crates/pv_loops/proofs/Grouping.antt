@@ -78,25 +78,25 @@ grouped_T2 s g leader leader' n p G M (nonzero, other, arrow, only) = record {
         (((λ q. lx (sym (M.kept x lx) ∙ q)), y_not, inl (subst (λ (v : ℕ). g.Arrow v y) (sym (M.kept x lx)) o.0)), M.kept y ly ∙ o.1)
 
 -- the leaders after steps
-abbrev leaders_after : (ℕ → ℕ) → TStep → ℕ → ℕ
+abbrev pub leaders_after : (ℕ → ℕ) → TStep → ℕ → ℕ
 leaders_after leader (T1 n) = leader
 leaders_after leader (T2 n p) = λ x. cond (eqb (leader x) n) p (leader x)
 
-abbrev all_leaders : (ℕ → ℕ) → List TStep → ℕ → ℕ
+abbrev pub all_leaders : (ℕ → ℕ) → List TStep → ℕ → ℕ
 all_leaders leader [] = leader
 all_leaders leader (t ∷ ts) = all_leaders (leaders_after leader t) ts
 
-merged_by : (leader : ℕ → ℕ) (n p : ℕ) → MergedLeaders leader (leaders_after leader (T2 n p)) n p
+pub merged_by : (leader : ℕ → ℕ) (n p : ℕ) → MergedLeaders leader (leaders_after leader (T2 n p)) n p
 merged_by leader n p = record {
   moved = λ x e. ap (λ b. cond b p (leader x)) (eq-eqb (leader x) n e);
   kept = λ x e. ap (λ b. cond b p (leader x)) (ne_eqb (leader x) n e);
 }
 
-grouped_step : (s : List (List ℕ)) (g : Graph) (leader : ℕ → ℕ) (t : TStep) → Grouped s g leader → Applies g t → Grouped s (after g t) (leaders_after leader t)
+pub grouped_step : (s : List (List ℕ)) (g : Graph) (leader : ℕ → ℕ) (t : TStep) → Grouped s g leader → Applies g t → Grouped s (after g t) (leaders_after leader t)
 grouped_step s g leader (T1 n) G a = grouped_T1 s g leader n G
 grouped_step s g leader (T2 n p) G a = grouped_T2 s g leader _ n p G (merged_by leader n p) a
 
-grouped_all : (s : List (List ℕ)) (g : Graph) (leader : ℕ → ℕ) (ts : List TStep) → Grouped s g leader → AllApply g ts → Grouped s (after_all g ts) (all_leaders leader ts)
+pub grouped_all : (s : List (List ℕ)) (g : Graph) (leader : ℕ → ℕ) (ts : List TStep) → Grouped s g leader → AllApply g ts → Grouped s (after_all g ts) (all_leaders leader ts)
 grouped_all s g leader [] G a = G
 grouped_all s g leader (t ∷ ts) G a = grouped_all s (after g t) (leaders_after leader t) ts (grouped_step s g leader t G a.0) a.1
 

@@ -13,7 +13,16 @@ mod Nesting
 mod Listing
 mod Filling
 mod Foresting
+mod Surrounding
+mod Ordering
+mod Weights
+mod Ranking
 mod Unique
 mod Walking
+mod Deciding
+mod Descending
+mod Merged
+mod Enclosing
+pub mod Forested
 mod Orders
 mod Examples

@@ -6,6 +6,25 @@ use Rattle.std.proofs.lemmas.Option.{slice_get_within, slice_get_cases, slice_ge
 use Rattle.std.specs.Prelude.{slice_get}
 use Rattle.std.specs.List.Sorted.{IsStrictlyIncreasing}
 
+-- a list without its first number
+abbrev pub rest : List ℕ → List ℕ
+rest [] = []
+rest (x ∷ xs) = xs
+
+-- a list with an element has a last one
+pub last_of : (xs : List ℕ) → (xs ≡ []) ⊎ ((front : List ℕ) × (z : ℕ) × (xs ≡ front ++ z ∷ []))
+last_of [] = inl refl
+last_of (x ∷ xs) = ⊎_elim
+    (λ (e : xs ≡ []). inr ([], x, ap (λ (l : List ℕ). x ∷ l) e))
+    (λ (q : (front : List ℕ) × (z : ℕ) × (xs ≡ front ++ z ∷ [])). inr (x ∷ q.0, q.1, ap (λ (l : List ℕ). x ∷ l) q.2))
+    (last_of xs)
+
+-- of two ends of a list one ends in the other
+pub two_ends : (us vs xs ys : List ℕ) → us ++ vs ≡ xs ++ ys → ((zs : List ℕ) × (vs ≡ zs ++ ys)) ⊎ ((zs : List ℕ) × (ys ≡ zs ++ vs))
+two_ends [] vs xs ys e = inl (xs, e)
+two_ends (u ∷ us) vs [] ys e = inr (u ∷ us, sym e)
+two_ends (u ∷ us) vs (x ∷ xs) ys e = two_ends us vs xs ys (ap rest e)
+
 -- there is an element at each place
 pub listed_at : {X : Type 0} (xs : List X) (i : ℕ) → i < length xs → (x : X) × (slice_get xs i ≡ Some x)
 listed_at {X} xs i lt = ⊎_elim

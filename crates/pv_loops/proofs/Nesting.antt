@@ -29,7 +29,7 @@ module _ (sources : List (List ℕ)) (order place : List ℕ) (S : IsShape sourc
   pub meets : (a b x : ℕ) → Head a → Head b → Body a x → Body b x → P a ≤ P b → Body a b
   meets a b x ha hb ba bb le = meet sources order place S O (suc (P x)) a b x (omega arith) (node a ha) (node b hb) ba bb le
 
-  inside : (a b y : ℕ) → Head a → Head b → Body a b → Body b y → Body a y
+  pub inside : (a b y : ℕ) → Head a → Head b → Body a b → Body b y → Body a y
   inside a b y ha hb ab by = inside_body sources order place S O a b y (node a ha) (node b hb) ab (low a b ab) by
 
   pub same_next : (h g o : ℕ) → IsNext sources place h g → IsNext sources place h o → g ≡ o

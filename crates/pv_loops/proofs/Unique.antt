@@ -1,5 +1,5 @@
 -- Two forests of a shape are the same.
-use Rattle.std.proofs.Common.{◌≡◌, ◌≢◌, ℕ, zero, suc, ◌<◌, ◌≤◌, ◌+◌, List, [], ◌∷◌, length, map, get_or, refl, sym, ◌∙◌, ap, subst, arith, ⊎_elim, ◌↔◌, Option, Some, None}
+use Rattle.std.proofs.Common.{◌≡◌, ◌≢◌, ℕ, zero, suc, ◌<◌, ◌≤◌, ◌+◌, List, ◌∷◌, length, map, get_or, refl, sym, ◌∙◌, ap, subst, arith, ⊎_elim, ◌↔◌, Option, Some, None}
 use Rattle.std.proofs.lemmas.Bool.{cases_eq, cases_lt}
 use Rattle.std.proofs.lemmas.Grind.{same_number_lists}
 use Rattle.std.proofs.lemmas.List.{get_or-map, length-map, get_or_default, same_lists}
@@ -12,7 +12,7 @@ use Rattle.pv_loops.specs.declared.forest.Loop.{Loop}
 use Rattle.pv_loops.specs.declared.forest.Forest.{Forest}
 use Rattle.pv_loops.specs.Forests.{AreAround, outermost, inner, IsHome, IsForest, IsSameLoop}
 use Rattle.pv_loops.specs.Laws.{OneForest}
-use Rattle.pv_loops.proofs.Listing.{listed_at, increases}
+use Rattle.pv_loops.proofs.Listing.{rest, listed_at, increases}
 
 -- a number that stands at i in xs isn't before i in ys, where the lists agree before i
 not_before : (xs ys : List ℕ) → IsStrictlyIncreasing xs → IsStrictlyIncreasing ys → (i : ℕ) → i < length xs → ((j : ℕ) → j < i → j < length ys → get_or xs j 0 ≡ get_or ys j 0) → Contains ys (get_or xs i 0) → (i < length ys) × (get_or ys i 0 ≤ get_or xs i 0)
@@ -60,11 +60,6 @@ headers loops = map (λ (l : Loop). l.header) loops
 
 header_at : (loops : List Loop) (i : ℕ) (l : Loop) → slice_get loops i ≡ Some l → get_or (headers loops) i 0 ≡ l.header
 header_at loops i l e = get_or-map (λ (k : Loop). k.header) loops i l 0 (slice_get_within loops i l e) ∙ ap (λ (k : Loop). k.header) (get_or_from_slice_get loops i l l e)
-
--- a list of headers is read at one place only
-abbrev rest : List ℕ → List ℕ
-rest [] = []
-rest (x ∷ xs) = xs
 
 -- the headers around a loop are determined by the list
 same_around : (loops : List Loop) (l : Loop) (a b : List ℕ) → AreAround loops l a → AreAround loops l b → a ≡ b

@@ -6,11 +6,17 @@ use Rattle.pv_loops.specs.Steps.{ReduceToOne, IsReducible}
 use Rattle.pv_loops.specs.Loops.{IsLoop}
 use Rattle.pv_loops.specs.Bodies.{IsOrder, IsHead, InBody, AreBody}
 use Rattle.pv_loops.specs.declared.forest.Forest.{Forest}
-use Rattle.pv_loops.specs.Forests.{IsForest, IsSameForest}
+use Rattle.pv_loops.specs.declared.forest.TheConstants.{MAX_DEPTH}
+use Rattle.pv_loops.specs.Forests.{IsForest, NestsUpTo, IsSameForest}
+use Rattle.pv_loops.specs.Ranks.{HasRanking}
 
 -- where some steps reduce a shape to one node, no steps are stuck
 abbrev pub Confluence : Type 0
 Confluence = (s : List (List ℕ)) (ts : List TStep) → ReduceToOne s ts → IsReducible s
+
+-- and a reducible shape is reduced to one node by some steps
+abbrev pub ReducesToOne : Type 0
+ReducesToOne = (s : List (List ℕ)) → IsShape s → IsReducible s → (ts : List TStep) × ReduceToOne s ts
 
 -- the body of a header that no other header has in its body is an outermost loop
 abbrev pub OutermostBodies : Type 0
@@ -28,3 +34,7 @@ InnerBodies = (s sources : List (List ℕ)) (order place : List ℕ) → IsRever
 -- a shape has one forest at most
 abbrev pub OneForest : Type 0
 OneForest = (s : List (List ℕ)) (f g : Forest) → IsForest s f → IsForest s g → IsSameForest f g
+
+-- the nodes of a reducible shape whose loops nest at most 16 deep can be ranked
+abbrev pub Ranking : Type 0
+Ranking = (s : List (List ℕ)) (f : Forest) → IsShape s → IsReducible s → NestsUpTo s MAX_DEPTH → IsForest s f → HasRanking s f

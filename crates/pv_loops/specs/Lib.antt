@@ -6,5 +6,6 @@ pub mod Reductions
 pub mod Bodies
 pub mod Nests
 pub mod Forests
+pub mod Ranks
 pub mod Faults
 pub mod Laws

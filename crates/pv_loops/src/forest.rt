@@ -6,6 +6,7 @@ ghost use Rattle.pv_loops.specs.Steps.{Stuck, IsReducible};
 ghost use Rattle.pv_loops.specs.Bodies.{IsOrder};
 ghost use Rattle.pv_loops.specs.Nests.{AreHeaders, IsNested};
 ghost use Rattle.pv_loops.specs.Forests.{IsForest, NestsUpTo, HasDepth};
+ghost use Rattle.pv_loops.specs.Ranks.{IsOrdered, HasRanking};
 ghost use Rattle.pv_loops.specs.Faults.{OnIrreducible, OnDeep};
 
 use crate::body::body;
@@ -38,6 +39,9 @@ pub struct Loop {
 pub struct Forest {
     pub loops: Vec<Loop>,
     pub home: Vec<Option<u32>>,
+    /// All nodes, each once, node 0 first. Each edge leads to a later node, but for edges back to the
+    /// header of a loop that has the node that they leave.
+    pub order: Vec<u32>,
 }
 
 /// The forest of the loops of a shape: `Irreducible` carries steps that are stuck with two or more
@@ -47,6 +51,8 @@ pub fn reduce(alloc: Global, shape: &Shape) -> Result<Forest, LoopFault>
     requires { IsShape shape.now }
     ensures reducible { OnOk result (IsReducible shape.now) }
     ensures forest { IfOk result (λ f. IsForest shape.now f) }
+    ensures ordered { IfOk result (λ f. IsOrdered shape.now f) }
+    ensures ranked { IfOk result (λ f. HasRanking shape.now f) }
     ensures shallow { OnOk result (NestsUpTo shape.now MAX_DEPTH) }
     ensures irreducible { IfErr result (λ e. OnIrreducible e (λ steps. Stuck shape.now steps)) }
     ensures deep { IfErr result (λ e. OnDeep e (λ d. (d ≡ MAX_DEPTH + 1) × IsReducible shape.now × HasDepth shape.now d)) }
@@ -56,11 +62,12 @@ pub fn reduce(alloc: Global, shape: &Shape) -> Result<Forest, LoopFault>
     let headers = Headers::find(alloc, shape.len(), &sources, &order.place)?;
     let mut forest = Forest::bare(alloc, &headers.nodes, shape.len() as usize)?;
     forest.fill(alloc, &sources, &order, &headers)?;
+    forest.order = order.nodes;
     Ok(forest)
 }
 
 impl Forest {
-    // A loop without nodes for each header, and no homes of these `count` nodes.
+    // A loop without nodes for each header, no homes of these `count` nodes, and no order.
     fn bare(alloc: Global, headers: &[u32], count: usize) -> Result<Forest, AllocError>
         ensures { IfOk result (λ f. (sources : List (List ℕ)) (place : List ℕ) → length sources ≡ count → IsNested sources place headers.now MAX_DEPTH 0 f) }
     {
@@ -74,7 +81,11 @@ impl Forest {
             })?;
         }
         let home = no_homes(alloc, count)?;
-        Ok(Forest { loops, home })
+        Ok(Forest {
+            loops,
+            home,
+            order: Vec::new(alloc),
+        })
     }
 
     // Fills the loops, header by header in the order.

@@ -9,15 +9,21 @@
 //!
 //! The layer above uses `reduce`. It gives the forest of the loops of a shape (`specs/Forests`): each
 //! loop of the definition, once, by ascending header, with its depth, the next loop around it and its
-//! nodes, and for each node the innermost loop that has it. Where the shape isn't reducible, it gives
-//! steps that are stuck, and where loops nest deeper than 16, the depth 17. Out of memory is its one
-//! other answer. And the layer above uses these laws:
+//! nodes, and for each node the innermost loop that has it. It hands out an order of the nodes
+//! (`specs/Ranks`): each edge leads to a later node, but for edges back to the header of a loop around
+//! the node that they leave. Its clause `ranked` says besides that loops nest along the edges, and that
+//! the nodes can be ranked so that edges go on to higher ranks, and on out of a loop to higher ranks
+//! than all nodes of the loop have. Where the shape isn't reducible, it gives steps that are stuck, and
+//! where loops nest deeper than 16, the depth 17. Out of memory is its one other answer. And the layer
+//! above uses these laws:
 //!
-//! - `law_confluence`: where some steps reduce a shape to one node, no steps are stuck.
+//! - `law_confluence`: where some steps reduce a shape to one node, no steps are stuck, and the other
+//!   way round.
 //! - `law_bodies`: in an order that a reduction gives (`specs/Bodies`), the nodes from which an edge
 //!   back to a header is reached without passing the header are its loop, and it is an inner loop of
 //!   the latest other header around it.
 //! - `law_forest`: two forests of one shape have the same loops in the same places, and the same homes.
+//! - `law_ranking`: the nodes of a reducible shape can be ranked, whatever made its forest.
 //!
 //! `reduction` merges groups of nodes, each into the only group with edges into it (`specs/Reductions`),
 //! in sweeps over the leaders that are left, in the order that `walk` gives; `groups` has for each node
@@ -29,7 +35,7 @@
 //! for the sorting of their nodes. Nothing here recurses.
 #![tactic(auto)]
 
-ghost use Rattle.pv_loops.specs.Laws.{Confluence, InnerBodies, OneForest, OutermostBodies};
+ghost use Rattle.pv_loops.specs.Laws.{Confluence, InnerBodies, OneForest, OutermostBodies, Ranking, ReducesToOne};
 
 mod body;
 mod fault;
@@ -46,9 +52,11 @@ pub use fault::{LoopFault, TStep};
 pub use forest::{Forest, Loop, MAX_DEPTH, reduce};
 pub use shape::Shape;
 
-/// The law of confluence: a shape that some steps reduce to one node has no stuck steps.
+/// The law of confluence: a shape that some steps reduce to one node has no stuck steps. And where no
+/// steps are stuck, some reduce the shape to one node.
 pub fn law_confluence()
-    ensures { Confluence }
+    ensures confluent { Confluence }
+    ensures reduced { ReducesToOne }
 {}
 
 /// The laws of bodies: in the order of a reduction, the nodes from which an edge back to a header is
@@ -61,4 +69,10 @@ pub fn law_bodies()
 /// The law of forests: the definition has one forest at most for a shape.
 pub fn law_forest()
     ensures { OneForest }
+{}
+
+/// The law of ranks: the nodes of a reducible shape whose loops nest at most 16 deep can be ranked along
+/// its edges, whatever made its forest.
+pub fn law_ranking()
+    ensures { Ranking }
 {}

@@ -1,0 +1,46 @@
+-- The laws of the equations.
+use Rattle.std.specs.Prelude.{◌≡◌, ℕ, ◌<◌, ◌≤◌, Bool, true, List, length, Option, ◌↔◌}
+use Rattle.pv_value.specs.declared.world.World.{World}
+use Rattle.pv_value.specs.declared.outcome.Input.{Input}
+use Rattle.pv_value.specs.declared.outcome.Outcome.{Outcome}
+use Rattle.pv_value.specs.declared.outcome.Val.{Val}
+use Rattle.pv_value.specs.declared.outcome.Val.TheVariants as val
+use Rattle.pv_denote.specs.Denote.{Index}
+use Rattle.pv_graph.specs.Unfold.{UnfoldsAs}
+use Rattle.pv_graph.specs.Walks.{Free}
+use Rattle.pv_graph.specs.Graphs.{Graph, form_at}
+use Rattle.pv_denote.specs.Meaning.{Value}
+use Rattle.pv_equations.specs.Exp.{Exp}
+use Rattle.pv_equations.specs.Flow.{Flow, Shape, Compact, IsFinite, Starts, Runnable}
+use Rattle.pv_equations.specs.Equations.{Target, Values, IsTree, form_of, FreeIn, AreEquations}
+use Rattle.pv_equations.specs.Root.{root_of, EndsWith, Finishes}
+
+-- the well-typed states, where a test t tells them
+abbrev pub AsTested : (ℕ → (ℕ → Val) → Bool) → ℕ → (ℕ → Val) → Type 0
+AsTested t b σ = t b σ ≡ true
+
+-- a node r that unfolds as the root of a flow's equations has the value o exactly where the run from the entry ends with o
+abbrev pub Conversion : Type 0
+Conversion = (g : Graph) (w : World) (x : Input) (f : Flow) (v : Values) (rank : ℕ → ℕ) (top deepest : ℕ) (t : ℕ → (ℕ → Val) → Bool) (d : Exp) (r : ℕ) (σ : ℕ → Val) (i : Index) (o : Outcome)
+    → Shape f rank → ((b : ℕ) → rank b < top) → ((b : ℕ) → length (f.around b) ≤ deepest) → AreEquations f v → Runnable w x f (AsTested t) → Finishes w x f (AsTested t)
+    → UnfoldsAs (form_at g.nodes) (form_of f v) r (root_of f v d) → Starts w x f σ → AsTested t f.entry σ
+    → Value g w x r i (val.End o) ↔ EndsWith w x f f.entry σ o
+
+-- the equations of a flow with finitely many blocks and slots have a solution
+abbrev pub Solvable : Type 0
+Solvable = (f : Flow) (rank : ℕ → ℕ) (top deepest blocks slots : ℕ) → Shape f rank → Compact f rank → IsFinite f blocks slots → ((b : ℕ) → rank b < top) → ((b : ℕ) → length (f.around b) ≤ deepest) → (v : Values) × AreEquations f v
+
+-- .. and no second one: what unfolds as the root of one solution unfolds as the root of the other
+abbrev pub Unique : Type 0
+Unique = (f : Flow) (rank : ℕ → ℕ) (top deepest : ℕ) → Shape f rank → Compact f rank → ((b : ℕ) → rank b < top) → ((b : ℕ) → length (f.around b) ≤ deepest)
+    → (v u : Values) → AreEquations f v → AreEquations f u → (g : Graph) (r : ℕ) (d : Exp) → UnfoldsAs (form_at g.nodes) (form_of f v) r (root_of f v d) → UnfoldsAs (form_at g.nodes) (form_of f u) r (root_of f u d)
+
+-- for given values the tree from a block is one: a tree that is computed from them is theirs
+abbrev pub TreesOnce : Type 0
+TreesOnce = (f : Flow) (v : Values) (R : List ℕ) (t : Target) (s : ℕ) (F : List ℕ) (b : ℕ) (r q : Option Exp) → IsTree f v R t s F b r → IsTree f v R t s F b q → r ≡ q
+
+-- the rule on names finds every free depth: a depth that is free in a node that unfolds as the expression is free in the
+-- expression, in which names of deeper loops alone are followed
+abbrev pub FreeFound : Type 0
+FreeFound = (g : Graph) (f : Flow) (v : Values) (rank : ℕ → ℕ) (top : ℕ) → Shape f rank → ((b : ℕ) → rank b < top) → AreEquations f v
+    → (n : ℕ) (e : Exp) (d : ℕ) → UnfoldsAs (form_at g.nodes) (form_of f v) n e → Free (form_at g.nodes) d n → FreeIn f v d e

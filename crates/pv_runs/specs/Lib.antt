@@ -1,0 +1,8 @@
+pub mod Held
+pub mod Chains
+pub mod Blocks
+pub mod Carrying
+pub mod Entries
+pub mod Methods
+pub mod Matches
+pub mod Laws

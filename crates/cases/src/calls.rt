@@ -5,7 +5,7 @@ use crate::bench::Bench;
 use crate::pools::Asked;
 use crate::{
     bases, classes, codes, flows, frames, graphs, leasts, loops, machine, outside, pools, runs,
-    values,
+    trees, values,
 };
 use std::rt::Files;
 use std::thread::Threads;
@@ -48,6 +48,7 @@ pub fn answer<R: Files + Threads + Sync>(rt: &R, bench: &Bench, line: &str) -> A
 
         "loops" => loops::loops(bench, rest),
         "blocks" => flows::flow(bench, rest),
+        "tree" => trees::tree(bench, rest),
 
         "machine" => machine::machine(bench, false, rest),
         "machine-step" => machine::machine(bench, true, rest),

@@ -34,6 +34,7 @@ mod runs;
 mod samples;
 mod settings;
 mod spelling;
+mod trees;
 mod values;
 
 use answers::{Answer, NoAnswer};

@@ -1,0 +1,11 @@
+use Rattle.std.proofs.Common.{◌≡◌, ℕ, length, Some, slice_get}
+use Rattle.pv_flow.specs.declared.block.Block.{Block}
+use Rattle.pv_decide.specs.declared.site.Site.{Site}
+use Rattle.pv_decide.specs.Trees.{IsSite}
+use Rattle.pv_decide.proofs.trees.sites.Given as goal
+
+abbrev pub invariant-loop-b : goal.invariant-loop-b
+invariant-loop-b l = record {
+  size : length l.sites.items ≡ l.b;
+  each : (b : ℕ) (k : Block) (site : Site) → slice_get l.flow.blocks b ≡ Some k → slice_get l.sites.items b ≡ Some site → IsSite k l.forest b site;
+}

@@ -1,0 +1,6 @@
+mod Steps
+mod Standing
+mod Holding
+mod Single
+mod Rearranged
+mod Increases

@@ -1,0 +1,147 @@
+-- What an action of a block does to what is held in nodes.
+use Rattle.std.specs.Prelude.{◌≡◌, refl, ℕ, ℤ, Bool, true, false, List, [], ◌∷◌, map, Option, Some, None, option_map, if◌then◌else◌}
+use Rattle.pv_value.specs.declared.number.Num.{Num}
+use Rattle.pv_value.specs.declared.number.Num.TheVariants as num
+use Rattle.pv_value.specs.declared.operation.ScalarOp.TheVariants.{Iadd}
+use Rattle.pv_value.specs.Operations as operation
+use Rattle.pv_frame.specs.declared.sort.Sort.{Sort}
+use Rattle.pv_frame.specs.declared.sort.Sort.TheVariants as sort
+use Rattle.pv_frame.specs.declared.action.Action.{Action}
+use Rattle.pv_frame.specs.declared.action.Action.TheVariants as act
+use Rattle.pv_frame.specs.declared.action.Move.{Move}
+use Rattle.pv_frame.specs.declared.program.Program.{Program}
+use Rattle.pv_frame.specs.Programs.{IsAt}
+use Rattle.pv_frame.specs.Actions.{IsFloatlessMethod}
+use Rattle.pv_frame.specs.Stacks.{popped, moved, has_room, set_local}
+use Rattle.pv_frame.specs.Effects.{sort_of, sort_of_type, sort_of_word, sort_of_kind, takes}
+use Rattle.pv_graph.specs.declared.node.Op.{Op}
+use Rattle.pv_graph.specs.declared.node.Op.TheVariants as op
+use Rattle.pv_graph.specs.declared.node.Node.{Node}
+use Rattle.pv_graph.specs.Graphs.{Graph}
+use Rattle.pv_equations.specs.Flow.{Part, Of}
+use Rattle.pv_runs.specs.Held.{acted_on, int_part}
+use Rattle.pv_runs.specs.Chains.{two_parts}
+use Rattle.pv_runs.specs.Held as parts
+use Rattle.pv_runs.specs.Matches.{IsClean}
+use Rattle.std.specs.List.{AllZip}
+use Rattle.pv_block.specs.declared.held.Cell.{Cell}
+use Rattle.pv_block.specs.declared.held.Held.{Held}
+use Rattle.pv_block.specs.declared.computing.Operation.{Operation}
+use Rattle.pv_block.specs.Cells.{sort_in, local_of, empty}
+use Rattle.pv_block.specs.Standing.{Entry, StandsFor, CellStands, HoldsFor, StandsOver}
+use Rattle.pv_block.specs.Sorted.{HasItsSort}
+
+-- ---- what is asked of actions
+
+-- a call has neither floats nor doubles
+abbrev pub IsFloatlessCall : Action → Type 0
+IsFloatlessCall (act.Call d f) = IsFloatlessMethod d
+IsFloatlessCall a = Unit {0}
+
+-- an action of a program, as its descriptors say
+abbrev pub IsPlain : Action → Type 0
+IsPlain a = IsClean a × IsFloatlessCall a
+
+abbrev pub ArePlain : Program → Type 0
+ArePlain p = (k : ℕ) (a : Action) → IsAt p k a → IsPlain a
+
+-- ---- without an operation
+
+abbrev pub push_in : Cell → Held → Held
+push_in cell c = record c { stack = cell ∷ c.stack }
+
+-- the operands of the action, and what is held without them
+abbrev pub popped_in : Action → Held → Option (List Cell × Held)
+popped_in a c = option_map (λ q. (q.0, record c { stack = q.1 })) (popped sort_in (takes a) c.stack)
+
+abbrev pub loaded : Sort → ℕ → Held → Option Held
+loaded s k c = option_map (λ cell. push_in cell c) (local_of s k c.locals)
+
+abbrev pub shifted : Move → Held → Option Held
+shifted m c = option_map (λ stack. record c { stack = stack }) (moved sort_in m c.stack)
+
+-- after an action that moves values alone, or leaves all as it is
+abbrev pub rearranged : Action → Held → List Cell → Option Held
+rearranged act.Nop c cells = Some c
+rearranged (act.Load s k) c cells = loaded s k c
+rearranged (act.Store s k) c (cell ∷ []) = if has_room cell.sort k c.locals then Some (record c { locals = set_local sort_in (empty c.unit) k cell c.locals }) else None
+rearranged (act.Move m) c cells = shifted m c
+rearranged (act.Branch t target) c cells = Some c
+rearranged (act.Jump target) c cells = Some c
+rearranged (act.Switch default cases) c cells = Some c
+rearranged a c cells = None
+
+-- ---- one operation
+
+abbrev pub number_op : Num → Op
+number_op (num.Int n) = op.Int n
+number_op (num.Long n) = op.Long n
+number_op (num.Ref r) = op.Null
+
+abbrev pub pushing : Op → Bool → Sort → Operation
+pushing o heap s = record { op = o; with_heap = heap; pushes = Some s }
+
+-- an operation over the heap whose value is the heap
+abbrev pub writing : Op → Operation
+writing o = record { op = o; with_heap = true; pushes = None }
+
+-- the operation that an action is, over its operands, with the heap before them where it reads that, and the sort of what it pushes, if it doesn't
+-- leave another heap
+abbrev pub computing : Action → Option Operation
+computing (act.Push n) = Some (pushing (number_op n) false (sort_of n))
+computing (act.Literal text) = Some (pushing (op.Literal text) false sort.Ref)
+computing (act.Scalar o) = Some (pushing (op.Scalar o) false (sort_of_word (operation.gives o)))
+computing (act.Divide o) = Some (pushing (op.Scalar o) false (sort_of_word (operation.gives o)))
+computing (act.GetStatic t f) = Some (pushing (op.GetStatic f) true (sort_of_type t))
+computing (act.PutStatic t f) = Some (writing (op.PutStatic f))
+computing (act.GetField t f) = Some (pushing (op.GetField f) true (sort_of_type t))
+computing (act.PutField t f) = Some (writing (op.PutField f))
+computing (act.LoadElement k) = Some (pushing (op.Load k) true (sort_of_kind k))
+computing (act.StoreElement k) = Some (writing (op.Store k))
+computing act.Length = Some (pushing op.Length false sort.Int)
+computing a = None
+
+abbrev pub node_in : Cell → Option ℕ
+node_in c = c.node
+
+-- the nodes of the operands, with that of the heap before them
+abbrev pub kids_of : Bool → Option ℕ → List Cell → List (Option ℕ)
+kids_of true heap cells = heap ∷ map node_in cells
+kids_of false heap cells = map node_in cells
+
+-- a value of a sort is pushed, or there is another heap
+abbrev pub put_in : Option Sort → Held → Option ℕ → Held
+put_in (Some s) c n = push_in (record { sort = s; node = n }) c
+put_in None c n = record c { heap = n }
+
+-- what is held after an operation, whose node is new
+pub record Computes (old : Graph) (c : Held) (op : Op) (kids : List (Option ℕ)) (pushes : Option Sort) (new : Graph) (after : Held) : Type 0 where
+  pub node : Option ℕ
+  pub is : after ≡ put_in pushes c node
+  pub stands : StandsOver old.nodes op kids new.nodes node
+  pub sort : HasItsSort old op kids new node
+
+-- ---- what an action does
+
+-- whatever is held in parts, with these operands, what is held in nodes after the action stands for what is held in parts after it
+abbrev pub ActsOn : Action → List Node → Held → List Cell → List Node → Option Held → Type 0
+ActsOn a old before cells new after = (at : Entry) (h g : parts.Held) (operands : List parts.Cell) → HoldsFor at old before h → AllZip (CellStands at old) cells operands → acted_on a h operands ≡ Some g
+    → (c : Held) × (after ≡ Some c) × HoldsFor at new c g
+
+-- ---- an increase
+
+-- whatever int a node stands for, the other stands for that and a constant
+abbrev pub StandsForSum : List Node → Option ℕ → ℤ → List Node → Option ℕ → Type 0
+StandsForSum old value by new n = (at : Entry) (p : Part) → StandsFor at old value p → StandsFor at new n (Of (op.Scalar Iadd) refl (two_parts p (int_part by)))
+
+-- whatever is held in parts, what is held in nodes after the increase of a local stands for what is held in parts after it
+abbrev pub Increases : ℕ → ℤ → List Node → Held → List Node → Option Held → Type 0
+Increases k by old before new after = (operands : List Cell) → ActsOn (act.Increase k by) old before operands new after
+
+-- ---- several operations
+
+-- neither an increase nor a call, which take several operations
+abbrev pub IsSingle : Action → Type 0
+IsSingle (act.Increase k by) = ⊥
+IsSingle (act.Call d f) = ⊥
+IsSingle a = Unit {0}

@@ -1,0 +1,4 @@
+pub mod Cells
+pub mod Standing
+pub mod Sorted
+pub mod Acting

@@ -1,0 +1,24 @@
+//! What is held in a block.
+
+use pv_frame::{Items, Sort};
+use pv_graph::NodeId;
+
+/// A place of the operand stack or a local: its sort, and the node of its value, if it has one.
+#[derive(Clone, Copy, Debug)]
+pub struct Cell {
+    pub sort: Sort,
+    pub node: Option<NodeId>,
+}
+
+/// What a block has computed before an instruction, with the top of the stack first, and the nodes of
+/// unit, of no fault, and of the token where the block begins.
+#[derive(Debug, Drop)]
+pub(crate) struct Held {
+    pub(crate) stack: Items<Cell>,
+    pub(crate) locals: Items<Cell>,
+    pub(crate) heap: Option<NodeId>,
+    pub(crate) token: Option<NodeId>,
+    pub(crate) unit: NodeId,
+    pub(crate) clear: NodeId,
+    pub(crate) start: Option<NodeId>,
+}

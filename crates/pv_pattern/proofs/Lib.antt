@@ -1,0 +1,3 @@
+pub mod Nodes
+pub mod Equations
+pub mod Endless

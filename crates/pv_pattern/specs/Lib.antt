@@ -1,0 +1,6 @@
+pub mod Patterns
+pub mod Numbers
+pub mod Instances
+pub mod Laws
+pub mod Seen
+pub mod Conditions

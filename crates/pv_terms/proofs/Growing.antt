@@ -1,23 +1,25 @@
 -- Graphs to which nodes are added, and the sorts of these.
-use Rattle.std.proofs.Common.{◌≡◌, ◌≢◌, ℕ, ◌<◌, List, [], ◌∷◌, length, Bool, true, Some, None, slice_get, ◌⊎◌, inl, inr, refl, sym, ap, ◌∙◌, subst, arith, if◌then◌else◌}
+use Rattle.std.proofs.Common.{◌≡◌, ◌≢◌, ℕ, ◌<◌, List, [], ◌∷◌, ◌++◌, length, Bool, true, Some, None, slice_get, ◌⊎◌, inl, inr, refl, sym, ap, ◌∙◌, subst, arith, if◌then◌else◌}
+use Rattle.std.specs.Prelude.{Result, Ok, Err, OnErr}
 use Rattle.std.proofs.lemmas.Option.{slice_get_within, same_Some}
 use Rattle.pv_graph.specs.declared.node.Op.{Op}
 use Rattle.pv_graph.specs.declared.node.Op.TheVariants as op
+use Rattle.pv_graph.specs.declared.node.Node.{Node}
 use Rattle.pv_graph.specs.declared.node.OpSort.{OpSort}
 use Rattle.pv_graph.specs.declared.node.OpSort.TheVariants as sort
-use Rattle.pv_graph.specs.Elements.{found}
+use Rattle.pv_graph.specs.Elements.{found, push_cases}
 use Rattle.pv_graph.specs.Nodes.{node_of, IsAbsent}
 use Rattle.pv_graph.specs.Ops.{is_depth, sort_over, but_root, HaveSorts, HasSort}
 use Rattle.pv_graph.specs.Graphs.{Graph, IsGraph, IsUnfinished, Extends}
-use Rattle.pv_graph.specs.Calls.{IsSame, AreNodes, appended, Added, Begun}
+use Rattle.pv_graph.specs.Calls.{IsSame, AreNodes, IsOpenTheta, appended, Added, Begun}
 use Rattle.pv_graph.proofs.CallLaws.{added_made, added_extends, begun_made, begun_extends}
 use Rattle.pv_terms.specs.Reads.{IsNoTheta}
-use Rattle.pv_terms.specs.Terms.{Grows, IsOfSort, IsValue, HasItsSort, KeepsSort}
+use Rattle.pv_terms.specs.Terms.{Grows, Opens, Keeps, IsOfSort, IsValue, HasItsSort, KeepsSort}
 
 -- ---- graphs that grow
 
 pub grows_same : (g : Graph) → IsGraph g → Grows g g
-grows_same g is = record { graph = is; made = λ m. m; extends = record { nodes = λ n x at. at; sorts = λ n s at. at }; open_ = refl }
+grows_same g is = record { graph = is; made = λ m. m; extends = record { nodes = λ n x at. at; sorts = λ n s at. at }; open_ = refl; left = λ n is. is }
 
 pub grows_then : (a b c : Graph) → Grows a b → Grows b c → Grows a c
 grows_then a b c p q = record {
@@ -25,6 +27,7 @@ grows_then a b c p q = record {
   made = λ m. q.made (p.made m);
   extends = record { nodes = λ n x at. q.extends.nodes n x (p.extends.nodes n x at); sorts = λ n s at. q.extends.sorts n s (p.extends.sorts n s at) };
   open_ = q.open_ ∙ p.open_;
+  left = λ n is. p.left n (q.left n is);
 }
 
 -- an equal graph, prepared or not
@@ -37,6 +40,7 @@ same_grows old prepared is = record {
   made = λ m. record { graph = same_graph old prepared m.graph; rule = m.rule };
   extends = record { nodes = λ n x at. at; sorts = λ n s at. at };
   open_ = refl;
+  left = λ n is. is;
 }
 
 pub grows_unchanged : (old new : Graph) → IsGraph old → IsSame old new → Grows old new
@@ -46,21 +50,48 @@ added_open : (old new : Graph) (o : Op) (kids : List ℕ) (s : OpSort) → IsSam
 added_open old new o kids s (inl same) = ap (λ (g : Graph). g.is_open) same
 added_open old new o kids s (inr more) = ap (λ (g : Graph). g.is_open) more.1
 
-pub grows_added : (old new : Graph) (o : Op) (kids : List ℕ) (n : ℕ) → IsGraph old → Added old new o kids n → Grows old new
-grows_added old new o kids n is added = record {
+-- a node of another operation leaves no theta without kids
+added_left : (old new : Graph) (o : Op) (kids : List ℕ) (s : OpSort) → IsNoTheta o → IsSame old new ⊎ (IsAbsent old.nodes (node_of o kids) × (new ≡ appended old (node_of o kids) s new.is_prepared)) → (n : ℕ) → IsOpenTheta new n → IsOpenTheta old n
+added_left old new o kids s other (inl same) n is = (is.0, sym (ap (λ (g : Graph). slice_get g.nodes n) same) ∙ is.1)
+added_left old new o kids s other (inr more) n is =
+    let at : slice_get (old.nodes ++ node_of o kids ∷ []) n ≡ Some (node_of (op.Theta is.0) []) = sym (ap (λ (g : Graph). slice_get g.nodes n) more.1) ∙ is.1 in
+    elim (push_cases old.nodes (node_of o kids) (node_of (op.Theta is.0) []) n at) [
+      | inl there ↦ (is.0, there)
+      | inr last ↦ absurd (other is.0 (ap (λ (y : Node). y.op) last.1))
+    ]
+
+pub grows_added : (old new : Graph) (o : Op) (kids : List ℕ) (n : ℕ) → IsGraph old → IsNoTheta o → Added old new o kids n → Grows old new
+grows_added old new o kids n is other added = record {
   graph = added.graph;
   made = λ m. added_made old new o kids n m added;
   extends = added_extends old new o kids n is added;
   open_ = added_open old new o kids added.fits.0 added.grows;
+  left = added_left old new o kids added.fits.0 other added.grows;
 }
 
-pub grows_begun : (old new : Graph) (d : ℕ) (s : OpSort) (n : ℕ) → IsGraph old → Begun old new d s n → Grows old new
-grows_begun old new d s n is begun = record {
+begun_left : (old new : Graph) (d : ℕ) (s : OpSort) (n : ℕ) → Begun old new d s n → (m : ℕ) → IsOpenTheta new m → IsOpenTheta old m ⊎ (m ≡ n)
+begun_left old new d s n begun m is =
+    let at : slice_get (old.nodes ++ node_of (op.Theta d) [] ∷ []) m ≡ Some (node_of (op.Theta is.0) []) = sym (ap (λ (g : Graph). slice_get g.nodes m) begun.grows) ∙ is.1 in
+    elim (push_cases old.nodes (node_of (op.Theta d) []) (node_of (op.Theta is.0) []) m at) [
+      | inl there ↦ inl (is.0, there)
+      | inr last ↦ inr (last.0 ∙ sym begun.number)
+    ]
+
+pub opens_begun : (old new : Graph) (d : ℕ) (s : OpSort) (n : ℕ) → IsGraph old → Begun old new d s n → Opens old new n
+opens_begun old new d s n is begun = record {
   graph = begun.graph;
   made = λ m. begun_made old new d s n m begun;
   extends = begun_extends old new d s n is begun;
   open_ = ap (λ (g : Graph). g.is_open) begun.grows;
+  left = begun_left old new d s n begun;
 }
+
+pub keeps_begun : (old new : Graph) (d : ℕ) (s : OpSort) (n : ℕ) → IsGraph old → Begun old new d s n → Keeps old new
+keeps_begun old new d s n is begun = record { graph = begun.graph; extends = begun_extends old new d s n is begun }
+
+pub on_err : {A E : Type 0} (r : Result A E) (P : Type 0) → P → OnErr r P
+on_err (Ok x) P p = tt
+on_err (Err e) P p = p
 
 -- ---- sorts
 

@@ -1,5 +1,5 @@
 -- What is added to a graph: operations over nodes, and names, with what they stand for.
-use Rattle.std.specs.Prelude.{◌≡◌, ◌≢◌, ℕ, List, ◌∷◌, Some, slice_get}
+use Rattle.std.specs.Prelude.{◌≡◌, ◌≢◌, ◌⊎◌, ℕ, List, ◌∷◌, Some, slice_get}
 use Rattle.pv_graph.specs.declared.node.Op.{Op}
 use Rattle.pv_graph.specs.declared.node.Op.TheVariants as op
 use Rattle.pv_graph.specs.declared.node.OpSort.{OpSort}
@@ -7,6 +7,7 @@ use Rattle.pv_graph.specs.declared.node.OpSort.TheVariants.{R}
 use Rattle.pv_graph.specs.Ops.{HasSort}
 use Rattle.pv_graph.specs.Walks.{In}
 use Rattle.pv_graph.specs.Graphs.{Graph, IsGraph, IsWellMade, Extends}
+use Rattle.pv_graph.specs.Calls.{IsOpenTheta}
 use Rattle.pv_equations.specs.Exp.{Exp, Exps, Over, one, two, made}
 use Rattle.pv_equations.specs.Flow.{Flow}
 use Rattle.pv_equations.specs.Equations.{Values, token_out}
@@ -14,12 +15,27 @@ use Rattle.pv_terms.specs.declared.names.Named.{Named}
 use Rattle.pv_terms.specs.Reads.{named, Reads, ReadAll, AreNames}
 use Rattle.pv_terms.specs.Laws.{depths, Making}
 
--- nodes were added: the old ones stay with their sorts, the graph is as open as it was, and well made if it was
+-- nodes were added: the old ones stay with their sorts, the graph is as open as it was, and well made if it was; and no theta more is
+-- left to be tied
 pub record Grows (old new : Graph) : Type 0 where
   pub graph : IsGraph new
   pub made : IsWellMade old → IsWellMade new
   pub extends : Extends old new
   pub open_ : new.is_open ≡ old.is_open
+  pub left : (n : ℕ) → IsOpenTheta new n → IsOpenTheta old n
+
+-- .. but for one
+pub record Opens (old new : Graph) (begun : ℕ) : Type 0 where
+  pub graph : IsGraph new
+  pub made : IsWellMade old → IsWellMade new
+  pub extends : Extends old new
+  pub open_ : new.is_open ≡ old.is_open
+  pub left : (n : ℕ) → IsOpenTheta new n → IsOpenTheta old n ⊎ (n ≡ begun)
+
+-- the old nodes stay, whatever else was begun
+pub record Keeps (old new : Graph) : Type 0 where
+  pub graph : IsGraph new
+  pub extends : Extends old new
 
 -- ---- sorts
 

@@ -7,7 +7,7 @@ ghost use Rattle.pv_graph.specs.Ops.{is_depth};
 ghost use Rattle.pv_graph.specs.Calls.{FitsOver};
 ghost use Rattle.pv_equations.specs.Exp.{Name};
 ghost use Rattle.pv_terms.specs.Reads.{named, IsNoTheta, Reads};
-ghost use Rattle.pv_terms.specs.Terms.{Grows, IsOfSort, IsValue, HasItsSort, KeepsSort, ReadsOver, ReadsBoth, ReadsLast, ReadsOut, ReadsTokenOut, IsUnnamed, StayNames};
+ghost use Rattle.pv_terms.specs.Terms.{Grows, Opens, Keeps, IsOfSort, IsValue, HasItsSort, KeepsSort, ReadsOver, ReadsBoth, ReadsLast, ReadsOut, ReadsTokenOut, IsUnnamed, StayNames};
 
 use crate::names::{Named, Names};
 use pv_graph::{Graph, GraphFault, NodeId, Op, OpSort};
@@ -66,7 +66,8 @@ pub fn begin_name(
     ensures sort { IfOk result (λ n. IsOfSort g.new n sort) }
     ensures names { IfOk result (λ n. StayNames g.old names.old header depth g.new names.new) }
     ensures err { OnErr result (names.new ≡ names.old) }
-    ensures grows { Grows g.old g.new }
+    ensures opens { IfOk result (λ n. Opens g.old g.new n) }
+    ensures keeps { OnErr result (Keeps g.old g.new) }
 {
     let node = g.theta(alloc, depth, sort)?;
     names.push(Named { header, slot, node })?;

@@ -3,12 +3,12 @@ use Rattle.pv_graph.specs.Walks.{In}
 use Rattle.pv_terms.specs.declared.names.Named.{Named}
 use Rattle.pv_terms.specs.Reads.{named}
 use Rattle.pv_terms.specs.Terms.{StayNames}
-use Rattle.pv_terms.proofs.Growing.{grows_begun}
+use Rattle.pv_terms.proofs.Growing.{opens_begun, keeps_begun, on_err}
 use Rattle.pv_terms.proofs.Naming.{begun_theta, begun_sort, stay_names, name_last}
 use Rattle.pv_terms.proofs.terms.begin_name.Goals as goal
 
-pub returns-in_err-push-clause-grows : goal.returns-in_err-push-clause-grows
-returns-in_err-push-clause-grows c = grows_begun c.args.g.now c.theta.new.self c.args.depth c.args.sort c.in_ok-node.node c.requires.graph c.in_ok-node.ensures.ok
+pub returns-in_err-push-clause-keeps : goal.returns-in_err-push-clause-keeps
+returns-in_err-push-clause-keeps c = on_err c.from_residual-in_err-push.result _ (keeps_begun c.args.g.now c.theta.new.self c.args.depth c.args.sort c.in_ok-node.node c.requires.graph c.in_ok-node.ensures.ok)
 
 pub returns-clause-reads : goal.returns-clause-reads
 returns-clause-reads c =
@@ -26,5 +26,5 @@ returns-clause-names c =
     subst (StayNames c.args.g.now c.args.names.now c.args.header c.args.depth c.theta.new.self) (sym c.in_ok-push.ensures.ok)
     (stay_names c.args.g.now c.theta.new.self c.args.names.now c.args.header c.args.slot c.args.depth c.args.sort c.in_ok-node.node c.requires.graph c.in_ok-node.ensures.ok c.requires.fresh)
 
-pub returns-clause-grows : goal.returns-clause-grows
-returns-clause-grows c = grows_begun c.args.g.now c.theta.new.self c.args.depth c.args.sort c.in_ok-node.node c.requires.graph c.in_ok-node.ensures.ok
+pub returns-clause-opens : goal.returns-clause-opens
+returns-clause-opens c = opens_begun c.args.g.now c.theta.new.self c.args.depth c.args.sort c.in_ok-node.node c.requires.graph c.in_ok-node.ensures.ok

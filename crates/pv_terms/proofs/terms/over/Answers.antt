@@ -12,4 +12,4 @@ pub returns-in-Ok-clause-sort : goal.returns-in-Ok-clause-sort
 returns-in-Ok-clause-sort c = sort_added c.args.g.now c.add.new.self c.args.op c.args.kids.now c.in-Ok.n c.requires.graph c.requires.other c.in-Ok.ensures.ok
 
 pub returns-in-Ok-clause-grows : goal.returns-in-Ok-clause-grows
-returns-in-Ok-clause-grows c = grows_added c.args.g.now c.add.new.self c.args.op c.args.kids.now c.in-Ok.n c.requires.graph c.in-Ok.ensures.ok
+returns-in-Ok-clause-grows c = grows_added c.args.g.now c.add.new.self c.args.op c.args.kids.now c.in-Ok.n c.requires.graph c.requires.other c.in-Ok.ensures.ok

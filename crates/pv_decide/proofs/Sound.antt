@@ -22,7 +22,7 @@ use Rattle.pv_decide.specs.declared.landing.Verdict.TheVariants as verdict
 use Rattle.pv_decide.specs.Sites.{IsInRange, IsAround, GoesTo, place_of, AreOrdered}
 use Rattle.pv_decide.specs.Landings.{IsLanding, verdict_end, verdict_of}
 use Rattle.pv_decide.proofs.Places.{goes_on}
-use Rattle.pv_decide.specs.Folds.{IsExitOf, IsTestOf, IsEarly, NodeFits, AreSound}
+use Rattle.pv_decide.specs.Folds.{IsExitOf, IsTestOf, IsEarly, AimsAt, IsAimedAt, NodeFits, AreSound}
 use Rattle.pv_decide.specs.Placing.{Grows, Pushed, HasNothing, HasDead, TestMade, PlaceFits, ArePlaces, FitsAt}
 
 push_cases : (xs : List TreeNode) (x y : TreeNode) (n : ℕ) → slice_get (xs ++ x ∷ []) n ≡ Some y → (slice_get xs n ≡ Some y) ⊎ ((n ≡ length xs) × (x ≡ y))
@@ -80,17 +80,59 @@ module _ (sites : List Site) (r : Scope) (t : Target) where
       go dest.Throw l.Again goes il e = absurd il
       go dest.Throw l.Returns goes il e = absurd il
 
-  -- a pushed leaf
-  pub leaf_fits : (a c : List TreeNode) (b e n : ℕ) (d : code.Exit) (lan : Landing) (ans : Verdict) → b < length sites → GoesAs b d → ans ≡ verdict_of r t lan → ans ≡ verdict.Leaf → IsLanding sites r b d lan → IsExitOf sites r b e → AreSound sites r t a
-      → Pushed a c (node.Leaf b e) n → FitsAt sites r t c b n
-  leaf_fits a c b e n d lan ans low goes says is il ex s p =
-      let early = leaf_early lan b d low goes il (sym is ∙ says) in
-      (sound_push a c (node.Leaf b e) n s (ex, early) p, (last_low a c (node.Leaf b e) n p, λ k order q less ordered o. absurd (let z = early k order q less ordered in omega arith)))
+  -- .. and of the exit
+  leaf_aimed : (lan : Landing) (b : ℕ) (d : code.Exit) → IsLanding sites r b d lan → verdict.Leaf ≡ verdict_of r t lan → AimsAt t d
+  leaf_aimed lan b d il e = go t d lan il e
+    where
+      go : (t : Target) (d : code.Exit) (lan : Landing) → IsLanding sites r b d lan → verdict.Leaf ≡ verdict_of r t lan → AimsAt t d
+      go target.Back d lan il e = tt
+      go target.Leave d lan il e = tt
+      go (target.Node n) (dest.To m) (l.On k) il e = ⊎_elim
+          (λ z. ap dest.To (sym il.0 ∙ z.1))
+          (λ z. absurd (let y : verdict.Leaf ≡ verdict.Goes k = e ∙ ap (λ (t : Bool). if t then verdict.Leaf else verdict.Goes k) z.0 in cc))
+          (eqb_tells k n)
+      go (target.Node n) d l.Gone il e = absurd (cc)
+      go (target.Node n) d l.Header il e = absurd (cc)
+      go (target.Node n) d l.Again il e = absurd (cc)
+      go (target.Node n) d l.Returns il e = absurd (cc)
+      go (target.Node n) d l.Throws il e = absurd (cc)
+      go (target.Node n) dest.Return (l.On k) il e = absurd il
+      go (target.Node n) dest.Throw (l.On k) il e = absurd il
+      go target.Exit d (l.On k) il e = absurd (cc)
+      go target.Exit d l.Gone il e = absurd (cc)
+      go target.Exit d l.Header il e = absurd (cc)
+      go target.Exit d l.Again il e = absurd (cc)
+      go target.Exit (dest.To m) l.Returns il e = absurd il
+      go target.Exit (dest.To m) l.Throws il e = absurd il
+      go target.Exit dest.Return lan il e = inl refl
+      go target.Exit dest.Throw lan il e = inr refl
+      go target.Return d (l.On k) il e = absurd (cc)
+      go target.Return d l.Gone il e = absurd (cc)
+      go target.Return d l.Header il e = absurd (cc)
+      go target.Return d l.Again il e = absurd (cc)
+      go target.Return d l.Throws il e = absurd (cc)
+      go target.Return (dest.To m) l.Returns il e = absurd il
+      go target.Return dest.Return l.Returns il e = refl
+      go target.Return dest.Throw l.Returns il e = absurd il
 
-  pub leaf_fits_ok : (a c : List TreeNode) (b e : ℕ) (d : code.Exit) (lan : Landing) (ans : Verdict) (res : Result ℕ Memory) → b < length sites → GoesAs b d → ans ≡ verdict_of r t lan → ans ≡ verdict.Leaf → IsLanding sites r b d lan → IsExitOf sites r b e
-      → AreSound sites r t a → IfOk res (λ n. Pushed a c (node.Leaf b e) n) → IfOk res (λ n. FitsAt sites r t c b n)
-  leaf_fits_ok a c b e d lan ans (Ok n) low goes says is il ex s p = leaf_fits a c b e n d lan ans low goes says is il ex s p
-  leaf_fits_ok a c b e d lan ans (Err k) low goes says is il ex s p = p
+  aimed_at : (b e : ℕ) (k : Site) (d : code.Exit) → slice_get sites b ≡ Some k → slice_get k.exits.items e ≡ Some d → AimsAt t d → IsAimedAt sites t b e
+  aimed_at b e k d here at a j c there exit =
+      let same : j ≡ k = (let z : Some j ≡ Some k = sym there ∙ here in cc) in
+      let one : d ≡ c = (let z : Some d ≡ Some c = sym at ∙ ap (λ (j : Site). slice_get j.exits.items e) (sym same) ∙ exit in cc) in
+      subst (AimsAt t) one a
+
+  -- a pushed leaf
+  pub leaf_fits : (a c : List TreeNode) (b e n : ℕ) (k : Site) (d : code.Exit) (lan : Landing) (ans : Verdict) → slice_get sites b ≡ Some k → slice_get k.exits.items e ≡ Some d → GoesAs b d → ans ≡ verdict_of r t lan → ans ≡ verdict.Leaf → IsLanding sites r b d lan
+      → IsExitOf sites r b e → AreSound sites r t a → Pushed a c (node.Leaf b e) n → FitsAt sites r t c b n
+  leaf_fits a c b e n j d lan ans here at goes says is il ex s p =
+      let early = leaf_early lan b d (slice_get_within sites b j here) goes il (sym is ∙ says) in
+      let aimed = aimed_at b e j d here at (leaf_aimed lan b d il (sym is ∙ says)) in
+      (sound_push a c (node.Leaf b e) n s (ex, early, aimed) p, (last_low a c (node.Leaf b e) n p, λ k order q less ordered o. absurd (let z = early k order q less ordered in omega arith)))
+
+  pub leaf_fits_ok : (a c : List TreeNode) (b e : ℕ) (k : Site) (d : code.Exit) (lan : Landing) (ans : Verdict) (res : Result ℕ Memory) → slice_get sites b ≡ Some k → slice_get k.exits.items e ≡ Some d → GoesAs b d → ans ≡ verdict_of r t lan → ans ≡ verdict.Leaf
+      → IsLanding sites r b d lan → IsExitOf sites r b e → AreSound sites r t a → IfOk res (λ n. Pushed a c (node.Leaf b e) n) → IfOk res (λ n. FitsAt sites r t c b n)
+  leaf_fits_ok a c b e k d lan ans (Ok n) here at goes says is il ex s p = leaf_fits a c b e n k d lan ans here at goes says is il ex s p
+  leaf_fits_ok a c b e k d lan ans (Err x) here at goes says is il ex s p = p
 
   -- the place of a later block
   pub goes_fits : (a : List TreeNode) (places : List ℕ) (b m n : ℕ) → n ≡ slice_index places m → b < length sites → m < length sites → m < length places → GoesTo sites b m → (IsAround sites b m → ⊥) → AreSound sites r t a → ArePlaces sites t a places → FitsAt sites r t a b n

@@ -94,7 +94,7 @@ IsTreeOf trees r t tree = (flow : code.Flow) (forest : Forest) → AreOf flow fo
     → (v : Values) (s : ℕ) → HasTrees f v (loops_of f (scope_in forest r)) (target_of t) s
     → Gives f v (scope_in forest r) t s tree.nodes.items (length tree.nodes.items - 1) (tree_of f v (loops_of f (scope_in forest r)) (target_of t) s)
 
--- There is a root. Leaves and tests are of exits of the region's blocks, before the target where that is a block, and each node names earlier ones alone
+-- There is a root. Leaves are exits that are looked for, and leaves and tests are of the region's blocks, before the target where that is a block; each node names earlier ones alone
 pub record IsSound (trees : Trees) (r : Region) (t : Target) (tree : Tree) : Type 0 where
   pub root : 0 < length tree.nodes.items
   pub nodes : AreSound trees.sites.items (scope_of trees r) t tree.nodes.items

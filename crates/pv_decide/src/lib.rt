@@ -13,8 +13,9 @@
 //! `Dead` among it; and `IsTreeOf` of `specs/Trees` is the contract of `walk`: folded so, the tree is the tree
 //! of the equations, for each flow of equations over these blocks and loops, all values with the trees of the
 //! equations, and each slot. `IsSound` says which nodes there are: each names earlier ones alone, the last is the
-//! root, and leaves and tests are of blocks of the region, and before the target where that is a block, so that
-//! values can be found block by block. What is asked of a flow and its forest is `AreForWalks`.
+//! root, leaves are exits to the target or ends that are looked for, and leaves and tests are of blocks of the
+//! region, and before the target where that is a block, so that values can be found block by block. What is
+//! asked of a flow and its forest is `AreForWalks`.
 //!
 //! A walk goes over the blocks from the last to the first, in the order that the forest hands out, in which an
 //! edge goes to a later block, or back to the header of a loop around its own. So when it comes to a block, it

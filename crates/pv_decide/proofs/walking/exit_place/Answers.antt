@@ -12,8 +12,8 @@ returns-in-Leaf c =
     record {
       gives = follows_leaf_ok c.args.sites.now c.args.aim.scope c.args.aim.target c.args.places.now c.args.b c.args.e c.index-sites-b.result c.index-exit.result.now read.0 read.1 range c.lands.result c.lands.ensures c.answer.result c.answer.ensures
           c.args.nodes.now.items c.push.new.nodes.items c.push.result c.in-Leaf.is c.push.ensures;
-      sound = leaf_fits_ok c.args.sites.now c.args.aim.scope c.args.aim.target c.args.nodes.now.items c.push.new.nodes.items c.args.b c.args.e c.index-exit.result.now c.lands.result c.answer.result c.push.result
-          (slice_get_within c.args.sites.now c.args.b c.index-sites-b.result read.0) (goes_as c.args.sites.now c.args.b c.args.e c.index-sites-b.result c.index-exit.result.now read.0 read.1)
+      sound = leaf_fits_ok c.args.sites.now c.args.aim.scope c.args.aim.target c.args.nodes.now.items c.push.new.nodes.items c.args.b c.args.e c.index-sites-b.result c.index-exit.result.now c.lands.result c.answer.result c.push.result
+          read.0 read.1 (goes_as c.args.sites.now c.args.b c.args.e c.index-sites-b.result c.index-exit.result.now read.0 read.1)
           c.answer.ensures c.in-Leaf.is c.lands.ensures c.requires.exit c.requires.sound c.push.ensures;
     }
 

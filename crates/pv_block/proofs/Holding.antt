@@ -1,5 +1,5 @@
 -- What is held in nodes stands for what is held in parts: where a graph grows, and after actions that move values alone.
-use Rattle.std.proofs.Common.{◌≡◌, ℕ, zero, suc, Bool, true, false, List, [], ◌∷◌, length, Option, Some, None, refl, ap, subst, ◌∙◌}
+use Rattle.std.proofs.Common.{◌≡◌, ℕ, zero, suc, Bool, true, false, List, [], ◌∷◌, length, Option, Some, None, inl, refl, ap, subst, ◌∙◌}
 use Rattle.std.specs.Prelude.{if◌then◌else◌, option_map, slice_get, nat_lt}
 use Rattle.std.specs.List.{AllZip}
 use Rattle.pv_pool.specs.Readers.{◌>>=◌}
@@ -19,9 +19,9 @@ use Rattle.pv_runs.proofs.Related.{moved_both, lists_found}
 use Rattle.pv_block.specs.declared.held.Cell.{Cell}
 use Rattle.pv_block.specs.declared.held.Held.{Held}
 use Rattle.pv_block.specs.Cells.{sort_in, cell_of, local_of, empty}
-use Rattle.pv_block.specs.Standing.{Entry, StandsFor, CellStands, HoldsFor}
+use Rattle.pv_block.specs.Standing.{Entry, CellStands, HoldsFor}
 use Rattle.pv_block.specs.Acting.{push_in, loaded, shifted, rearranged, computing, IsSingle}
-use Rattle.pv_block.proofs.Standing.{stands_on}
+use Rattle.pv_block.proofs.Standing.{stands_on, cell_on}
 
 -- ---- growth
 
@@ -29,7 +29,7 @@ pub zip_on : (at : Entry) (old new : List Node) → Stand old new → (cs : List
 zip_on at old new s [] [] h = tt
 zip_on at old new s [] (d ∷ ds) h = absurd h
 zip_on at old new s (c ∷ cs) [] h = absurd h
-zip_on at old new s (c ∷ cs) (d ∷ ds) h = ((h.0.0, stands_on at old new c.node d.part s h.0.1), zip_on at old new s cs ds h.1)
+zip_on at old new s (c ∷ cs) (d ∷ ds) h = (cell_on at old new c d s h.0, zip_on at old new s cs ds h.1)
 
 pub holds_on : (at : Entry) (old new : List Node) → Stand old new → (c : Held) (h : parts.Held) → HoldsFor at old c h → HoldsFor at new c h
 holds_on at old new s c h x = record {
@@ -38,8 +38,8 @@ holds_on at old new s c h x = record {
   locals = zip_on at old new s c.locals h.locals x.locals;
   heap = stands_on at old new c.heap h.heap s x.heap;
   token = stands_on at old new c.token h.token s x.token;
-  unit = stands_on at old new (Some c.unit) unit_part s x.unit;
-  clear = stands_on at old new (Some c.clear) clear_part s x.clear;
+  unit = stands_on at old new c.unit unit_part s x.unit;
+  clear = stands_on at old new c.clear clear_part s x.clear;
   start = stands_on at old new c.start (Slot 0) s x.start;
 }
 
@@ -68,9 +68,9 @@ module _ (at : Entry) (nodes : List Node) where
   long_as (c ∷ cs) [] h = absurd h
   long_as (c ∷ cs) (d ∷ ds) h = ap suc (long_as cs ds h.1)
 
-  module _ (u : ℕ) (unit : StandsFor at nodes (Some u) unit_part) where
+  module _ (u : ℕ) where
     unset_both : R (empty u) unset
-    unset_both = (refl, unit)
+    unset_both = (refl, inl refl)
 
     lost : (c : Cell) (d : parts.Cell) → R c d → R (if is_wide c.sort then empty u else c) (if is_wide d.sort then unset else d)
     lost c d r = subst (λ (z : Sort). R (if is_wide c.sort then empty u else c) (if is_wide z then unset else d)) r.0 (elim (is_wide c.sort) as (λ b. R (if b then empty u else c) (if b then unset else d)) [ true ↦ unset_both | false ↦ r ])
@@ -118,7 +118,7 @@ module _ (at : Entry) (nodes : List Node) where
       let room : has_room cell.sort k c.locals ≡ true = ap (λ (z : Sort). has_room z k c.locals) r.0 ∙ ap (nat_lt (last_local d.sort k)) (long_as c.locals h.locals x.locals) ∙ found.0 in (
         done,
         ap (λ (b : Bool). if b then Some done else None) room,
-        subst (HoldsFor at nodes done) found.1 (record { stand = x.stand; stack = x.stack; locals = set_both c.unit x.unit k cell d c.locals h.locals r x.locals; heap = x.heap; token = x.token; unit = x.unit; clear = x.clear; start = x.start }),
+        subst (HoldsFor at nodes done) found.1 (record { stand = x.stand; stack = x.stack; locals = set_both c.unit k cell d c.locals h.locals r x.locals; heap = x.heap; token = x.token; unit = x.unit; clear = x.clear; start = x.start }),
       )
 
   store_holds : (s : Sort) (k : ℕ) (c : Held) (h g : parts.Held) (cells : List Cell) (ds : List parts.Cell) → HoldsFor at nodes c h → AllZip R cells ds → acted_on (act.Store s k) h ds ≡ Some g → Becomes (rearranged (act.Store s k) c cells) g

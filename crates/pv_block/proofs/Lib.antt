@@ -4,3 +4,14 @@ mod Holding
 mod Single
 mod Rearranged
 mod Increases
+mod Called
+mod Popped
+mod Reaching
+mod Nodes
+mod Asked
+mod Exits
+mod Ways
+mod Actions
+mod Operands
+mod Faults
+mod Whole

@@ -20,14 +20,14 @@ use Rattle.pv_block.specs.Acting.{push_in, loaded, shifted, rearranged}
 
 module _ (g : Graph) where
   -- one cell, which has its sort
-  abbrev Same : Cell → Cell → Type 0
+  abbrev pub Same : Cell → Cell → Type 0
   Same x y = (x ≡ y) × IsSortedCell g x
 
-  to_zip : (cells : List Cell) → AreSorted g cells → AllZip Same cells cells
+  pub to_zip : (cells : List Cell) → AreSorted g cells → AllZip Same cells cells
   to_zip [] h = tt
   to_zip (c ∷ cells) h = ((refl, h.0), to_zip cells h.1)
 
-  of_zip : (xs ys : List Cell) → AllZip Same xs ys → AreSorted g xs
+  pub of_zip : (xs ys : List Cell) → AllZip Same xs ys → AreSorted g xs
   of_zip [] [] h = tt
   of_zip [] (y ∷ ys) h = absurd h
   of_zip (x ∷ xs) [] h = absurd h

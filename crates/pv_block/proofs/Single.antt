@@ -1,7 +1,7 @@
 -- Actions that are one operation: what is held after them, and the sorts of that.
-use Rattle.std.proofs.Common.{◌≡◌, ℕ, Bool, true, false, List, [], ◌∷◌, Option, Some, None, refl, ap, sym, subst, ◌∙◌}
+use Rattle.std.proofs.Common.{◌≡◌, ◌≢◌, ℕ, Bool, true, false, List, [], ◌∷◌, Option, Some, None, inr, refl, ap, sym, subst, ◌∙◌}
 use Rattle.std.specs.Prelude.{map, ◌&&◌, if◌then◌else◌}
-use Rattle.std.specs.List.{AllZip}
+use Rattle.std.specs.List.{AllZip, AllByRecursion}
 use Rattle.pv_value.specs.declared.number.Num.TheVariants as num
 use Rattle.pv_value.specs.declared.descriptor.JType.{JType}
 use Rattle.pv_value.specs.declared.descriptor.JType.TheVariants as jtype
@@ -11,30 +11,91 @@ use Rattle.pv_value.specs.declared.name.Sym.{Sym}
 use Rattle.pv_value.specs.Spelled.{bind, field_type}
 use Rattle.pv_value.specs.Operations as operation
 use Rattle.pv_frame.specs.declared.sort.Sort.{Sort}
+use Rattle.pv_frame.specs.declared.sort.Sort.TheVariants as sort
 use Rattle.pv_frame.specs.declared.action.Action.{Action}
 use Rattle.pv_frame.specs.declared.action.Action.TheVariants as act
 use Rattle.pv_frame.specs.Actions.{IsFloatless}
 use Rattle.pv_frame.specs.Effects.{sort_of_type, sort_of_word, sort_of_kind, takes}
 use Rattle.pv_frame.proofs.FrameLaws.{some_of, no_some}
+use Rattle.pv_graph.specs.declared.node.Op.{Op}
 use Rattle.pv_graph.specs.declared.node.Op.TheVariants as op
 use Rattle.pv_graph.specs.declared.node.Node.{Node}
 use Rattle.pv_graph.specs.declared.node.OpSort.{OpSort}
 use Rattle.pv_graph.specs.declared.node.OpSort.TheVariants.{I, L, A, N, F, T, H, R}
-use Rattle.pv_graph.specs.Ops.{plain, shape, same_sort, same_sorts, exactly, word_sort, type_sort, kind_sort, field_sort, sort_over}
+use Rattle.pv_graph.specs.Ops.{plain, shape, same_sort, same_sorts, exactly, word_sort, type_sort, kind_sort, field_sort, sort_over, HaveSorts, HasSort}
 use Rattle.pv_graph.specs.Graphs.{Graph, Extends}
+use Rattle.pv_graph.specs.Calls.{FitsOver}
 use Rattle.pv_equations.specs.Flow.{Part, Parts, Of, More}
-use Rattle.pv_terms.specs.Terms.{Grows}
+use Rattle.pv_terms.specs.Terms.{Grows, IsOfSort, HasItsSort, ReadsOver}
 use Rattle.pv_runs.specs.Held.{cell_sort, parts_of, push, acted_on}
 use Rattle.pv_runs.specs.Held as parts
 use Rattle.pv_block.specs.declared.held.Cell.{Cell}
 use Rattle.pv_block.specs.declared.held.Held.{Held}
 use Rattle.pv_block.specs.declared.computing.Operation.{Operation}
 use Rattle.pv_block.specs.Cells.{sort_in}
-use Rattle.pv_block.specs.Standing.{Entry, StandsFor, AllStand, CellStands, HoldsFor, is_simple}
-use Rattle.pv_block.specs.Sorted.{op_sort, MaybeOfSort, AreSorted, IsSorted, TakesTo, Takes}
-use Rattle.pv_block.specs.Acting.{IsPlain, computing, node_in, kids_of, put_in, Computes}
-use Rattle.pv_block.proofs.Standing.{grown}
+use Rattle.pv_block.specs.Standing.{Entry, StandsFor, AllStand, CellStands, HoldsFor, is_simple, StandsOver}
+use Rattle.pv_block.specs.Sorted.{op_sort, AreSorted, IsSorted}
+use Rattle.pv_block.specs.Plain.{IsPlain}
+use Rattle.pv_block.specs.Acting.{computing, node_in, kids_of, put_in, Computes}
+use Rattle.pv_block.proofs.Standing.{grown, known_stands, stands_over}
 use Rattle.pv_block.proofs.Holding.{holds_on}
+
+-- ---- sorts of values
+
+abbrev pub IsKnown : Sort → Type 0
+IsKnown s = s ≢ sort.Unknown
+
+pub int_known : IsKnown sort.Int
+int_known e = absurd (cc)
+
+long_known : IsKnown sort.Long
+long_known e = absurd (cc)
+
+ref_known : IsKnown sort.Ref
+ref_known e = absurd (cc)
+
+words_known : (ws : List operation.Word) → AllByRecursion IsKnown (map sort_of_word ws)
+words_known [] = tt
+words_known (operation.int ∷ ws) = (int_known, words_known ws)
+words_known (operation.long ∷ ws) = (long_known, words_known ws)
+
+type_known : (t : JType) → IsFloatless t → IsKnown (sort_of_type t)
+type_known jtype.Z h = int_known
+type_known jtype.B h = int_known
+type_known jtype.C h = int_known
+type_known jtype.S h = int_known
+type_known jtype.I h = int_known
+type_known jtype.J h = long_known
+type_known jtype.A h = ref_known
+type_known jtype.F h = absurd h
+type_known jtype.D h = absurd h
+
+pub types_known : (ts : List JType) → AllByRecursion IsFloatless ts → AllByRecursion IsKnown (map sort_of_type ts)
+types_known [] h = tt
+types_known (t ∷ ts) h = (type_known t h.0, types_known ts h.1)
+
+kind_known : (k : Kind) → IsKnown (sort_of_kind k)
+kind_known kind.Int = int_known
+kind_known kind.Long = long_known
+kind_known kind.Ref = ref_known
+kind_known kind.Byte = int_known
+kind_known kind.Char = int_known
+kind_known kind.Short = int_known
+
+-- the sorts that an operation takes
+computing_known : (a : Action) (c : Operation) → computing a ≡ Some c → IsPlain a → AllByRecursion IsKnown (takes a)
+computing_known (act.Push n) c e p = tt
+computing_known (act.Literal text) c e p = tt
+computing_known (act.Scalar o) c e p = words_known (operation.takes o)
+computing_known (act.Divide o) c e p = words_known (operation.takes o)
+computing_known (act.GetStatic t f) c e p = tt
+computing_known (act.PutStatic t f) c e p = (type_known t p.0.0, tt)
+computing_known (act.GetField t f) c e p = (ref_known, tt)
+computing_known (act.PutField t f) c e p = (ref_known, (type_known t p.0.0, tt))
+computing_known (act.LoadElement k) c e p = (ref_known, (int_known, tt))
+computing_known (act.StoreElement k) c e p = (ref_known, (int_known, (kind_known k, tt)))
+computing_known act.Length c e p = (ref_known, tt)
+computing_known a c e p = no_some c e
 
 -- ---- what an operation is in parts
 
@@ -81,27 +142,37 @@ zip_sorts at nodes [] (d ∷ ds) h = absurd h
 zip_sorts at nodes (c ∷ cells) [] h = absurd h
 zip_sorts at nodes (c ∷ cells) (d ∷ ds) h = ap (λ (s : Sort). s ∷ map cell_sort ds) (sym h.0.0) ∙ ap (λ (l : List Sort). c.sort ∷ l) (zip_sorts at nodes cells ds h.1)
 
-all_stand : (at : Entry) (nodes : List Node) (cells : List Cell) (ds : List parts.Cell) → AllZip (CellStands at nodes) cells ds → AllStand at nodes (map node_in cells) (parts_of ds)
-all_stand at nodes [] [] h = tt
-all_stand at nodes [] (d ∷ ds) h = absurd h
-all_stand at nodes (c ∷ cells) [] h = absurd h
-all_stand at nodes (c ∷ cells) (d ∷ ds) h = (h.0.1, all_stand at nodes cells ds h.1)
+all_stand : (at : Entry) (nodes : List Node) (cells : List Cell) (ds : List parts.Cell) → AllByRecursion IsKnown (map sort_in cells) → AllZip (CellStands at nodes) cells ds → AllStand at nodes (map node_in cells) (parts_of ds)
+all_stand at nodes [] [] k h = tt
+all_stand at nodes [] (d ∷ ds) k h = absurd h
+all_stand at nodes (c ∷ cells) [] k h = absurd h
+all_stand at nodes (c ∷ cells) (d ∷ ds) k h = (known_stands at nodes c d k.0 h.0, all_stand at nodes cells ds k.1 h.1)
 
-kids_stand : (at : Entry) (nodes : List Node) (b : Bool) (n : Option ℕ) (p : Part) (cells : List Cell) (ds : List parts.Cell) → StandsFor at nodes n p → AllZip (CellStands at nodes) cells ds → AllStand at nodes (kids_of b n cells) (parts_with b p ds)
-kids_stand at nodes true n p cells ds s h = (s, all_stand at nodes cells ds h)
-kids_stand at nodes false n p cells ds s h = all_stand at nodes cells ds h
+pub kids_stand : (at : Entry) (nodes : List Node) (b : Bool) (n : ℕ) (p : Part) (cells : List Cell) (ds : List parts.Cell) → AllByRecursion IsKnown (map sort_in cells) → StandsFor at nodes n p → AllZip (CellStands at nodes) cells ds
+    → AllStand at nodes (kids_of b n cells) (parts_with b p ds)
+kids_stand at nodes true n p cells ds k s h = (s, all_stand at nodes cells ds k h)
+kids_stand at nodes false n p cells ds k s h = all_stand at nodes cells ds k h
 
-put_holds : (at : Entry) (nodes : List Node) (o : Option Sort) (c : Held) (h : parts.Held) (n : Option ℕ) (p : Part) → HoldsFor at nodes c h → StandsFor at nodes n p → HoldsFor at nodes (put_in o c n) (parts_put o h p)
-put_holds at nodes (Some s) c h n p x st = record { stand = x.stand; stack = ((refl, st), x.stack); locals = x.locals; heap = x.heap; token = x.token; unit = x.unit; clear = x.clear; start = x.start }
+pub put_holds : (at : Entry) (nodes : List Node) (o : Option Sort) (c : Held) (h : parts.Held) (n : ℕ) (p : Part) → HoldsFor at nodes c h → StandsFor at nodes n p → HoldsFor at nodes (put_in o c n) (parts_put o h p)
+put_holds at nodes (Some s) c h n p x st = record { stand = x.stand; stack = ((refl, inr st), x.stack); locals = x.locals; heap = x.heap; token = x.token; unit = x.unit; clear = x.clear; start = x.start }
 put_holds at nodes None c h n p x st = record { stand = x.stand; stack = x.stack; locals = x.locals; heap = st; token = x.token; unit = x.unit; clear = x.clear; start = x.start }
 
-pub computes_holds : (at : Entry) (old new : Graph) (a : Action) (o : Operation) (c after : Held) (h g : parts.Held) (cells : List Cell) (ds : List parts.Cell) → Grows old new → map sort_in cells ≡ takes a → computing a ≡ Some o → Computes old c o.op (kids_of o.with_heap c.heap cells) o.pushes new after
+pub computes_holds : (at : Entry) (old new : Graph) (a : Action) (o : Operation) (c after : Held) (h g : parts.Held) (cells : List Cell) (ds : List parts.Cell) → Grows old new → IsPlain a → map sort_in cells ≡ takes a → computing a ≡ Some o → Computes old c o.op (kids_of o.with_heap c.heap cells) o.pushes new after
     → HoldsFor at old.nodes c h → AllZip (CellStands at old.nodes) cells ds → acted_on a h ds ≡ Some g → HoldsFor at new.nodes after g
-computes_holds at old new a o c after h g cells ds grows t e x hold z i =
+computes_holds at old new a o c after h g cells ds grows p t e x hold z i =
     let made = computing_makes a o h ds g (zip_sorts at old.nodes cells ds z ∙ t) e i in
-    let stands = x.stands at (parts_with o.with_heap h.heap ds) made.plain_ (kids_stand at old.nodes o.with_heap c.heap h.heap cells ds hold.heap z) in
+    let stands = x.stands at (parts_with o.with_heap h.heap ds) made.plain_ (kids_stand at old.nodes o.with_heap c.heap h.heap cells ds (subst (AllByRecursion IsKnown) (sym t) (computing_known a o e p)) hold.heap z) in
     let done = put_holds at new.nodes o.pushes c h x.node (Of o.op made.plain_ (parts_with o.with_heap h.heap ds)) (holds_on at old.nodes new.nodes (grown old new grows) c h hold) stands in
     subst (λ (c : Held). HoldsFor at new.nodes c g) (sym x.is) (subst (HoldsFor at new.nodes (put_in o.pushes c x.node)) (sym made.is) done)
+
+-- what is held after an operation that was added
+pub computes_put : (old new : Graph) (c after : Held) (o : Op) (kids ks : List ℕ) (pushes : Option Sort) (n : ℕ) → is_simple o ≡ true → ks ≡ kids → ReadsOver old o ks new n → HasItsSort old o ks new n → after ≡ put_in pushes c n → Computes old c o kids pushes new after
+computes_put old new c after o kids ks pushes n e is r s done = record {
+  node = n;
+  is = done;
+  stands = subst (λ (l : List ℕ). StandsOver old.nodes o l new.nodes n) is (stands_over old new o ks n e r);
+  sort = subst (λ (l : List ℕ). HasItsSort old o l new n) is s;
+}
 
 -- ---- sorts
 
@@ -160,7 +231,7 @@ abbrev with_heap : Bool → List OpSort → List OpSort
 with_heap true ss = H ∷ ss
 with_heap false ss = ss
 
-abbrev given_sort : Option Sort → OpSort
+abbrev pub given_sort : Option Sort → OpSort
 given_sort (Some s) = op_sort s
 given_sort None = H
 
@@ -197,47 +268,43 @@ computing_fits a c e p = no_some c e
 pub computing_simple : (a : Action) (c : Operation) → computing a ≡ Some c → IsPlain a → is_simple c.op ≡ true
 computing_simple a c e p = (computing_fits a c e p).simple
 
-sorted_nodes : (g : Graph) (cells : List Cell) → AreSorted g cells → AllZip (MaybeOfSort g) (map node_in cells) (map op_sort (map sort_in cells))
+sorted_nodes : (g : Graph) (cells : List Cell) → AreSorted g cells → HaveSorts g.sorts (map node_in cells) (map op_sort (map sort_in cells))
 sorted_nodes g [] h = tt
 sorted_nodes g (c ∷ cells) h = (h.0, sorted_nodes g cells h.1)
 
-sorted_kids : (g : Graph) (b : Bool) (n : Option ℕ) (cells : List Cell) (sorts : List Sort) → MaybeOfSort g n H → AreSorted g cells → map sort_in cells ≡ sorts → AllZip (MaybeOfSort g) (kids_of b n cells) (with_heap b (map op_sort sorts))
-sorted_kids g true n cells sorts h s e = (h, subst (λ (l : List Sort). AllZip (MaybeOfSort g) (map node_in cells) (map op_sort l)) e (sorted_nodes g cells s))
-sorted_kids g false n cells sorts h s e = subst (λ (l : List Sort). AllZip (MaybeOfSort g) (map node_in cells) (map op_sort l)) e (sorted_nodes g cells s)
+pub sorted_kids : (g : Graph) (b : Bool) (n : ℕ) (cells : List Cell) (sorts : List Sort) → IsOfSort g n H → AreSorted g cells → map sort_in cells ≡ sorts → HaveSorts g.sorts (kids_of b n cells) (with_heap b (map op_sort sorts))
+sorted_kids g true n cells sorts h s e = (h, subst (λ (l : List Sort). HaveSorts g.sorts (map node_in cells) (map op_sort l)) e (sorted_nodes g cells s))
+sorted_kids g false n cells sorts h s e = subst (λ (l : List Sort). HaveSorts g.sorts (map node_in cells) (map op_sort l)) e (sorted_nodes g cells s)
 
-takes_to : (g : Graph) (a : Action) (o : Operation) (c : Held) (cells : List Cell) → computing a ≡ Some o → IsPlain a → IsSorted g c → AreSorted g cells → map sort_in cells ≡ takes a → TakesTo g o.op (kids_of o.with_heap c.heap cells) (given_sort o.pushes)
-takes_to g a o c cells e p s t m = record { sorts = with_heap o.with_heap (map op_sort (takes a)); have = sorted_kids g o.with_heap c.heap cells (takes a) s.heap t m; over = (computing_fits a o e p).over }
+operands_have : (g : Graph) (a : Action) (o : Operation) (c : Held) (cells : List Cell) → computing a ≡ Some o → IsPlain a → IsSorted g c → AreSorted g cells → map sort_in cells ≡ takes a → HasSort g.sorts o.op (kids_of o.with_heap c.heap cells) (given_sort o.pushes)
+operands_have g a o c cells e p s t m = record { sorts = with_heap o.with_heap (map op_sort (takes a)); kids_have = sorted_kids g o.with_heap c.heap cells (takes a) s.heap t m; over = (computing_fits a o e p).over }
 
-pub computing_takes : (g : Graph) (a : Action) (o : Operation) (c : Held) (cells : List Cell) → computing a ≡ Some o → IsPlain a → IsSorted g c → AreSorted g cells → map sort_in cells ≡ takes a → Takes g o.op (kids_of o.with_heap c.heap cells)
-computing_takes g a o c cells e p s t m = (given_sort o.pushes, takes_to g a o c cells e p s t m)
+pub computing_fits_over : (g : Graph) (a : Action) (o : Operation) (c : Held) (cells : List Cell) → computing a ≡ Some o → IsPlain a → IsSorted g c → AreSorted g cells → map sort_in cells ≡ takes a → FitsOver g o.op (kids_of o.with_heap c.heap cells)
+computing_fits_over g a o c cells e p s t m = (given_sort o.pushes, operands_have g a o c cells e p s t m)
 
 -- ---- where a graph grows
 
-pub maybe_on : (old new : Graph) (n : Option ℕ) (s : OpSort) → Extends old new → MaybeOfSort old n s → MaybeOfSort new n s
-maybe_on old new None s x h = tt
-maybe_on old new (Some n) s x h = x.sorts n s h
-
 all_on : (old new : Graph) (cells : List Cell) → Extends old new → AreSorted old cells → AreSorted new cells
 all_on old new [] x h = tt
-all_on old new (c ∷ cells) x h = (maybe_on old new c.node (op_sort c.sort) x h.0, all_on old new cells x h.1)
+all_on old new (c ∷ cells) x h = (x.sorts c.node (op_sort c.sort) h.0, all_on old new cells x h.1)
 
 pub sorted_on : (old new : Graph) (c : Held) → Grows old new → IsSorted old c → IsSorted new c
 sorted_on old new c g s = record {
   graph = g.graph;
   stack = all_on old new c.stack g.extends s.stack;
   locals = all_on old new c.locals g.extends s.locals;
-  heap = maybe_on old new c.heap H g.extends s.heap;
-  token = maybe_on old new c.token T g.extends s.token;
+  heap = g.extends.sorts c.heap H s.heap;
+  token = g.extends.sorts c.token T s.token;
   unit = g.extends.sorts c.unit T s.unit;
   clear = g.extends.sorts c.clear F s.clear;
-  start = maybe_on old new c.start T g.extends s.start;
+  start = g.extends.sorts c.start T s.start;
 }
 
-put_sorted : (g : Graph) (o : Option Sort) (c : Held) (n : Option ℕ) → IsSorted g c → MaybeOfSort g n (given_sort o) → IsSorted g (put_in o c n)
+pub put_sorted : (g : Graph) (o : Option Sort) (c : Held) (n : ℕ) → IsSorted g c → IsOfSort g n (given_sort o) → IsSorted g (put_in o c n)
 put_sorted g (Some s) c n x m = record { graph = x.graph; stack = (m, x.stack); locals = x.locals; heap = x.heap; token = x.token; unit = x.unit; clear = x.clear; start = x.start }
 put_sorted g None c n x m = record { graph = x.graph; stack = x.stack; locals = x.locals; heap = m; token = x.token; unit = x.unit; clear = x.clear; start = x.start }
 
 pub computes_sorted : (old new : Graph) (a : Action) (o : Operation) (c after : Held) (cells : List Cell) → Grows old new → computing a ≡ Some o → IsPlain a → IsSorted old c → AreSorted old cells → map sort_in cells ≡ takes a
     → Computes old c o.op (kids_of o.with_heap c.heap cells) o.pushes new after → IsSorted new after
 computes_sorted old new a o c after cells grows e p s t m x =
-    subst (IsSorted new) (sym x.is) (put_sorted new o.pushes c x.node (sorted_on old new c grows s) (x.sort (given_sort o.pushes) (takes_to old a o c cells e p s t m)))
+    subst (IsSorted new) (sym x.is) (put_sorted new o.pushes c x.node (sorted_on old new c grows s) (x.sort (given_sort o.pushes) (operands_have old a o c cells e p s t m)))

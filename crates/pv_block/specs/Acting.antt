@@ -1,5 +1,6 @@
 -- What an action of a block does to what is held in nodes.
 use Rattle.std.specs.Prelude.{◌≡◌, refl, ℕ, ℤ, Bool, true, false, List, [], ◌∷◌, map, Option, Some, None, option_map, if◌then◌else◌}
+use Rattle.pv_value.specs.declared.name.Sym.{Sym}
 use Rattle.pv_value.specs.declared.number.Num.{Num}
 use Rattle.pv_value.specs.declared.number.Num.TheVariants as num
 use Rattle.pv_value.specs.declared.operation.ScalarOp.TheVariants.{Iadd}
@@ -10,40 +11,26 @@ use Rattle.pv_frame.specs.declared.action.Action.{Action}
 use Rattle.pv_frame.specs.declared.action.Action.TheVariants as act
 use Rattle.pv_frame.specs.declared.action.Move.{Move}
 use Rattle.pv_frame.specs.declared.program.Program.{Program}
-use Rattle.pv_frame.specs.Programs.{IsAt}
-use Rattle.pv_frame.specs.Actions.{IsFloatlessMethod}
 use Rattle.pv_frame.specs.Stacks.{popped, moved, has_room, set_local}
 use Rattle.pv_frame.specs.Effects.{sort_of, sort_of_type, sort_of_word, sort_of_kind, takes}
 use Rattle.pv_graph.specs.declared.node.Op.{Op}
 use Rattle.pv_graph.specs.declared.node.Op.TheVariants as op
 use Rattle.pv_graph.specs.declared.node.Node.{Node}
+use Rattle.pv_graph.specs.declared.node.OpSort.TheVariants.{T, H}
 use Rattle.pv_graph.specs.Graphs.{Graph}
-use Rattle.pv_equations.specs.Flow.{Part, Of}
-use Rattle.pv_runs.specs.Held.{acted_on, int_part}
+use Rattle.pv_equations.specs.Flow.{Part, Parts, Slot, Of, call_token}
+use Rattle.pv_terms.specs.Reads.{Stand}
+use Rattle.pv_terms.specs.Terms.{IsOfSort, HasItsSort}
+use Rattle.pv_runs.specs.Held.{acted_on, acted, int_part}
 use Rattle.pv_runs.specs.Chains.{two_parts}
 use Rattle.pv_runs.specs.Held as parts
-use Rattle.pv_runs.specs.Matches.{IsClean}
+use Rattle.pv_runs.specs.Blocks.{acted_along}
 use Rattle.std.specs.List.{AllZip}
 use Rattle.pv_block.specs.declared.held.Cell.{Cell}
 use Rattle.pv_block.specs.declared.held.Held.{Held}
 use Rattle.pv_block.specs.declared.computing.Operation.{Operation}
 use Rattle.pv_block.specs.Cells.{sort_in, local_of, empty}
-use Rattle.pv_block.specs.Standing.{Entry, StandsFor, CellStands, HoldsFor, StandsOver}
-use Rattle.pv_block.specs.Sorted.{HasItsSort}
-
--- ---- what is asked of actions
-
--- a call has neither floats nor doubles
-abbrev pub IsFloatlessCall : Action → Type 0
-IsFloatlessCall (act.Call d f) = IsFloatlessMethod d
-IsFloatlessCall a = Unit {0}
-
--- an action of a program, as its descriptors say
-abbrev pub IsPlain : Action → Type 0
-IsPlain a = IsClean a × IsFloatlessCall a
-
-abbrev pub ArePlain : Program → Type 0
-ArePlain p = (k : ℕ) (a : Action) → IsAt p k a → IsPlain a
+use Rattle.pv_block.specs.Standing.{Entry, StandsFor, AllStand, CellStands, HoldsFor, StandsOver}
 
 -- ---- without an operation
 
@@ -101,22 +88,22 @@ computing (act.StoreElement k) = Some (writing (op.Store k))
 computing act.Length = Some (pushing op.Length false sort.Int)
 computing a = None
 
-abbrev pub node_in : Cell → Option ℕ
+abbrev pub node_in : Cell → ℕ
 node_in c = c.node
 
 -- the nodes of the operands, with that of the heap before them
-abbrev pub kids_of : Bool → Option ℕ → List Cell → List (Option ℕ)
+abbrev pub kids_of : Bool → ℕ → List Cell → List ℕ
 kids_of true heap cells = heap ∷ map node_in cells
 kids_of false heap cells = map node_in cells
 
 -- a value of a sort is pushed, or there is another heap
-abbrev pub put_in : Option Sort → Held → Option ℕ → Held
+abbrev pub put_in : Option Sort → Held → ℕ → Held
 put_in (Some s) c n = push_in (record { sort = s; node = n }) c
 put_in None c n = record c { heap = n }
 
 -- what is held after an operation, whose node is new
-pub record Computes (old : Graph) (c : Held) (op : Op) (kids : List (Option ℕ)) (pushes : Option Sort) (new : Graph) (after : Held) : Type 0 where
-  pub node : Option ℕ
+pub record Computes (old : Graph) (c : Held) (op : Op) (kids : List ℕ) (pushes : Option Sort) (new : Graph) (after : Held) : Type 0 where
+  pub node : ℕ
   pub is : after ≡ put_in pushes c node
   pub stands : StandsOver old.nodes op kids new.nodes node
   pub sort : HasItsSort old op kids new node
@@ -131,12 +118,28 @@ ActsOn a old before cells new after = (at : Entry) (h g : parts.Held) (operands 
 -- ---- an increase
 
 -- whatever int a node stands for, the other stands for that and a constant
-abbrev pub StandsForSum : List Node → Option ℕ → ℤ → List Node → Option ℕ → Type 0
+abbrev pub StandsForSum : List Node → ℕ → ℤ → List Node → ℕ → Type 0
 StandsForSum old value by new n = (at : Entry) (p : Part) → StandsFor at old value p → StandsFor at new n (Of (op.Scalar Iadd) refl (two_parts p (int_part by)))
 
 -- whatever is held in parts, what is held in nodes after the increase of a local stands for what is held in parts after it
 abbrev pub Increases : ℕ → ℤ → List Node → Held → List Node → Option Held → Type 0
 Increases k by old before new after = (operands : List Cell) → ActsOn (act.Increase k by) old before operands new after
+
+-- ---- a call
+
+-- whatever the nodes stand for where the block begins and in a call of f, the other stands for the token after the call
+abbrev pub StandsForToken : List Node → ℕ → Sym → List ℕ → List Node → ℕ → Type 0
+StandsForToken old start f kids new n = (at : Entry) (ps : Parts) → Stand at.nodes old → StandsFor at old start (Slot 0) → AllStand at old kids ps → StandsFor at new n (call_token f ps)
+
+-- what is held after a call that ends: its heap and its token are new
+pub record EndsCall (old : Graph) (c : Held) (f : Sym) (kids : List ℕ) (new : Graph) (after : Held) : Type 0 where
+  pub heap : ℕ
+  pub token : ℕ
+  pub is : after ≡ record c { heap = heap; token = token }
+  pub heap_stands : StandsOver old.nodes (op.CallHeap f) kids new.nodes heap
+  pub heap_sort : IsOfSort new heap H
+  pub token_stands : StandsForToken old.nodes c.start f kids new.nodes token
+  pub token_sort : IsOfSort new token T
 
 -- ---- several operations
 
@@ -145,3 +148,13 @@ abbrev pub IsSingle : Action → Type 0
 IsSingle (act.Increase k by) = ⊥
 IsSingle (act.Call d f) = ⊥
 IsSingle a = Unit {0}
+
+-- ---- one action after the other
+
+-- whatever is held in parts, what is held in nodes after an action, which pops its operands, stands for what is held in parts after it
+abbrev pub Acts : Action → List Node → Held → List Node → Option Held → Type 0
+Acts a old before new after = (at : Entry) (h g : parts.Held) → HoldsFor at old before h → acted a h ≡ Some g → (c : Held) × (after ≡ Some c) × HoldsFor at new c g
+
+-- .. and so after the n actions from place k on
+abbrev pub ActsAlong : Program → ℕ → ℕ → List Node → Held → List Node → Option Held → Type 0
+ActsAlong p n k old before new after = (at : Entry) (h g : parts.Held) → HoldsFor at old before h → acted_along p n k h ≡ Some g → (c : Held) × (after ≡ Some c) × HoldsFor at new c g

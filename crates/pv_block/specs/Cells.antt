@@ -11,9 +11,9 @@ use Rattle.pv_block.specs.declared.stack.Part.TheVariants as part
 abbrev pub sort_in : Cell → Sort
 sort_in c = c.sort
 
--- a cell that holds no value, with a node for it
+-- a cell that holds no value, with unit for its node
 abbrev pub empty : ℕ → Cell
-empty unit = record { sort = sort.Unknown; node = Some unit }
+empty unit = record { sort = sort.Unknown; node = unit }
 
 -- the cell, where it has this sort
 abbrev pub cell_of : Sort → Cell → Option Cell

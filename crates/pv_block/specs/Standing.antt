@@ -1,6 +1,7 @@
 -- What nodes stand for in a block: the parts of the slots where the block begins.
-use Rattle.std.specs.Prelude.{◌≡◌, ℕ, Bool, true, false, List, [], ◌∷◌, Option, Some, None, IsSome, ⊤}
+use Rattle.std.specs.Prelude.{◌≡◌, ◌⊎◌, ℕ, Bool, true, false, List, [], ◌∷◌, Option, Some, ⊤}
 use Rattle.std.specs.List.{AllZip}
+use Rattle.pv_frame.specs.declared.sort.Sort.TheVariants as sort
 use Rattle.pv_graph.specs.declared.node.Op.{Op}
 use Rattle.pv_graph.specs.declared.node.Op.TheVariants as op
 use Rattle.pv_graph.specs.declared.node.Node.{Node}
@@ -16,20 +17,10 @@ use Rattle.pv_block.specs.declared.held.Held.{Held}
 
 -- ---- where a block begins
 
--- the nodes of the graph when the block is begun, and which of them is the value of a slot, where it has one
+-- the nodes of the graph when the block is begun, and which of them is the value of a slot, where that is known
 pub record Entry : Type 0 where
   pub nodes : List Node
   pub slots : ℕ → Option ℕ
-
--- each slot that the part names has a node
-abbrev mutual
-  pub IsKnown : (ℕ → Option ℕ) → Part → Type 0
-  IsKnown slots (Slot s) = IsSome (slots s)
-  IsKnown slots (Of o p ps) = AreKnown slots ps
-
-  pub AreKnown : (ℕ → Option ℕ) → Parts → Type 0
-  AreKnown slots NoPart = ⊤
-  AreKnown slots (More p ps) = IsKnown slots p × AreKnown slots ps
 
 -- the node of each slot stands for the expression of the slot
 pub record IsEntered (at : Entry) (depth : ℕ → ℕ) (names : List Named) (base : ℕ → Exp) : Type 0 where
@@ -38,19 +29,18 @@ pub record IsEntered (at : Entry) (depth : ℕ → ℕ) (names : List Named) (ba
 
 -- ---- what a block computes
 
--- whatever the nodes of the slots stand for, the node stands for the part over that; there is none only where a slot of the part has none
-abbrev pub StandsFor : Entry → List Node → Option ℕ → Part → Type 0
-StandsFor at nodes None p = IsKnown at.slots p → ⊥
-StandsFor at nodes (Some n) p = (depth : ℕ → ℕ) (names : List Named) (base : ℕ → Exp) → IsEntered at depth names base → Reads nodes names n (put base p)
+-- whatever the nodes of the slots stand for, the node stands for the part over that
+abbrev pub StandsFor : Entry → List Node → ℕ → Part → Type 0
+StandsFor at nodes n p = (depth : ℕ → ℕ) (names : List Named) (base : ℕ → Exp) → IsEntered at depth names base → Reads nodes names n (put base p)
 
-abbrev pub AllStand : Entry → List Node → List (Option ℕ) → Parts → Type 0
+abbrev pub AllStand : Entry → List Node → List ℕ → Parts → Type 0
 AllStand at nodes [] NoPart = ⊤
 AllStand at nodes (n ∷ ns) (More p ps) = StandsFor at nodes n p × AllStand at nodes ns ps
 AllStand at nodes ns ps = ⊥
 
--- a cell with a node and one with a part, of one sort
+-- a cell with a node and one with a part, of one sort; where the sort is known the node stands for the part
 abbrev pub CellStands : Entry → List Node → Cell → parts.Cell → Type 0
-CellStands at nodes c d = (c.sort ≡ d.sort) × StandsFor at nodes c.node d.part
+CellStands at nodes c d = (c.sort ≡ d.sort) × ((c.sort ≡ sort.Unknown) ⊎ StandsFor at nodes c.node d.part)
 
 -- what is held in nodes stands for what is held in parts
 pub record HoldsFor (at : Entry) (nodes : List Node) (c : Held) (h : parts.Held) : Type 0 where
@@ -59,8 +49,8 @@ pub record HoldsFor (at : Entry) (nodes : List Node) (c : Held) (h : parts.Held)
   pub locals : AllZip (CellStands at nodes) c.locals h.locals
   pub heap : StandsFor at nodes c.heap h.heap
   pub token : StandsFor at nodes c.token h.token
-  pub unit : StandsFor at nodes (Some c.unit) unit_part
-  pub clear : StandsFor at nodes (Some c.clear) clear_part
+  pub unit : StandsFor at nodes c.unit unit_part
+  pub clear : StandsFor at nodes c.clear clear_part
   pub start : StandsFor at nodes c.start (Slot 0)
 
 -- the operation is made as it is written: it is neither a theta nor `both`
@@ -70,5 +60,5 @@ is_simple op.Both = false
 is_simple o = true
 
 -- whatever the kids stand for, the node stands for the operation over that
-abbrev pub StandsOver : List Node → Op → List (Option ℕ) → List Node → Option ℕ → Type 0
+abbrev pub StandsOver : List Node → Op → List ℕ → List Node → ℕ → Type 0
 StandsOver old o kids new n = (at : Entry) (ps : Parts) (p : shape o ≡ plain) → AllStand at old kids ps → StandsFor at new n (Of o p ps)

@@ -1,25 +1,30 @@
 //! What the actions of a block do to what is held.
 
-ghost use Rattle.std.specs.Prelude.{◌≡◌, ◌∷◌, true, map, IfOk, IfSome};
+ghost use Rattle.std.specs.Prelude.{◌≡◌, true, map, IfOk, IfSome};
 ghost use Rattle.std.specs.Option.{option_map};
 ghost use Rattle.pv_frame.specs.Effects.{takes};
 ghost use Rattle.pv_graph.specs.Graphs.{IsGraph};
+ghost use Rattle.pv_graph.specs.Calls.{FitsOver};
 ghost use Rattle.pv_terms.specs.Terms.{Grows};
 ghost use Rattle.pv_block.specs.Cells.{sort_in, empty};
 ghost use Rattle.pv_block.specs.Standing.{is_simple};
-ghost use Rattle.pv_block.specs.Sorted.{Takes, IsSorted, AreSorted};
-ghost use Rattle.pv_block.specs.Acting.{popped_in, loaded, shifted, rearranged, node_in, kids_of, IsSingle, Computes, IsPlain, ActsOn};
+ghost use Rattle.pv_block.specs.Sorted.{IsSorted, AreSorted};
+ghost use Rattle.pv_block.specs.Plain.{IsPlain};
+ghost use Rattle.pv_block.specs.Acting.{popped_in, loaded, shifted, rearranged, kids_of, IsSingle, Computes, ActsOn, Acts};
 
-use crate::computed::computed;
+use crate::calling::called;
 use crate::computing::{Operation, computing};
 use crate::held::{Cell, Held};
+use crate::increasing::increased;
+use crate::kids::kids_of;
 use crate::locals::{has_room, local, set_local};
-use crate::stack::{moved, operands};
+use crate::stack::{moved, operands, pushed};
 use crate::takes::takes;
 use pv_frame::{Action, Move, Sort};
 use pv_graph::{Graph, NodeId};
+use pv_terms::over;
 use pv_value::Memory;
-use std::alloc::{AllocError, Global};
+use std::alloc::Global;
 
 /// The operands of an action, and what is held without them.
 pub(crate) fn pop(
@@ -43,22 +48,13 @@ pub(crate) fn pop(
     )))
 }
 
-// A stack with one value more.
-fn pushed(alloc: Global, cell: Cell, stack: &[Cell]) -> Result<Vec<Cell>, Memory>
-    ensures { IfOk result (λ v. v.items ≡ cell ∷ stack.now) }
-{
-    let mut after = vec![in alloc; cell]?;
-    after.extend_from_slice(stack)?;
-    Ok(after)
-}
-
 // A cell that holds no value.
 fn empty(unit: NodeId) -> Cell
     ensures { result ≡ empty unit }
 {
     Cell {
         sort: Sort::Unknown,
-        node: Some(unit),
+        node: unit,
     }
 }
 
@@ -133,31 +129,6 @@ fn rearranged(
     }
 }
 
-// The nodes of cells.
-fn nodes_of(alloc: Global, cells: &[Cell]) -> Result<Vec<Option<NodeId>>, AllocError>
-    ensures { IfOk result (λ v. v.items ≡ map node_in cells.now) }
-{
-    cells.iter().map(|cell| cell.node).collect(alloc)
-}
-
-// The nodes of operands, with that of the heap before them.
-fn kids_of(
-    alloc: Global,
-    heap: Option<NodeId>,
-    with_heap: bool,
-    operands: &[Cell],
-) -> Result<Vec<Option<NodeId>>, Memory>
-    ensures { IfOk result (λ v. v.items ≡ kids_of with_heap heap operands.now) }
-{
-    let nodes = nodes_of(alloc, operands)?;
-    if !with_heap {
-        return Ok(nodes);
-    }
-    let mut kids = vec![in alloc; heap]?;
-    kids.extend_from_slice(&nodes)?;
-    Ok(kids)
-}
-
 // What is held after an operation.
 fn compute(
     alloc: Global,
@@ -168,12 +139,12 @@ fn compute(
 ) -> Result<Held, Memory>
     requires graph { IsGraph g.old }
     requires simple { is_simple c.op ≡ true }
-    requires fits { Takes g.old c.op (kids_of c.with_heap held.heap operands.now) }
+    requires fits { FitsOver g.old c.op (kids_of c.with_heap held.heap operands.now) }
     ensures computes { IfOk result (λ after. Computes g.old held c.op (kids_of c.with_heap held.heap operands.now) c.pushes g.new after) }
     ensures grows { Grows g.old g.new }
 {
     let kids = kids_of(alloc, held.heap, c.with_heap, operands)?;
-    let node = computed(alloc, g, c.op, &kids)?;
+    let node = over(alloc, g, c.op, &kids)?;
     let Some(sort) = c.pushes else {
         return Ok(Held { heap: node, ..held });
     };
@@ -205,4 +176,48 @@ fn simply(
         Some(c) => Ok(Some(compute(alloc, g, held, c, operands)?)),
         None => rearranged(alloc, held, action, operands),
     }
+}
+
+/// What is held after an action, from what is held without its operands; `None` where it doesn't find what
+/// it needs, or ends the method.
+pub(crate) fn act_on(
+    alloc: Global,
+    g: &mut Graph,
+    held: Held,
+    action: &Action,
+    operands: &[Cell],
+) -> Result<Option<Held>, Memory>
+    requires plain { IsPlain action.now }
+    requires sorted { IsSorted g.old held }
+    requires operands { AreSorted g.old operands.now }
+    requires takes { map sort_in operands.now ≡ takes action.now }
+    ensures acts { IfOk result (λ o. ActsOn action.now g.old.nodes held operands.now g.new.nodes o) }
+    ensures sorted { IfOk result (λ o. IfSome o (λ after. IsSorted g.new after)) }
+    ensures grows { Grows g.old g.new }
+{
+    match action {
+        Action::Increase(place, by) => increased(alloc, g, held, *place, i32::from(*by)),
+        Action::Call(desc, f) => Ok(Some(called(alloc, g, held, desc, f, operands)?)),
+        _ => simply(alloc, g, held, action, operands),
+    }
+}
+
+/// What is held after an action, which pops its operands; `None` where it doesn't find what it needs, or
+/// ends the method.
+pub(crate) fn act(
+    alloc: Global,
+    g: &mut Graph,
+    held: Held,
+    action: &Action,
+) -> Result<Option<Held>, Memory>
+    requires plain { IsPlain action.now }
+    requires sorted { IsSorted g.old held }
+    ensures acts { IfOk result (λ o. Acts action.now g.old.nodes held g.new.nodes o) }
+    ensures sorted { IfOk result (λ o. IfSome o (λ after. IsSorted g.new after)) }
+    ensures grows { Grows g.old g.new }
+{
+    let Some((operands, rest)) = pop(alloc, held, action)? else {
+        return Ok(None);
+    };
+    act_on(alloc, g, rest, action, &operands)
 }

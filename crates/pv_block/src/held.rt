@@ -3,11 +3,12 @@
 use pv_frame::{Items, Sort};
 use pv_graph::NodeId;
 
-/// A place of the operand stack or a local: its sort, and the node of its value, if it has one.
+/// A place of the operand stack or a local: its sort, and the node of its value. Where the sort isn't
+/// known, no value is, and the node is unit.
 #[derive(Clone, Copy, Debug)]
 pub struct Cell {
     pub sort: Sort,
-    pub node: Option<NodeId>,
+    pub node: NodeId,
 }
 
 /// What a block has computed before an instruction, with the top of the stack first, and the nodes of
@@ -16,9 +17,9 @@ pub struct Cell {
 pub(crate) struct Held {
     pub(crate) stack: Items<Cell>,
     pub(crate) locals: Items<Cell>,
-    pub(crate) heap: Option<NodeId>,
-    pub(crate) token: Option<NodeId>,
+    pub(crate) heap: NodeId,
+    pub(crate) token: NodeId,
     pub(crate) unit: NodeId,
     pub(crate) clear: NodeId,
-    pub(crate) start: Option<NodeId>,
+    pub(crate) start: NodeId,
 }

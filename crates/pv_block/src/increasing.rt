@@ -3,33 +3,28 @@
 ghost use Rattle.std.specs.Prelude.{IfOk, IfSome};
 ghost use Rattle.pv_graph.specs.declared.node.OpSort.TheVariants.{I};
 ghost use Rattle.pv_graph.specs.Graphs.{IsGraph};
-ghost use Rattle.pv_terms.specs.Terms.{Grows};
-ghost use Rattle.pv_block.specs.Sorted.{MaybeOfSort, IsSorted};
+ghost use Rattle.pv_terms.specs.Terms.{Grows, IsOfSort};
+ghost use Rattle.pv_block.specs.Sorted.{IsSorted};
 ghost use Rattle.pv_block.specs.Acting.{StandsForSum, Increases};
 
-use crate::computed::computed;
 use crate::held::{Cell, Held};
 use crate::locals::local;
 use pv_frame::Sort;
 use pv_graph::{Graph, NodeId, Op};
+use pv_terms::over;
 use pv_value::{Memory, ScalarOp};
 use std::alloc::Global;
 
 // The node of a value with a constant added to it.
-fn summed(
-    alloc: Global,
-    g: &mut Graph,
-    value: Option<NodeId>,
-    by: i32,
-) -> Result<Option<NodeId>, Memory>
+fn summed(alloc: Global, g: &mut Graph, value: NodeId, by: i32) -> Result<NodeId, Memory>
     requires graph { IsGraph g.old }
-    requires int { MaybeOfSort g.old value I }
+    requires int { IsOfSort g.old value I }
     ensures stands { IfOk result (λ n. StandsForSum g.old.nodes value by g.new.nodes n) }
-    ensures sort { IfOk result (λ n. MaybeOfSort g.new n I) }
+    ensures sort { IfOk result (λ n. IsOfSort g.new n I) }
     ensures grows { Grows g.old g.new }
 {
-    let step = computed(alloc, g, Op::Int(by), &[])?;
-    computed(alloc, g, Op::Scalar(ScalarOp::Iadd), &[value, step])
+    let step = over(alloc, g, Op::Int(by), &[])?;
+    over(alloc, g, Op::Scalar(ScalarOp::Iadd), &[value, step])
 }
 
 /// What is held after an int is added to a local.

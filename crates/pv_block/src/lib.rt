@@ -1,27 +1,37 @@
 //! What a block computes, on the nodes of a graph.
 //!
 //! `pv_runs` says what a block computes as parts of the slots where it begins (`Held`, `acted_on`). Here
-//! the same is computed on nodes: a cell of the operand stack or of the locals has a sort, and the node of
-//! its value where that has been made. `specs/Standing` says what the nodes stand for: whatever the nodes
-//! of the slots stand for where the block begins, each node stands for its part over that, and there is
-//! none only where a slot of the part has none (`StandsFor`, `HoldsFor`). `specs/Sorted` has the sorts of
+//! the same is computed on nodes: a cell of the operand stack or of the locals has a sort and a node.
+//! `specs/Standing` says what the nodes stand for: whatever the nodes of the slots stand for where the block
+//! begins, the node of a cell whose sort is known stands for the cell's part over that (`StandsFor`,
+//! `HoldsFor`). Where the sort isn't known, no value is, and the node is unit. `specs/Sorted` has the sorts of
 //! the nodes, so that a graph never refuses an operation for them.
 //!
-//! `stack`, `locals` and `takes` are the text of `pv_frame` on cells. `computed` adds an operation over
-//! nodes, some of which may not have been made. `acting` does what an action does that is one operation, or
-//! moves values alone, and `increasing` an increase of a local (`ActsOn` in `specs/Acting`).
+//! `stack`, `locals` and `takes` are the text of `pv_frame` on cells. `acting` does what an action does
+//! (`ActsOn` in `specs/Acting`): it is one operation, or moves values alone, or an increase of a local
+//! (`increasing`) or a call (`calling`). `along` does one action after the other (`ActsAlong`). `leaving`
+//! has the tests and exits of the last action (`specs/Leaving`), with the tests of `testing`.
 //!
-//! So far this is all that stands: calls, the tests and exits of a block, and its run come next, and nothing
-//! uses this crate yet.
+//! The layer above uses `run`, for a whole block: its tests, and the slots at its exits as far as their
+//! sorts are known, stand for those of the block's chain, whatever the slots stand for where it begins
+//! (`RanFor` in `specs/Ran`); and what goes on fits the frame of the place to which it goes (`IsSortedRan`).
 #![tactic(auto)]
 
 mod acting;
-mod computed;
+mod along;
+mod calling;
 mod computing;
 mod held;
 mod increasing;
+mod kids;
+mod leaving;
 mod locals;
+mod ran;
+mod running;
 mod stack;
 mod takes;
+mod testing;
 
 pub use held::Cell;
+pub use ran::{Ending, Leaving, Ran, State};
+pub use running::run;

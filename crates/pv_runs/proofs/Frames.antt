@@ -53,12 +53,12 @@ after_long a f h e = elim (popped same (takes a) f.stack) as (λ o. (o >>= λ x.
 
 -- ---- frames along edges
 
-no_successor : (p : Program) (k j : ℕ) (a : Action) → IsEnd p a → Contains (successors k a) j → ⊥
+pub no_successor : (p : Program) (k j : ℕ) (a : Action) → IsEnd p a → Contains (successors k a) j → ⊥
 no_successor p k j (act.Give s) e among = contains_none j among
 no_successor p k j act.Throw e among = contains_none j among
 no_successor p k j a e among = e
 
-each_of : (P : ℕ → Type 0) (xs : List ℕ) (x : ℕ) → AllByRecursion P xs → Contains xs x → P x
+pub each_of : (P : ℕ → Type 0) (xs : List ℕ) (x : ℕ) → AllByRecursion P xs → Contains xs x → P x
 each_of P [] x all among = absurd (contains_none x among)
 each_of P (y ∷ xs) x all among = elim (contains_cases y x xs among) [ inl e ↦ subst P e all.0 | inr more ↦ each_of P xs x all.1 more ]
 

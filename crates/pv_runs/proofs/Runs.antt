@@ -134,7 +134,7 @@ turns_both P l s k t f g zero = f 0
 turns_both P l s k t f g (suc zero) = g 0
 turns_both P l s k t f g (suc (suc n)) = turns_both P (λ i. l (suc i)) (λ i. s (suc i)) (λ i. k (suc i)) (λ i. t (suc i)) (λ i. f (suc i)) (λ i. g (suc i)) n
 
-turns_stack : {A : Type 0} (l s : ℕ → A) (j : ℕ) → by_turns l s (stack_place j) ≡ s j
+pub turns_stack : {A : Type 0} (l s : ℕ → A) (j : ℕ) → by_turns l s (stack_place j) ≡ s j
 turns_stack l s zero = refl
 turns_stack l s (suc j) = turns_stack (λ i. l (suc i)) (λ i. s (suc i)) j
 

@@ -1,6 +1,6 @@
 -- In inferred frames each block of a program has its chain, where divisions have two operands, as those of a method's program do.
 use Rattle.std.proofs.Common.{◌≡◌, ℕ, zero, suc, ◌+◌, ◌-◌, ◌≤◌, Bool, true, false, List, [], ◌∷◌, Option, Some, None, refl, ap, sym, subst, ◌∙◌, inl, inr, arith, if◌then◌else◌}
-use Rattle.std.specs.Prelude.{map, option_map, slice_get, slice_set}
+use Rattle.std.specs.Prelude.{map, option_map, slice_get, slice_set, Contains}
 use Rattle.std.specs.List.{AllByRecursion}
 use Rattle.pv_pool.specs.Readers.{◌>>=◌}
 use Rattle.pv_value.specs.declared.descriptor.JType.{JType}
@@ -14,8 +14,8 @@ use Rattle.pv_frame.specs.declared.program.Program.{Program}
 use Rattle.pv_frame.specs.declared.frame.Frame.{Frame}
 use Rattle.pv_frame.specs.Programs.{IsAt}
 use Rattle.pv_frame.specs.Stacks.{Taken, popped, moved, has_room, set_local}
-use Rattle.pv_frame.specs.Effects.{sort_of_word, sorts_of_result, test_takes, takes}
-use Rattle.pv_frame.specs.Frames.{same, holds, frame_done, frame_after, Flows, IsFrameAt, LeadsTo, IsEnd, Finds, GoesOn, IsInferred}
+use Rattle.pv_frame.specs.Effects.{sort_of_word, sorts_of_result, test_takes, takes, successors}
+use Rattle.pv_frame.specs.Frames.{same, holds, frame_done, frame_after, Flows, IsFrameAt, LeadsTo, IsEnd, Finds, GoesOn, Reached, IsInferred}
 use Rattle.pv_frame.specs.Frames as frame
 use Rattle.pv_frame.proofs.FrameLaws.{some_of, no_some, if_some, fits_same, popped_sorts, flows_flows, goes_from}
 use Rattle.pv_frame.proofs.StackLaws.{by_sorts, popped_map, moved_map, has_room_map, set_local_map}
@@ -31,6 +31,7 @@ use Rattle.pv_runs.specs.Held.{Cell, Held, cell_sort, unset, of_cell, push, incr
 use Rattle.pv_runs.specs.Chains.{to, branch, test_part, chain_with, given_chain, last_chain, ends_method, chain_of}
 use Rattle.pv_runs.specs.Blocks.{acted_along, place_chain}
 use Rattle.pv_runs.specs.Matches.{IsClean}
+use Rattle.pv_runs.proofs.Frames.{no_successor, each_of}
 use Rattle.pv_runs.proofs.States as states
 use Rattle.pv_runs.proofs.States.{IsSimple, IsBlock}
 
@@ -279,10 +280,10 @@ held_flows f = subst (λ (g : Frame). Flows g f) (sym (held_sorts f)) (flows_its
 
 module _ (p : Program) (frames : List (Option Frame)) (inferred : IsInferred p frames) (clean : (k : ℕ) (a : Action) → IsAt p k a → IsClean a) where
   -- what is held before the instruction at a place has the sorts of its frame
-  record HeldAt (k : ℕ) (h : Held) : Type 0 where
-    frame : Frame
-    there : IsFrameAt frames k frame
-    flows : Flows (sorts_held h) frame
+  pub record HeldAt (k : ℕ) (h : Held) : Type 0 where
+    pub frame : Frame
+    pub there : IsFrameAt frames k frame
+    pub flows : Flows (sorts_held h) frame
 
   -- the instruction at a place goes on to the next one
   record GoesToNext (k : ℕ) (h : Held) : Type 0 where
@@ -351,28 +352,32 @@ module _ (p : Program) (frames : List (Option Frame)) (inferred : IsInferred p f
     pub chain : Chain
     pub is : place_chain p frames b ≡ Some chain
     pub block : IsBlock p b.first (held_at frame) chain
-    -- its last action, and what is held before it
+    -- its last action, and what is held before it, with the sorts of the frame there
     pub action : Action
     pub at : IsAt p b.last action
     pub held : Held
+    pub along_ : acted_along p (b.last - b.first) b.first (held_at frame) ≡ Some held
+    pub typed : HeldAt b.last held
     pub ends : chain_of p.desc.result b.last action held ≡ Some chain
 
-  pub chained : (blocks : List Block) → IsFlow p blocks → (n : ℕ) (b : Block) → slice_get blocks n ≡ Some b → Chained b
-  chained blocks flow n b at =
-      let is = flow.each n b at in
-      let f = reached_frame p frames inferred.agrees b.first is.reached in
+  pub chained_at : (b : Block) → IsSpan p b.first b.last → Reached p b.first → Chained b
+  chained_at b span reached =
+      let f = reached_frame p frames inferred.agrees b.first reached in
       let t : HeldAt b.first (held_at f.0) = record { frame = f.0; there = f.1; flows = held_flows f.0 } in
-      let a = along b.first b.last is.span (b.last - b.first) b.first (held_at f.0) (omega arith) (let le = is.span.some in omega arith) t in
-      let c = last_chain_is b.last is.action a.held is.ends a.typed in
+      let a = along b.first b.last span (b.last - b.first) b.first (held_at f.0) (omega arith) (let le = span.some in omega arith) t in
+      let y = inferred.agrees.each b.last a.typed.frame a.typed.there in
+      let c = last_chain_is b.last y.action a.held y.at a.typed in
       record {
         frame = f.0;
         there = f.1;
         chain = c.0;
-        is = ap (λ (o : Option (Option Frame)). o >>= option_map held_at >>= after_first b) f.1 ∙ ap (λ (o : Option Held). o >>= last_of b) a.is ∙ ap (λ (o : Option Action). o >>= λ x. chain_of p.desc.result b.last x a.held) is.ends ∙ c.1;
-        block = a.block c.0 is.action is.ends c.1;
-        action = is.action;
-        at = is.ends;
+        is = ap (λ (o : Option (Option Frame)). o >>= option_map held_at >>= after_first b) f.1 ∙ ap (λ (o : Option Held). o >>= last_of b) a.is ∙ ap (λ (o : Option Action). o >>= λ x. chain_of p.desc.result b.last x a.held) y.at ∙ c.1;
+        block = a.block c.0 y.action y.at c.1;
+        action = y.action;
+        at = y.at;
         held = a.held;
+        along_ = a.is;
+        typed = a.typed;
         ends = c.1;
       }
     where
@@ -381,6 +386,25 @@ module _ (p : Program) (frames : List (Option Frame)) (inferred : IsInferred p f
 
       after_first : Block → Held → Option Chain
       after_first b h = acted_along p (b.last - b.first) b.first h >>= λ g. slice_get p.actions b.last >>= λ a. chain_of p.desc.result b.last a g
+
+  pub chained : (blocks : List Block) → IsFlow p blocks → (n : ℕ) (b : Block) → slice_get blocks n ≡ Some b → Chained b
+  chained blocks flow n b at = let is = flow.each n b at in chained_at b is.span is.reached
+
+  -- what is held after an action that goes on has the sorts of the frames to which it leads
+  pub leads_typed : (k j : ℕ) (a : Action) (h g : Held) → IsAt p k a → HeldAt k h → acted a h ≡ Some g → Contains (successors k a) j → HeldAt j g
+  leads_typed k j a h g at t is among =
+      let y = inferred.agrees.each k t.frame t.there in
+      let same_action : y.action ≡ a = some_of _ _ (sym y.at ∙ at) in
+      let leads : Contains (successors k y.action) j = subst (λ (a : Action). Contains (successors k a) j) (sym same_action) among in
+      elim y.goes [
+        | inl l ↦ absurd (no_successor p k j y.action l.0 leads)
+        | inr on ↦
+            let from = goes_from y.action (sorts_held h) t.frame on.after t.flows on.is in
+            let z = goes_held y.action h from.after from.is in
+            let same : z.done.after ≡ g = some_of _ _ (sym (acted_is y.action h from.after z) ∙ ap (λ (a : Action). acted a h) same_action ∙ is) in
+            let edge = each_of (LeadsTo frames on.after) (successors k y.action) j on.edges leads in
+            record { frame = edge.target; there = edge.there; flows = subst (λ (f : Frame). Flows f edge.target) (sym z.done.sorts ∙ ap sorts_held same) (flows_flows from.after on.after edge.target from.flows edge.flows) }
+      ]
 
   -- IN INFERRED FRAMES EACH BLOCK HAS ITS CHAIN
   pub typed_chain : (blocks : List Block) → IsFlow p blocks → (n : ℕ) (b : Block) → slice_get blocks n ≡ Some b → (c : Chain) × (place_chain p frames b ≡ Some c)

@@ -1,19 +1,19 @@
 use Rattle.std.proofs.Common.{refl, sym, ◌∙◌}
 use Rattle.std.proofs.lemmas.Result.{IfOk-weaker}
 use Rattle.pv_block.proofs.Holding.{rearranged_holds}
-use Rattle.pv_block.proofs.Single.{computes_holds, computing_takes, computes_sorted}
+use Rattle.pv_block.proofs.Single.{computes_holds, computing_fits_over, computes_sorted}
 use Rattle.pv_block.proofs.Rearranged.{if_sorted}
 use Rattle.pv_block.proofs.acting.simply.Goals as goal
 
 pub compute-requires-clause-fits : goal.compute-requires-clause-fits
 compute-requires-clause-fits c =
-    computing_takes c.args.g.now c.args.action.now c.in-Some.c c.args.held c.args.operands.now (sym c.in_ok-c.ensures ∙ c.in-Some.is) c.requires.plain c.requires.sorted c.requires.operands c.requires.takes
+    computing_fits_over c.args.g.now c.args.action.now c.in-Some.c c.args.held c.args.operands.now (sym c.in_ok-c.ensures ∙ c.in-Some.is) c.requires.plain c.requires.sorted c.requires.operands c.requires.takes
 
 pub returns-in_ok-compute-in-Some-clause-acts : goal.returns-in_ok-compute-in-Some-clause-acts
 returns-in_ok-compute-in-Some-clause-acts c = λ at h g ds hold z i. (
   c.in_ok-compute-in-Some.field-0,
   refl,
-  computes_holds at c.args.g.now c.compute.new.g c.args.action.now c.in-Some.c c.args.held c.in_ok-compute-in-Some.field-0 h g c.args.operands.now ds c.in_ok-compute-in-Some.ensures.grows c.requires.takes (sym c.in_ok-c.ensures ∙ c.in-Some.is)
+  computes_holds at c.args.g.now c.compute.new.g c.args.action.now c.in-Some.c c.args.held c.in_ok-compute-in-Some.field-0 h g c.args.operands.now ds c.in_ok-compute-in-Some.ensures.grows c.requires.plain c.requires.takes (sym c.in_ok-c.ensures ∙ c.in-Some.is)
       c.in_ok-compute-in-Some.ensures.computes hold z i,
 )
 

@@ -1,13 +1,12 @@
-use Rattle.std.proofs.Common.{◌≡◌, ap, sym, subst, ◌∙◌, length, ◌<◌, Some, List, ℤ, w32, arith}
+use Rattle.std.proofs.Common.{◌≡◌, ap, sym, subst, ◌∙◌, length, Some, List, ℤ, w32, arith}
 use Rattle.std.proofs.lemmas.Int.{to_z-of_z}
 use Rattle.std.specs.Prelude.{slice_set}
 use Rattle.pv_frame.specs.declared.sort.Sort.TheVariants as sort
 use Rattle.pv_block.specs.declared.held.Cell.{Cell}
-use Rattle.pv_block.specs.declared.held.Held.{Held}
 use Rattle.pv_block.specs.Cells.{local_of}
 use Rattle.pv_block.specs.Acting.{StandsForSum, Increases}
 use Rattle.pv_block.specs.Sorted.{IsSorted}
-use Rattle.pv_block.proofs.Increases.{local_in, increased_in, increases, increases_none, increased_sorted, int_local}
+use Rattle.pv_block.proofs.Increases.{local_in, increases, increases_none, increased_sorted, int_local}
 use Rattle.pv_block.proofs.increasing.increased.Goals as goal
 
 pub returns-in_default-clause-increases : goal.returns-in_default-clause-increases

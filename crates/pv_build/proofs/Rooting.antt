@@ -1,0 +1,35 @@
+-- A root over its four kids.
+use Rattle.std.proofs.Common.{◌≡◌, ℕ, [], ◌∷◌, Option, Some, None, refl, sym, ap, ◌∙◌, subst}
+use Rattle.pv_value.specs.declared.descriptor.JType.{JType}
+use Rattle.pv_value.specs.declared.descriptor.JType.TheVariants as jtype
+use Rattle.pv_graph.specs.declared.node.Op.{Op}
+use Rattle.pv_graph.specs.declared.node.Op.TheVariants as op
+use Rattle.pv_graph.specs.declared.node.OpSort.TheVariants.{F, T, H, R}
+use Rattle.pv_graph.specs.Graphs.{Graph}
+use Rattle.pv_graph.specs.Ops.{sort_over, HasSort}
+use Rattle.pv_equations.specs.Exp.{Exp, Over, NoExp}
+use Rattle.pv_equations.specs.Equations.{or_else}
+use Rattle.pv_terms.specs.Reads.{Reads}
+use Rattle.pv_terms.specs.Terms.{IsOfSort}
+use Rattle.pv_build.specs.Straight.{none_of}
+use Rattle.pv_build.specs.Ends.{default_of, default_sort}
+use Rattle.pv_build.proofs.Finishing.{none_is}
+
+root_sorted : (r : Option JType) → sort_over op.Root (T ∷ F ∷ default_sort r ∷ H ∷ []) ≡ Some R
+root_sorted None = refl
+root_sorted (Some jtype.Z) = refl
+root_sorted (Some jtype.B) = refl
+root_sorted (Some jtype.C) = refl
+root_sorted (Some jtype.S) = refl
+root_sorted (Some jtype.I) = refl
+root_sorted (Some jtype.J) = refl
+root_sorted (Some jtype.F) = refl
+root_sorted (Some jtype.D) = refl
+root_sorted (Some jtype.A) = refl
+
+pub root_has : (g : Graph) (r : Option JType) (a b c d : ℕ) → IsOfSort g a T → IsOfSort g b F → IsOfSort g c (default_sort r) → IsOfSort g d H → HasSort g.sorts op.Root (a ∷ b ∷ c ∷ d ∷ []) R
+root_has g r a b c d at bt ct dt = record { sorts = T ∷ F ∷ default_sort r ∷ H ∷ []; kids_have = (at, (bt, (ct, (dt, tt)))); over = root_sorted r }
+
+-- the result, or else a value of its type
+pub result_reads : (g : Graph) (r : Option JType) (o : Op) (n : ℕ) (q : Option Exp) → o ≡ default_of r → Reads g.nodes [] n (or_else q (Over o NoExp)) → Reads g.nodes [] n (or_else q (none_of r))
+result_reads g r o n q is reads = subst (λ (e : Exp). Reads g.nodes [] n (or_else q e)) (ap (λ (o : Op). Over o NoExp) is ∙ sym (none_is r)) reads

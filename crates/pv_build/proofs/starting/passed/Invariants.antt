@@ -1,0 +1,7 @@
+use Rattle.std.proofs.Common.{◌≡◌, ◌++◌, take}
+use Rattle.pv_runs.specs.Entries.{param_ops}
+use Rattle.pv_build.specs.States.{this_ops}
+use Rattle.pv_build.proofs.starting.passed.Given as goal
+
+abbrev pub invariant-loop-j : goal.invariant-loop-j
+invariant-loop-j l = l.ops.items ≡ this_ops l.program.instance ++ param_ops 0 (take l.j l.t-items)

@@ -1,0 +1,9 @@
+pub mod Structure
+pub mod Straight
+pub mod Conversion
+pub mod Reasons
+pub mod Slots
+pub mod Tables
+pub mod States
+pub mod Ends
+pub mod Made

@@ -4,8 +4,8 @@ use crate::answers::{Answer, NoAnswer};
 use crate::bench::Bench;
 use crate::pools::Asked;
 use crate::{
-    bases, classes, codes, flows, frames, graphs, leasts, loops, machine, outside, pools, runs,
-    trees, values,
+    bases, classes, codes, flows, frames, graphs, leasts, loops, machine, outside, pools, roots,
+    runs, trees, values,
 };
 use std::rt::Files;
 use std::thread::Threads;
@@ -52,6 +52,8 @@ pub fn answer<R: Files + Threads + Sync>(rt: &R, bench: &Bench, line: &str) -> A
 
         "machine" => machine::machine(bench, false, rest),
         "machine-step" => machine::machine(bench, true, rest),
+
+        "root" => roots::root(bench, rest),
 
         "run" => runs::running(rt, bench, rest),
         "validate" => runs::validation(rt, bench, rest),

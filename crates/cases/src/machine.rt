@@ -50,8 +50,8 @@ pub fn machine(bench: &Bench, by_steps: bool, rest: &str) -> Answer {
     end_text(alloc, end, setting)
 }
 
-// The world and the heap at the start.
-fn setting_of(alloc: Global, text: &str) -> Result<Setting, NoAnswer> {
+/// The world and the heap at the start.
+pub fn setting_of(alloc: Global, text: &str) -> Result<Setting, NoAnswer> {
     let mut setting = Setting::new(alloc);
     for step in text.split(';') {
         let words = words(alloc, step)?;
@@ -79,8 +79,8 @@ fn stepped(
     Ok(None)
 }
 
-// The end, and the numbers of its heap that the setting asks for.
-fn end_text(alloc: Global, end: Option<Outcome>, setting: &str) -> Answer {
+/// The end, and the numbers of its heap that the setting asks for.
+pub fn end_text(alloc: Global, end: Option<Outcome>, setting: &str) -> Answer {
     let Some(outcome) = end else {
         return said(alloc, "running");
     };

@@ -29,6 +29,7 @@ mod meanings;
 mod outside;
 mod pools;
 mod repeats;
+mod roots;
 mod rules;
 mod runs;
 mod samples;

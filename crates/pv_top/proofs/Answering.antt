@@ -168,7 +168,7 @@ report_line held a b first second text verdicts line p q m n r l ends =
       partner = equal.0;
       partner_is = equal.1;
       says = found.says ∙ ap (line_of found.method) is;
-      equivalent = same_meaning r.first found.method r.second equal.0 equal.2.0 equal.1.like.desc one other equal.2.1 equal.2.2;
+      equivalent = same_meaning r.first found.method r.second equal.0 equal.2.0 equal.2.1 equal.1.like.desc one other;
     }
 
 -- what is said of a file without a reading

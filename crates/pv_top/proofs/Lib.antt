@@ -1,10 +1,4 @@
 pub mod Decimals
-pub mod Stacks
-pub mod Runs
-pub mod IntNodes
-pub mod Lays
-pub mod Structures
-pub mod Meanings
 pub mod Likenesses
 pub mod SameRoots
 pub mod Shown

@@ -1,6 +1,6 @@
 -- There is one report on two files: one verdict on each method, one text and one status.
 use Rattle.std.proofs.Common.{◌≡◌, ◌⊎◌, ℕ, ◌<◌, List, [], ◌∷◌, length, get_or, Option, Some, None, Result, Ok, Err, inl, inr, refl, sym, ap, subst, ◌∙◌}
-use Rattle.std.specs.Prelude.{◌≢◌, slice_get}
+use Rattle.std.specs.Prelude.{slice_get}
 use Rattle.std.specs.List.{AllByRecursion, AllZip, flat_map}
 use Rattle.pv_class.specs.declared.file.Method.{Method}
 use Rattle.pv_class.specs.declared.file.Code.{Code}
@@ -11,7 +11,15 @@ use Rattle.pv_class.specs.declared.fault.ClassFault.{ClassFault}
 use Rattle.pv_class.specs.ClassFiles.{IsClass}
 use Rattle.pv_class.specs.ClassFaults.{IsBad}
 use Rattle.pv_class.proofs.Outcomes.{is_comes, comes_once}
-use Rattle.pv_graph.specs.Unfold.{Tree}
+use Rattle.pv_frame.specs.declared.frame.Frame.{Frame}
+use Rattle.pv_flow.specs.declared.block.Block.{Block}
+use Rattle.pv_flow.specs.Blocks.{IsFlow}
+use Rattle.pv_flow.specs.Edges.{edges_of}
+use Rattle.pv_flow.proofs.OneFlow.{one_flow}
+use Rattle.pv_loops.specs.declared.forest.Forest.{Forest}
+use Rattle.pv_loops.specs.declared.forest.Loop.{Loop}
+use Rattle.pv_loops.specs.Loops.{IsLoop}
+use Rattle.pv_loops.specs.Forests.{IsForest}
 use Rattle.pv_top.specs.declared.verdict.Side.{Side}
 use Rattle.pv_top.specs.declared.verdict.Side.TheVariants as side
 use Rattle.pv_top.specs.declared.verdict.Verdict.{Verdict}
@@ -23,32 +31,22 @@ use Rattle.pv_frame.specs.declared.cause.Cause.{Cause}
 use Rattle.pv_frame.specs.declared.program.Program.{Program}
 use Rattle.pv_frame.specs.Causes.{IsAccepted}
 use Rattle.pv_frame.proofs.CauseLaws.{one_program, one_cause, accepted_or_refused}
-use Rattle.pv_top.specs.declared.reason.Reason.{Reason}
-use Rattle.pv_top.specs.declared.reason.Reason.TheVariants as reason
-use Rattle.pv_top.specs.Structure.{IsStructured, MeetsShape}
-use Rattle.pv_top.specs.Built.{IsStraight}
-use Rattle.pv_top.specs.Roots.{HasTree, returning}
-use Rattle.pv_top.specs.Verdicts.{HasCode, Meets, IsPartner, IsVerdict, IsVerdictOn}
+use Rattle.pv_build.specs.declared.reason.Reason.{Reason}
+use Rattle.pv_build.specs.declared.reason.Reason.TheVariants as reason
+use Rattle.pv_build.specs.Structure.{IsStructured, MeetsShape, HasLoop}
+use Rattle.pv_build.specs.Conversion.{Meets, Form}
+use Rattle.pv_build.proofs.Structures.{one_shape_cause, not_structured}
+use Rattle.pv_top.specs.Roots.{HaveRoots, Alike}
+use Rattle.pv_top.specs.Verdicts.{HasCode, IsPartner, IsVerdict, IsVerdictOn}
 use Rattle.pv_top.specs.Lines.{line_text, bad_class}
 use Rattle.pv_top.specs.Report.{IsReport, IsBadText, Judged, AreEquivalent, lines_of}
 use Rattle.pv_top.proofs.Places.{all_at, here_again}
-use Rattle.pv_top.proofs.Stacks.{returns_once}
-use Rattle.pv_top.proofs.Structures.{one_shape_cause, not_structured}
+use Rattle.pv_top.proofs.SameRoots.{alike_once}
 
--- ---- one tree
+-- ---- what has a code
 
--- a program returns one tree
-straight_once : (p : Program) (t u : Tree) → IsStraight p t → IsStraight p u → t ≡ u
-straight_once p t u a b = returns_once (length p.desc.params) p.actions t u a.returns b.returns
-
-tree_once : (file : ClassFile) (m : Method) (t u : Tree) → HasBytes m → HasTree file m t → HasTree file m u → t ≡ u
-tree_once file m t u bytes a b =
-    let one = one_program file m b.built.program a.built.program bytes b.built.accepted.of_method a.built.accepted.of_method in
-    let same : a.value ≡ b.value = straight_once a.built.program a.value b.value a.built.straight (subst (λ (p : Program). IsStraight p b.value) one b.built.straight) in
-    a.tree ∙ ap returning same ∙ sym b.tree
-
-tree_code : (file : ClassFile) (m : Method) (t : Tree) → HasTree file m t → HasCode m
-tree_code file m t h = (h.built.accepted.code, h.built.accepted.has)
+form_code : (file : ClassFile) (m : Method) → Form file m → HasCode m
+form_code file m a = (a.accepted.code, a.accepted.has)
 
 meets_code : (file : ClassFile) (m : Method) (why : Reason) → Meets file m why → HasCode m
 meets_code file m (reason.Met cause) (inl h) = (h.code, h.has)
@@ -75,12 +73,29 @@ cause_once file m a b bytes (inr h) (inr k) =
     let one = one_program file m k.program h.program bytes k.accepted.of_method h.accepted.of_method in
     one_shape_cause h.program a b h.meets (subst (λ (q : Program). MeetsShape q b) one k.meets)
 
--- a method with a tree isn't refused
-not_refused : (file : ClassFile) (m : Method) (why : Reason) (t : Tree) → HasBytes m → Meets file m why → HasTree file m t → ⊥
-not_refused file m (reason.Met cause) t bytes h tree = no_cause file m tree.built.program cause bytes tree.built.accepted tree.built.structured h
-not_refused file m reason.NotBuilt t bytes h tree =
-    let one = one_program file m tree.built.program h.0 bytes tree.built.accepted.of_method h.1.of_method in
-    h.3 tree.value (subst (λ (p : Program). IsStraight p tree.value) one tree.built.straight)
+-- a method without loops has none
+no_loop : (p : Program) (frames : List (Option Frame)) (blocks : List Block) (forest : Forest) → IsFlow p blocks → IsForest (edges_of blocks) forest → forest.loops.items ≡ [] → HasLoop p → ⊥
+no_loop p frames blocks forest flow loops none h =
+    let same = one_flow p h.has.blocks blocks h.has.flow flow in
+    let edges : h.edges ≡ edges_of blocks = h.has.edges_are ∙ ap edges_of same in
+    let listed = loops.all h.headers h.members (subst (λ (e : List (List ℕ)). IsLoop e h.headers h.members) edges h.is) in
+    let at = subst (λ (l : List Loop). slice_get l listed.place ≡ Some listed.listed) none listed.at in
+    absurd (let z = at in cc)
+
+form_structured : (file : ClassFile) (m : Method) (a : Form file m) → IsStructured a.program
+form_structured file m a = record {
+  edges = edges_of a.blocks;
+  has = record { blocks = a.blocks; flow = a.shaped.flow; few = a.few; edges_are = refl };
+  reducible = a.shaped.reducible;
+  shallow = a.shaped.shallow;
+}
+
+-- a method with a root isn't refused
+not_refused : (file : ClassFile) (m : Method) (why : Reason) → HasBytes m → Meets file m why → Form file m → ⊥
+not_refused file m (reason.Met cause) bytes h a = no_cause file m a.program cause bytes a.accepted (form_structured file m a) h
+not_refused file m reason.NotBuilt bytes h a =
+    let one = one_program file m h.0 a.program bytes h.1.of_method a.accepted.of_method in
+    no_loop a.program a.frames a.blocks a.forest a.shaped.flow a.shaped.loops a.straight (subst HasLoop one h.3)
 
 -- it is refused for one reason
 reason_once : (file : ClassFile) (m : Method) (a b : Reason) → HasBytes m → Meets file m a → Meets file m b → a ≡ b
@@ -91,61 +106,61 @@ reason_once file m reason.NotBuilt reason.NotBuilt bytes h k = refl
 
 -- ---- one verdict on a method and its partner
 
--- what a verdict says, in the order of the verdicts: of the code of the first, of the second, of the first's reason or tree, of the second's
+-- what a verdict says, in the order of the verdicts: of the code of the first, of the second, of the first's reason or root, of the second's
 data Said (f : ClassFile) (m : Method) (g : ClassFile) (p : Method) : Verdict → Type 0 where
   no_first : m.code ≡ None → Said f m g p (verdict.NoCode side.First)
   no_second : HasCode m → p.code ≡ None → Said f m g p (verdict.NoCode side.Second)
   first_refused : (why : Reason) → HasCode m → HasCode p → Meets f m why → Said f m g p (verdict.Refused side.First why)
-  second_refused : (why : Reason) (t : Tree) → HasCode m → HasCode p → HasTree f m t → Meets g p why → Said f m g p (verdict.Refused side.Second why)
-  equivalent : (t : Tree) → HasCode m → HasCode p → HasTree f m t → HasTree g p t → Said f m g p verdict.Equivalent
-  apart : (t u : Tree) → HasCode m → HasCode p → HasTree f m t → HasTree g p u → t ≢ u → Said f m g p verdict.Apart
+  second_refused : (why : Reason) → HasCode m → HasCode p → Form f m → Meets g p why → Said f m g p (verdict.Refused side.Second why)
+  equivalent : HasCode m → HasCode p → (r : HaveRoots f m g p) → Alike r → Said f m g p verdict.Equivalent
+  apart : HasCode m → HasCode p → (r : HaveRoots f m g p) → (Alike r → ⊥) → Said f m g p verdict.Apart
 
 said_by : (f : ClassFile) (m : Method) (g : ClassFile) (p : Method) (v : Verdict) → IsVerdictOn f m g p v → Said f m g p v
 said_by f m g p verdict.Missing h = absurd h
 said_by f m g p (verdict.NoCode side.First) h = no_first h
 said_by f m g p (verdict.NoCode side.Second) h = no_second h.0 h.1
 said_by f m g p (verdict.Refused side.First why) h = first_refused why (meets_code f m why h.1) h.0 h.1
-said_by f m g p (verdict.Refused side.Second why) h = second_refused why h.0.0 (tree_code f m h.0.0 h.0.1) (meets_code g p why h.1) h.0.1 h.1
-said_by f m g p verdict.Equivalent h = equivalent h.0 (tree_code f m h.0 h.1) (tree_code g p h.0 h.2) h.1 h.2
-said_by f m g p verdict.Apart h = apart h.0 h.1 (tree_code f m h.0 h.2) (tree_code g p h.1 h.3) h.2 h.3 h.4
+said_by f m g p (verdict.Refused side.Second why) h = second_refused why (form_code f m h.0) (meets_code g p why h.1) h.0 h.1
+said_by f m g p verdict.Equivalent h = equivalent (form_code f m h.0.one.form) (form_code g p h.0.two.form) h.0 h.1
+said_by f m g p verdict.Apart h = apart (form_code f m h.0.one.form) (form_code g p h.0.two.form) h.0 h.1
 
 said_once : (f : ClassFile) (m : Method) (g : ClassFile) (p : Method) (v w : Verdict) → HasBytes m → HasBytes p → Said f m g p v → Said f m g p w → v ≡ w
 said_once f m g p v w x y (no_first e) (no_first d) = refl
 said_once f m g p v w x y (no_first e) (no_second c d) = absurd (no_code m e c)
-said_once f m g p v w x y (no_first e) (first_refused why c d h) = absurd (no_code m e c)
-said_once f m g p v w x y (no_first e) (second_refused why t c d h k) = absurd (no_code m e c)
-said_once f m g p v w x y (no_first e) (equivalent t c d h k) = absurd (no_code m e c)
-said_once f m g p v w x y (no_first e) (apart t u c d h k n) = absurd (no_code m e c)
+said_once f m g p v w x y (no_first e) (first_refused other c d l) = absurd (no_code m e c)
+said_once f m g p v w x y (no_first e) (second_refused other c d l o) = absurd (no_code m e c)
+said_once f m g p v w x y (no_first e) (equivalent c d q l) = absurd (no_code m e c)
+said_once f m g p v w x y (no_first e) (apart c d q o) = absurd (no_code m e c)
 said_once f m g p v w x y (no_second a e) (no_first d) = absurd (no_code m d a)
 said_once f m g p v w x y (no_second a e) (no_second c d) = refl
-said_once f m g p v w x y (no_second a e) (first_refused why c d h) = absurd (no_code p e d)
-said_once f m g p v w x y (no_second a e) (second_refused why t c d h k) = absurd (no_code p e d)
-said_once f m g p v w x y (no_second a e) (equivalent t c d h k) = absurd (no_code p e d)
-said_once f m g p v w x y (no_second a e) (apart t u c d h k n) = absurd (no_code p e d)
+said_once f m g p v w x y (no_second a e) (first_refused other c d l) = absurd (no_code p e d)
+said_once f m g p v w x y (no_second a e) (second_refused other c d l o) = absurd (no_code p e d)
+said_once f m g p v w x y (no_second a e) (equivalent c d q l) = absurd (no_code p e d)
+said_once f m g p v w x y (no_second a e) (apart c d q o) = absurd (no_code p e d)
 said_once f m g p v w x y (first_refused why a b h) (no_first d) = absurd (no_code m d a)
 said_once f m g p v w x y (first_refused why a b h) (no_second c d) = absurd (no_code p d b)
-said_once f m g p v w x y (first_refused why a b h) (first_refused other c d k) = ap (λ r. verdict.Refused side.First r) (reason_once f m why other x h k)
-said_once f m g p v w x y (first_refused why a b h) (second_refused other t c d k l) = absurd (not_refused f m why t x h k)
-said_once f m g p v w x y (first_refused why a b h) (equivalent t c d k l) = absurd (not_refused f m why t x h k)
-said_once f m g p v w x y (first_refused why a b h) (apart t u c d k l n) = absurd (not_refused f m why t x h k)
-said_once f m g p v w x y (second_refused why t a b h k) (no_first d) = absurd (no_code m d a)
-said_once f m g p v w x y (second_refused why t a b h k) (no_second c d) = absurd (no_code p d b)
-said_once f m g p v w x y (second_refused why t a b h k) (first_refused other c d l) = absurd (not_refused f m other t x l h)
-said_once f m g p v w x y (second_refused why t a b h k) (second_refused other u c d l n) = ap (λ r. verdict.Refused side.Second r) (reason_once g p why other y k n)
-said_once f m g p v w x y (second_refused why t a b h k) (equivalent u c d l n) = absurd (not_refused g p why u y k n)
-said_once f m g p v w x y (second_refused why t a b h k) (apart u z c d l n o) = absurd (not_refused g p why z y k n)
-said_once f m g p v w x y (equivalent t a b h k) (no_first d) = absurd (no_code m d a)
-said_once f m g p v w x y (equivalent t a b h k) (no_second c d) = absurd (no_code p d b)
-said_once f m g p v w x y (equivalent t a b h k) (first_refused why c d l) = absurd (not_refused f m why t x l h)
-said_once f m g p v w x y (equivalent t a b h k) (second_refused why u c d l n) = absurd (not_refused g p why t y n k)
-said_once f m g p v w x y (equivalent t a b h k) (equivalent u c d l n) = refl
-said_once f m g p v w x y (equivalent t a b h k) (apart u z c d l n o) = absurd (o (tree_once f m u t x l h ∙ tree_once g p t z y k n))
-said_once f m g p v w x y (apart t u a b h k o) (no_first d) = absurd (no_code m d a)
-said_once f m g p v w x y (apart t u a b h k o) (no_second c d) = absurd (no_code p d b)
-said_once f m g p v w x y (apart t u a b h k o) (first_refused why c d l) = absurd (not_refused f m why t x l h)
-said_once f m g p v w x y (apart t u a b h k o) (second_refused why z c d l n) = absurd (not_refused g p why u y n k)
-said_once f m g p v w x y (apart t u a b h k o) (equivalent z c d l n) = absurd (o (tree_once f m t z x h l ∙ tree_once g p z u y n k))
-said_once f m g p v w x y (apart t u a b h k o) (apart z q c d l n r) = refl
+said_once f m g p v w x y (first_refused why a b h) (first_refused other c d l) = ap (λ r. verdict.Refused side.First r) (reason_once f m why other x h l)
+said_once f m g p v w x y (first_refused why a b h) (second_refused other c d l o) = absurd (not_refused f m why x h l)
+said_once f m g p v w x y (first_refused why a b h) (equivalent c d q l) = absurd (not_refused f m why x h q.one.form)
+said_once f m g p v w x y (first_refused why a b h) (apart c d q o) = absurd (not_refused f m why x h q.one.form)
+said_once f m g p v w x y (second_refused why a b h k) (no_first d) = absurd (no_code m d a)
+said_once f m g p v w x y (second_refused why a b h k) (no_second c d) = absurd (no_code p d b)
+said_once f m g p v w x y (second_refused why a b h k) (first_refused other c d l) = absurd (not_refused f m other x l h)
+said_once f m g p v w x y (second_refused why a b h k) (second_refused other c d l o) = ap (λ r. verdict.Refused side.Second r) (reason_once g p why other y k o)
+said_once f m g p v w x y (second_refused why a b h k) (equivalent c d q l) = absurd (not_refused g p why y k q.two.form)
+said_once f m g p v w x y (second_refused why a b h k) (apart c d q o) = absurd (not_refused g p why y k q.two.form)
+said_once f m g p v w x y (equivalent a b r h) (no_first d) = absurd (no_code m d a)
+said_once f m g p v w x y (equivalent a b r h) (no_second c d) = absurd (no_code p d b)
+said_once f m g p v w x y (equivalent a b r h) (first_refused other c d l) = absurd (not_refused f m other x l r.one.form)
+said_once f m g p v w x y (equivalent a b r h) (second_refused other c d l o) = absurd (not_refused g p other y o r.two.form)
+said_once f m g p v w x y (equivalent a b r h) (equivalent c d q l) = refl
+said_once f m g p v w x y (equivalent a b r h) (apart c d q o) = absurd (o (alike_once f m g p x y r q h))
+said_once f m g p v w x y (apart a b r n) (no_first d) = absurd (no_code m d a)
+said_once f m g p v w x y (apart a b r n) (no_second c d) = absurd (no_code p d b)
+said_once f m g p v w x y (apart a b r n) (first_refused other c d l) = absurd (not_refused f m other x l r.one.form)
+said_once f m g p v w x y (apart a b r n) (second_refused other c d l o) = absurd (not_refused g p other y o r.two.form)
+said_once f m g p v w x y (apart a b r n) (equivalent c d q l) = absurd (n (alike_once f m g p x y q r l))
+said_once f m g p v w x y (apart a b r n) (apart c d q o) = refl
 
 verdict_once : (f : ClassFile) (m : Method) (g : ClassFile) (p : Method) (v w : Verdict) → HasBytes m → HasBytes p → IsVerdictOn f m g p v → IsVerdictOn f m g p w → v ≡ w
 verdict_once f m g p v w x y h k = said_once f m g p v w x y (said_by f m g p v h) (said_by f m g p w k)

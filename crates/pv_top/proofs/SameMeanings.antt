@@ -1,52 +1,64 @@
--- Methods of one descriptor and one tree have the same meaning.
-use Rattle.std.proofs.Common.{◌≡◌, ◌↔◌, List, ℕ, sym, subst, ◌∙◌}
+-- Methods whose roots unfold equally in one graph have the same meaning.
+use Rattle.std.proofs.Common.{◌≡◌, ◌↔◌, ℕ, suc, ◌<◌, List, [], ◌∷◌, sym, subst}
+use Rattle.std.specs.List.{AllByRecursion}
 use Rattle.pv_value.specs.declared.descriptor.Descriptor.{Descriptor}
 use Rattle.pv_value.specs.declared.world.World.{World}
 use Rattle.pv_value.specs.declared.outcome.Input.{Input}
 use Rattle.pv_value.specs.declared.outcome.Outcome.{Outcome}
 use Rattle.pv_value.specs.declared.outcome.Val.TheVariants as val
 use Rattle.pv_value.specs.Descriptors.{IsMethodType}
+use Rattle.pv_value.specs.Worlds.{IsWorld}
 use Rattle.pv_value.specs.Inputs.{Fits}
 use Rattle.pv_value.specs.Once.{method_type_once}
 use Rattle.pv_class.specs.declared.file.ClassFile.{ClassFile}
 use Rattle.pv_class.specs.declared.file.Method.{Method}
+use Rattle.pv_pool.proofs.Formats.{IsBytes}
 use Rattle.pv_class.proofs.CodeBytes.{HasBytes}
-use Rattle.pv_frame.specs.declared.program.Program.{Program}
-use Rattle.pv_frame.proofs.CauseLaws.{one_program}
-use Rattle.pv_machine.specs.Machine.{IsProgram, RunEnds, Ends, AreEquivalentMethods}
-use Rattle.pv_graph.specs.Unfold.{Tree}
+use Rattle.pv_machine.specs.Machine.{IsProgram, Ends, AreEquivalentMethods}
+use Rattle.pv_graph.specs.Graphs.{Graph, form_at}
 use Rattle.pv_denote.specs.Denote.{outside}
-use Rattle.pv_denote.specs.TreeValues.{TreeValue}
-use Rattle.pv_top.specs.Built.{IsBuilt}
-use Rattle.pv_top.specs.Roots.{HasTree, returning}
-use Rattle.pv_top.proofs.Meanings.{program_ends}
+use Rattle.pv_denote.specs.Meaning.{Value}
+use Rattle.pv_denote.proofs.Simulated.{unfolds_value}
+use Rattle.pv_equations.specs.Equations.{Values, AreEquations}
+use Rattle.pv_equations.proofs.Law.{solvable}
+use Rattle.pv_loops.specs.declared.forest.TheConstants.{MAX_DEPTH}
+use Rattle.pv_runs.specs.Methods.{flow_of}
+use Rattle.pv_runs.proofs.Ranked.{method_ranked}
+use Rattle.pv_runs.proofs.Converted.{method_converts}
+use Rattle.pv_build.specs.Straight.{none_of}
+use Rattle.pv_build.specs.Conversion.{Form, IsRootOf}
+use Rattle.pv_top.specs.Roots.{HaveRoots, Alike}
 
-pub one_value : (a b : Tree) → returning a ≡ returning b → a ≡ b
-one_value a b e = cc e
+bytes_all : (bytes : List ℕ) → IsBytes bytes → AllByRecursion (λ b. b < 256) bytes
+bytes_all [] h = tt
+bytes_all (b ∷ bytes) h = (h 0, bytes_all bytes (λ i. h (suc i)))
 
-program_of : (file : ClassFile) (m : Method) (t : Tree) (b : IsBuilt file m t) → IsProgram file m b.program
-program_of file m t b = record { of_method = b.accepted.of_method; typed = b.accepted.typed }
+program_of : (file : ClassFile) (m : Method) (a : Form file m) → IsProgram file m a.program
+program_of file m a = record { of_method = a.accepted.of_method; typed = a.accepted.typed }
 
--- a method ends exactly where the root of its tree does
-built_ends : (file : ClassFile) (m : Method) (t : Tree) (d : Descriptor) (w : World) (x : Input) (o : Outcome) → HasBytes m → IsBuilt file m t → IsMethodType m.desc d → Fits d x → Ends file m w x o ↔ TreeValue w x (returning t) outside (val.End o)
-built_ends file m t d w x o bytes b is fits =
-    let p = b.program in
-    let same : d ≡ p.desc = method_type_once m.desc d p.desc is b.accepted.of_method.desc in
-    let ends = program_ends p t w x o b.straight (subst (λ (e : Descriptor). Fits e x) same fits) in (
-      λ e. let one : e.program ≡ p = one_program file m e.program p bytes e.is.of_method b.accepted.of_method in ends.0 (subst (λ (q : Program). RunEnds q w x o) one e.run),
-      λ v. record { program = p; is = program_of file m t b; run = ends.1 v },
-    )
+-- what solves the equations of a method that isn't refused
+pub solved : (file : ClassFile) (m : Method) (a : Form file m) → (v : Values) × AreEquations (flow_of a.program a.frames a.blocks a.forest) v
+solved file m a =
+    let r = method_ranked file m a.program a.frames a.blocks a.forest a.shaped in
+    solvable (flow_of a.program a.frames a.blocks a.forest) r.rank r.top MAX_DEPTH _ r.slots r.shape r.compact r.finite r.below r.deep
 
-pub same_meaning : (file : ClassFile) (m : Method) (other : ClassFile) (p : Method) (t : Tree) → p.desc ≡ m.desc → HasBytes m → HasBytes p → HasTree file m t → HasTree other p t → AreEquivalentMethods file m other p
-same_meaning file m other p t alike fm fp a b =
-    let one : b.value ≡ a.value = one_value b.value a.value (sym b.tree ∙ a.tree) in
-    let built : IsBuilt other p a.value = subst (λ (v : Tree). IsBuilt other p v) one b.built in
-    record {
-      first = (a.built.program, program_of file m a.value a.built);
-      second = (b.built.program, program_of other p b.value b.built);
-      same = λ d is w fine input fits o.
-          let is_other : IsMethodType p.desc d = subst (λ (text : List ℕ). IsMethodType text d) (sym alike) is in
-          let first = built_ends file m a.value d w input o fm a.built is fits in
-          let second = built_ends other p a.value d w input o fp built is_other fits in
-          (λ e. second.1 (first.0 e), λ e. first.1 (second.0 e));
-    }
+-- the root has the outcomes of the method
+root_ends : (g : Graph) (root : ℕ) (file : ClassFile) (m : Method) (r : IsRootOf g root file m) (d : Descriptor) (w : World) (x : Input) (o : Outcome) → HasBytes m → IsMethodType m.desc d → IsWorld w → Fits d x
+    → Value g w x root outside (val.End o) ↔ Ends file m w x o
+root_ends g root file m r d w x o bytes is fine fits =
+    let a = r.form in
+    let same : d ≡ a.program.desc = method_type_once m.desc d a.program.desc is a.accepted.of_method.desc in
+    let v = solved file m a in
+    method_converts file m a.program a.frames a.blocks a.forest a.shaped (λ code has. bytes_all code.bytes (bytes code has)) v.0 v.1 g root (none_of a.program.desc.result) (r.built v.0 v.1) w x fine (subst (λ (e : Descriptor). Fits e x) same fits) outside o
+
+pub same_meaning : (file : ClassFile) (m : Method) (other : ClassFile) (p : Method) (r : HaveRoots file m other p) → Alike r → p.desc ≡ m.desc → HasBytes m → HasBytes p → AreEquivalentMethods file m other p
+same_meaning file m other p r alike desc fm fp = record {
+  first = (r.one.form.program, program_of file m r.one.form);
+  second = (r.two.form.program, program_of other p r.two.form);
+  same = λ d is w fine input fits o.
+      let is_other : IsMethodType p.desc d = subst (λ (text : List ℕ). IsMethodType text d) (sym desc) is in
+      let first = root_ends r.graph r.root file m r.one d w input o fm is fine fits in
+      let second = root_ends r.graph r.other other p r.two d w input o fp is_other fine fits in
+      let both = unfolds_value (form_at r.graph.nodes) (form_at r.graph.nodes) w input r.root r.other outside (val.End o) alike in
+      (λ e. second.0 (both.0 (first.1 e)), λ e. first.0 (both.1 (second.1 e)));
+}

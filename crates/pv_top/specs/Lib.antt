@@ -1,7 +1,5 @@
 pub mod Statuses
 pub mod Words
-pub mod Structure
-pub mod Built
 pub mod Roots
 pub mod Verdicts
 pub mod Lines
@@ -10,6 +8,5 @@ pub mod Commands
 pub mod Judging
 pub mod Run
 pub mod Fetching
-pub mod Conversion
 pub mod Laws
 pub mod Partnering

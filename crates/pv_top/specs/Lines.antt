@@ -8,8 +8,8 @@ use Rattle.pv_class.specs.declared.fault.PoolWord.{PoolWord}
 use Rattle.pv_class.specs.declared.fault.PoolWord.TheVariants as pool
 use Rattle.pv_frame.specs.declared.cause.CauseKind.{CauseKind}
 use Rattle.pv_frame.specs.declared.cause.CauseKind.TheVariants as kind
-use Rattle.pv_top.specs.declared.reason.Reason.{Reason}
-use Rattle.pv_top.specs.declared.reason.Reason.TheVariants as reason
+use Rattle.pv_build.specs.declared.reason.Reason.{Reason}
+use Rattle.pv_build.specs.declared.reason.Reason.TheVariants as reason
 use Rattle.pv_top.specs.declared.verdict.Side.{Side}
 use Rattle.pv_top.specs.declared.verdict.Side.TheVariants as side
 use Rattle.pv_top.specs.declared.verdict.Verdict.{Verdict}

@@ -3,8 +3,8 @@
 ghost use Rattle.std.specs.Prelude.{◌≡◌, ◌++◌, ◌<◌, OnOk};
 ghost use Rattle.pv_top.specs.Lines.{shown, shown_byte, hex_digit, side_word, kind_word, reason_word, address_of, reason_text, verdict_text, line_of, line_text, pool_word, word_at, fault_text, bad_class};
 
-use crate::reason::Reason;
 use crate::verdict::{Side, Verdict};
+use pv_build::Reason;
 use pv_class::{ClassFault, Method, PoolWord};
 use pv_frame::CauseKind;
 use std::alloc::{AllocError, Global};

@@ -4,15 +4,14 @@ ghost use Rattle.std.specs.Prelude.{◌≡◌, ◌↔◌, ◌<◌, length, slice
 ghost use Rattle.pv_class.specs.declared.file.Method.{Method};
 ghost use Rattle.pv_graph.specs.Unfold.{UnfoldEqually};
 ghost use Rattle.pv_graph.specs.Graphs.{form_at};
-ghost use Rattle.pv_top.specs.Conversion.{IsWhole};
+ghost use Rattle.pv_top.specs.Roots.{IsWhole};
 ghost use Rattle.pv_top.specs.Verdicts.{HasCode};
 ghost use Rattle.pv_top.specs.Judging.{IsRead, IsVerdictAt, IsVerdictOnPlaces};
 ghost use Rattle.pv_top.specs.Partnering.{IsIndexOf};
 
-use crate::conversion::convert;
 use crate::partners::{Partners, partner_of};
-use crate::reason::{Reason, Stop};
 use pv_alike::least;
+use pv_build::{Reason, Refused, convert};
 use pv_class::ClassFile;
 use pv_graph::{Graph, NodeId};
 use pv_value::Memory;
@@ -92,13 +91,13 @@ fn verdict_with(
     let mut g = Graph::new(alloc);
     let one = match convert(alloc, first, method, &mut g) {
         Ok(root) => root,
-        Err(Stop::Reason(why)) => return Ok(Verdict::Refused(Side::First, why)),
-        Err(Stop::Memory) => return Err(Memory),
+        Err(Refused::For(why)) => return Ok(Verdict::Refused(Side::First, why)),
+        Err(Refused::Memory) => return Err(Memory),
     };
     let two = match convert(alloc, second, partner, &mut g) {
         Ok(root) => root,
-        Err(Stop::Reason(why)) => return Ok(Verdict::Refused(Side::Second, why)),
-        Err(Stop::Memory) => return Err(Memory),
+        Err(Refused::For(why)) => return Ok(Verdict::Refused(Side::Second, why)),
+        Err(Refused::Memory) => return Err(Memory),
     };
     let alike = are_alike(alloc, g, one, two)?;
     if alike {

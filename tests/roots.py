@@ -1,0 +1,272 @@
+#!/usr/bin/env python3
+"""Compares the values of roots with the machine's runs, on random methods without loops.
+
+It works on the program that `cd crates/cases && rt run < stdin` leaves. A method is a few blocks of random actions
+on ints, longs, an array, a field, a static field and a call, each of which branches on to later blocks, or returns
+or throws. For random arguments, heaps and replies of the call the program says how the machine's run of the method
+ends (`machine`) and what the value of its root is (`root`): the two lines must be the same, and None where the call
+has no reply.
+
+    tests/roots.py [SEED [METHODS [ARGUMENTS]]]      by default 1, 2000 methods, 10 lists of arguments each
+"""
+
+import os
+import random
+import subprocess
+import sys
+
+TOP = os.path.dirname(os.path.dirname(os.path.abspath(__file__)))
+PROGRAM = os.path.join(TOP, "crates", "cases", "out", "cases")
+STEPS = 100000
+
+# Of the constant pool's entries: the field f of A, an int, as a static one and as one of an object, and the method
+# f of A, without parameters and result.
+ENTRIES = "010001+'I+0C00050008+0900020009+010003+'()V+0C0005000B+0A0002000C"
+FIELD, CALL = 0x0A, 0x0D
+
+# The parameters: two ints, a long, an array of ints and an object, then locals of the method's own.
+PARAMS = "IIJ[ILA%3B"
+INTS, LONGS, ARRAY, OBJECT = [0, 1, 6, 7], [2, 8], 4, 5
+LOCALS = 10
+
+INT_OPS = [0x60, 0x64, 0x68, 0x78, 0x7A, 0x7C, 0x7E, 0x80, 0x82]
+LONG_OPS = [0x61, 0x65, 0x69, 0x7F, 0x81, 0x83]
+INT_DIVISIONS, LONG_DIVISIONS = [0x6C, 0x70], [0x6D, 0x71]
+LONG_SHIFTS = [0x79, 0x7B, 0x7D]
+UNARY = [0x74, 0x91, 0x92, 0x93]
+INT_TESTS = list(range(0x9F, 0xA5))
+ZERO_TESTS = list(range(0x99, 0x9F))
+
+
+class Block:
+    """The bytes of a block, with the places of offsets to other blocks."""
+
+    def __init__(self):
+        self.code, self.jumps = [], []
+
+    def put(self, *code):
+        self.code += code
+
+    def jump(self, op, target):
+        self.jumps.append((len(self.code), target))
+        self.put(op, 0, 0)
+
+
+def push_int(r, b, known, depth=0):
+    """Puts the code of an int on the stack."""
+    kind = r.randrange(12) if depth < 3 else r.randrange(3)
+    if kind == 0:
+        n = r.randrange(-128, 128)
+        b.put(0x10, n & 0xFF)
+    elif kind <= 2:
+        b.put(0x15, r.choice([k for k in INTS if k in known]))
+    elif kind <= 6:
+        push_int(r, b, known, depth + 1)
+        push_int(r, b, known, depth + 1)
+        b.put(r.choice(INT_DIVISIONS if r.random() < 0.1 else INT_OPS))
+    elif kind == 7:
+        push_int(r, b, known, depth + 1)
+        b.put(r.choice(UNARY))
+    elif kind == 8:
+        push_long(r, b, known, depth + 1)
+        b.put(0x88)
+    elif kind == 9:
+        push_long(r, b, known, depth + 1)
+        push_long(r, b, known, depth + 1)
+        b.put(0x94)
+    elif kind == 10:
+        b.put(*r.choice([(0xB2, 0, FIELD), (0x19, OBJECT, 0xB4, 0, FIELD), (0x19, ARRAY, 0xBE)]))
+    else:
+        b.put(0x19, ARRAY)
+        push_index(r, b, known, depth + 1)
+        b.put(0x2E)
+
+
+def push_index(r, b, known, depth):
+    """Puts the code of an index, most often a small one."""
+    if r.random() < 0.8:
+        b.put(r.choice([0x03, 0x04, 0x05]))
+    else:
+        push_int(r, b, known, depth)
+
+
+def push_long(r, b, known, depth=0):
+    """Puts the code of a long on the stack."""
+    kind = r.randrange(6) if depth < 3 else r.randrange(2)
+    if kind <= 1:
+        b.put(0x16, r.choice([k for k in LONGS if k in known]))
+    elif kind == 2:
+        push_int(r, b, known, depth + 1)
+        b.put(0x85)
+    elif kind == 3:
+        push_long(r, b, known, depth + 1)
+        push_int(r, b, known, depth + 1)
+        b.put(r.choice(LONG_SHIFTS))
+    else:
+        push_long(r, b, known, depth + 1)
+        push_long(r, b, known, depth + 1)
+        b.put(r.choice(LONG_DIVISIONS if r.random() < 0.1 else LONG_OPS))
+
+
+def act(r, b, known):
+    """Puts the code of one statement."""
+    kind = r.randrange(10)
+    if kind <= 3:
+        push_int(r, b, known)
+        k = r.choice(INTS)
+        b.put(0x36, k)
+        known.add(k)
+    elif kind == 4:
+        push_long(r, b, known)
+        k = r.choice(LONGS)
+        b.put(0x37, k)
+        known.add(k)
+    elif kind == 5:
+        b.put(0x84, r.choice([k for k in INTS if k in known]), r.randrange(256))
+    elif kind == 6:
+        push_int(r, b, known)
+        b.put(0xB3, 0, FIELD)
+    elif kind == 7:
+        b.put(0x19, OBJECT)
+        push_int(r, b, known)
+        b.put(0xB5, 0, FIELD)
+    elif kind == 8:
+        b.put(0x19, ARRAY)
+        push_index(r, b, known, 1)
+        push_int(r, b, known)
+        b.put(0x4F)
+    else:
+        b.put(*r.choice([(0xB8, 0, CALL), (0x00,), (0x15, 0, 0x59, 0x58), (0x15, 0, 0x15, 1, 0x5F, 0x57, 0x57)]))
+
+
+def method(r):
+    """The bytes of a random method's code, whose branches go forward."""
+    count = r.randrange(1, 7)
+    blocks = [Block() for _ in range(count + 1)]
+    # what each block may read: what all blocks that lead to it know
+    known = [None] * (count + 1)
+    known[0] = {0, 1, 2, ARRAY, OBJECT}
+
+    def leads(k, names):
+        known[k] = set(names) if known[k] is None else known[k] & names
+
+    for k, b in enumerate(blocks):
+        names = known[k]
+        if names is None:
+            names = {0, 1, 2, ARRAY, OBJECT}
+        for _ in range(r.randrange(4)):
+            act(r, b, names)
+        later = list(range(k + 1, count + 1))
+        end = r.randrange(8)
+        if not later or end == 0:
+            if r.random() < 0.2:
+                b.put(0x19, OBJECT, 0xBF)
+            else:
+                push_int(r, b, names)
+                b.put(0xAC)
+            continue
+        if end == 1:
+            targets = [r.choice(later)]
+            b.jump(0xA7, targets[0])
+        elif end == 2:
+            targets = [r.choice(later) for _ in range(3)]
+            push_int(r, b, names)
+            b.put(0x10, 3, 0x70)
+            b.jumps.append((len(b.code), targets))
+            b.put(0xAB)
+        elif end <= 5:
+            targets = [r.choice(later), k + 1]
+            push_int(r, b, names)
+            push_int(r, b, names)
+            b.jump(r.choice(INT_TESTS), targets[0])
+        elif end == 6:
+            targets = [r.choice(later), k + 1]
+            push_int(r, b, names)
+            b.jump(r.choice(ZERO_TESTS), targets[0])
+        else:
+            targets = [r.choice(later), k + 1]
+            b.put(0x19, OBJECT)
+            b.jump(r.choice([0xC6, 0xC7]), targets[0])
+        for target in targets:
+            leads(target, names)
+    return assembled(blocks)
+
+
+def assembled(blocks):
+    """The code of blocks one after another, with the offsets of their jumps."""
+    starts, at = [], 0
+    for b in blocks:
+        starts.append(at)
+        at += len(b.code)
+        for place, targets in b.jumps:
+            if b.code[place] == 0xAB:
+                at += -(at - len(b.code) + place + 1) % 4 + 8 + 8 * (len(targets) - 1)
+    code = []
+    for start, b in zip(starts, blocks):
+        assert len(code) == start
+        for k, byte in enumerate(b.code):
+            found = [t for place, t in b.jumps if place == k]
+            code.append(byte)
+            if not found:
+                continue
+            here = len(code) - 1
+            if byte == 0xAB:
+                code += [0] * (-len(code) % 4)
+                words = [starts[found[0][0]] - here, len(found[0]) - 1]
+                for key, target in enumerate(found[0][1:]):
+                    words += [key, starts[target] - here]
+                for word in words:
+                    code += list((word & 0xFFFFFFFF).to_bytes(4, "big"))
+            else:
+                offset = starts[found[0]] - here
+                b.code[k + 1 : k + 3] = list((offset & 0xFFFF).to_bytes(2, "big"))
+    return bytes(code)
+
+
+def setting(r):
+    """Arguments, and what is so of the world and of the heap."""
+    ints = [r.choice([0, 1, -1, 5, 2**31 - 1, -(2**31), r.randrange(-(2**31), 2**31)]) for _ in range(2)]
+    long = r.choice([0, 1, -1, 2**63 - 1, -(2**63), r.randrange(-(2**63), 2**63)])
+    array, thing = (0 if r.random() < 0.05 else n for n in (3, 4))
+    args = f"{ints[0]} {ints[1]} {long}L {array}R {thing}R"
+    steps = [f"length 3 {r.choice([0, 2, 3, 3, 3, 3, 3, 3])}"]
+    for place in ("static:A:f:I", "field:4:A:f:I", "int:3:0", "int:3:1"):
+        if r.random() < 0.5:
+            steps.append(f"put {place} {r.randrange(-9, 10)}")
+    if r.random() < 0.8:
+        reply = r.choice([f"throws A f ()V {r.randrange(1, 9)}", f"returns A f ()V - static:A:f:I {r.randrange(-9, 10)}"])
+        steps.append(reply)
+    steps += [f"get {place}" for place in ("static:A:f:I", "field:4:A:f:I", "int:3:0", "int:3:1", "int:3:2")]
+    return args, "; ".join(steps)
+
+
+def main():
+    given = [int(word) for word in sys.argv[1:]]
+    seed, count, lists = given + [1, 2000, 10][len(given):]
+    if not os.access(PROGRAM, os.X_OK):
+        sys.exit("no program: run 'cd crates/cases && rt run < stdin' first")
+    r = random.Random(seed)
+    lines = []
+    for _ in range(count):
+        text = f"pool=6,{ENTRIES} f,({PARAMS})I,0009,40,{LOCALS},{method(r).hex().upper()}"
+        for _ in range(lists):
+            args, steps = setting(r)
+            lines.append(f"{STEPS} {args}; {text}; {steps}")
+    given = "".join(f"machine {line}\nroot {line}\n" for line in lines)
+    ran = subprocess.run([PROGRAM], input=given, capture_output=True, text=True)
+    answers = ran.stdout.splitlines()
+    pairs = list(zip(answers[::2], answers[1::2]))
+    same = lambda m, v: m == v or (m == "running" and v == "None")
+    wrong = [(line, pair) for line, pair in zip(lines, pairs) if not same(*pair)]
+    for line, (run, value) in wrong[:5]:
+        print(line, "|", run, "|", value)
+    kinds = {}
+    for run, _ in pairs:
+        kind = run.split("(")[0].split(" at ")[0]
+        kinds[kind] = kinds.get(kind, 0) + 1
+    print(f"seed {seed}: {len(pairs)} of {len(lines)} runs of {count} methods, {len(wrong)} differ; {kinds}")
+    sys.exit(1 if wrong or len(pairs) != len(lines) else 0)
+
+
+if __name__ == "__main__":
+    main()

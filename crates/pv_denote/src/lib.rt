@@ -23,3 +23,4 @@ mod strict;
 mod word;
 
 pub use nodes::den;
+pub use word::{Operands, Word, gives, takes};

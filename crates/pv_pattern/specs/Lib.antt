@@ -4,3 +4,6 @@ pub mod Instances
 pub mod Laws
 pub mod Seen
 pub mod Conditions
+pub mod Tables
+pub mod Found
+pub mod Binding

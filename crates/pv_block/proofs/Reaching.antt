@@ -14,7 +14,7 @@ use Rattle.pv_block.specs.declared.held.Held.{Held}
 use Rattle.pv_block.specs.Standing.{Entry, HoldsFor}
 use Rattle.pv_block.specs.Acting.{Acts, ActsAlong}
 
--- in parts, m actions are left from place j on, of the n from place k on: what is held in nodes by now stands for what is held there
+-- in parts, m actions are left from place j on, of the n from place k on: what is held in nodes after them stands for what is held there
 abbrev pub Reaches : Program → ℕ → ℕ → ℕ → ℕ → List Node → Held → List Node → Held → Type 0
 Reaches p n k m j old before new now = (at : Entry) (h g : parts.Held) → HoldsFor at old before h → acted_along p n k h ≡ Some g → (i : parts.Held) × HoldsFor at new now i × (acted_along p m j i ≡ Some g)
 

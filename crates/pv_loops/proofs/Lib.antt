@@ -17,7 +17,7 @@ mod Surrounding
 mod Ordering
 mod Weights
 mod Ranking
-mod Unique
+pub mod Unique
 mod Walking
 mod Deciding
 mod Descending

@@ -4,8 +4,8 @@ use crate::answers::{Answer, NoAnswer};
 use crate::bench::Bench;
 use crate::pools::Asked;
 use crate::{
-    bases, classes, codes, flows, frames, graphs, leasts, loops, machine, outside, pools, roots,
-    runs, trees, values,
+    axioms, bases, classes, codes, flows, frames, graphs, leasts, loops, machine, outside, pools,
+    roots, runs, trees, values,
 };
 use std::rt::Files;
 use std::thread::Threads;
@@ -45,6 +45,9 @@ pub fn answer<R: Files + Threads + Sync>(rt: &R, bench: &Bench, line: &str) -> A
         "graph" => graphs::graph(bench, rest),
         "base" => bases::base(bench, rest),
         "chain" => leasts::chain(bench, rest),
+
+        "axioms" => axioms::axioms(bench),
+        "axiom" => axioms::equation(bench, rest),
 
         "loops" => loops::loops(bench, rest),
         "blocks" => flows::flow(bench, rest),

@@ -1,4 +1,4 @@
-//! Calls of `pv_graph`, and the steps of `pv_denote` and `pv_alike`.
+//! Calls of `pv_graph`, and the steps of `pv_denote`, `pv_alike` and `pv_pattern`.
 //!
 //! A line `graph STEP; ..` does steps on one graph, empty and open at first, and answers what each answers.
 //!
@@ -14,6 +14,7 @@
 //! | `settled NODE ASSUMED ..` | whether the node is settled with these nodes assumed to end, and, of none, on a prepared copy |
 //! | `least ..`, `become ..` | the least graph of two nodes: see `leasts` |
 //! | `den ..`, `at ..` | what a node means: see `meanings` |
+//! | `instance ..` | whether two nodes are an instance of an axiom: see `axioms` |
 //! | `say args NUMBER ..`, `say STEP` | `-`: sets the arguments, or says a step of `settings`, for `den` and `at` from there on |
 //!
 //! An OPERATION is its name with its parameters, as `int 5`, `param 0 I` (the first argument, of sort I), `theta 1`,
@@ -24,6 +25,7 @@ ghost use Rattle.std.specs.Prelude.{◌≡◌, ◌<◌, ◌∷◌, [], true, len
 ghost use Rattle.pv_graph.specs.Calls.{AreNodes, MayAdd};
 
 use crate::answers::{Answer, List, NoAnswer, said, shown};
+use crate::axioms::instance_text;
 use crate::bench::{Bench, named, number, words};
 use crate::leasts::{become_least, least_text};
 use crate::meanings::Meanings;
@@ -64,6 +66,7 @@ fn graph_step(alloc: Global, graph: &mut Graph, meanings: &mut Meanings, words: 
         ["at", place, ref question @ ..] => meanings.at(alloc, graph, place, question),
         ["least", first, second] => least_text(alloc, graph, first, second),
         ["become", first, second] => become_least(alloc, graph, first, second),
+        ["instance", ref question @ ..] => instance_text(alloc, graph, question),
         ["count" | "node" | "free" | "settled", ..] => asked(alloc, graph, words),
         _ => change(alloc, graph, words),
     }
@@ -201,8 +204,8 @@ fn settled(alloc: Global, graph: &Graph, n: NodeId, assumed: &[NodeId]) -> Answe
     shown(alloc, (searched, copy.settled_now(n)))
 }
 
-// A prepared copy.
-fn prepared(alloc: Global, graph: &Graph) -> Result<Graph, Memory>
+/// A prepared copy.
+pub fn prepared(alloc: Global, graph: &Graph) -> Result<Graph, Memory>
     ensures prepared { IfOk result (λ copy. copy.is_prepared ≡ true) }
     ensures len { IfOk result (λ copy. length copy.nodes ≡ length graph.now.nodes) }
 {

@@ -14,6 +14,7 @@
 #![tactic(auto)]
 
 mod answers;
+mod axioms;
 mod bases;
 mod bench;
 mod calls;

@@ -1,4 +1,5 @@
-//! Calls of `pv_pattern` on the tables of `pv_scalar`, `pv_loopax` and `pv_heapax`: two lines, and a step of a line `graph`.
+//! Calls of `pv_pattern` on the tables of `pv_scalar`, `pv_loopax` and `pv_heapax`: two lines, and a step of a line
+//! `graph`.
 //!
 //! | Line | Answer |
 //! |---|---|
@@ -11,10 +12,10 @@
 //!
 //! NODES are numbers with commas between them, `-` for none: the kids of a family, and then a node for each variable.
 //!
-//! In an equation `x0` is a variable and `k1` one for a constant, numbered by their first places in the left side; `s0` and
-//! `s1` are symbols and `K0` and `K1` kinds. `fold(..)` is the constant of that value, and `nar_s0(..)` or `nar_K0(..)` the
-//! narrowing to the type of a symbol or of a kind. The conditions are `[x0]` for settled, `{d:x0}` for a node in which the
-//! depth isn't free, and what differs.
+//! In an equation `x0` is a variable and `k1` one for a constant, numbered by their first places in the left side; `s0`
+//! and `s1` are symbols and `K0` and `K1` kinds. `fold(..)` is the constant of that value, and `nar_s0(..)` or
+//! `nar_K0(..)` the narrowing to the type of a symbol or of a kind. The conditions are `[x0]` for settled, `{d:x0}` for a
+//! node in which the depth isn't free, and what differs.
 
 ghost use Rattle.std.specs.Prelude.{IfOk, IfSome, map};
 ghost use Rattle.std.specs.List.{AllByRecursion};

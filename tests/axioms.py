@@ -194,7 +194,7 @@ class Line:
         if sort == "N":
             return self.count(size, settled, banned)
         op, sorts = self.operation(sort, settled)
-        return self.node(op, *[more(s) for s in sorts]) if op else self.leaf(sort, settled, banned)
+        return self.node(op, *[more(s) for s in sorts])
 
     def leaf(self, sort, settled, banned):
         r = self.r
@@ -237,7 +237,7 @@ class Line:
         reads += [("getfield " + f, "HA") for f in FIELDS if field_sort(f) == sort]
         reads += [(f"load {k}", "HAI") for k, s in KINDS.items() if s == sort]
         reads += [(f"callres {m}", "H" + t) for m, (t, s) in METHODS.items() if s == sort]
-        plain = [(op, takes) for op, (takes, gives) in SORTS.items() if gives == sort and takes and "s" not in takes]
+        plain = [(op, kids) for op, (kids, gives) in SORTS.items() if gives == sort and kids and "s" not in kids]
         return r.choice(plain if plain and r.random() < 0.7 else reads)
 
 

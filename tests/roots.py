@@ -1,13 +1,14 @@
 #!/usr/bin/env python3
-"""Compares the values of roots with the machine's runs, on random methods without loops.
+"""Compares the values of roots with the machine's runs, on random methods.
 
 It works on the program that `cd crates/cases && rt run < stdin` leaves. A method is a few blocks of random actions
 on ints, longs, an array, a field, a static field and a call, each of which branches on to later blocks, or returns
-or throws. For random arguments, heaps and replies of the call the program says how the machine's run of the method
-ends (`machine`) and what the value of its root is (`root`): the two lines must be the same, and None where the call
-has no reply.
+or throws. With --loops it has loops up to three deep, tested at the top, at the bottom, or entered at a test below,
+which are left from inside too; each iteration counts itself in the static field. For random arguments, heaps and
+replies of the call the program says how the machine's run of the method ends (`machine`) and what the value of its
+root is (`root`): the two lines must be the same, and None where the call has no reply.
 
-    tests/roots.py [SEED [METHODS [ARGUMENTS]]]      by default 1, 2000 methods, 10 lists of arguments each
+    tests/roots.py [--loops] [SEED [METHODS [ARGUMENTS]]]      by default 1, 2000 methods, 10 lists of arguments each
 """
 
 import os
@@ -17,7 +18,7 @@ import sys
 
 TOP = os.path.dirname(os.path.dirname(os.path.abspath(__file__)))
 PROGRAM = os.path.join(TOP, "crates", "cases", "out", "cases")
-STEPS = 100000
+STEPS = 3000
 
 # Of the constant pool's entries: the field f of A, an int, as a static one and as one of an object, and the method
 # f of A, without parameters and result.
@@ -28,6 +29,8 @@ FIELD, CALL = 0x0A, 0x0D
 PARAMS = "IIJ[ILA%3B"
 INTS, LONGS, ARRAY, OBJECT = [0, 1, 6, 7], [2, 8], 4, 5
 LOCALS = 10
+# A loop's counter, by its depth, and how often a loop's body has begun.
+COUNTERS, COUNT = [10, 11, 12], 13
 
 INT_OPS = [0x60, 0x64, 0x68, 0x78, 0x7A, 0x7C, 0x7E, 0x80, 0x82]
 LONG_OPS = [0x61, 0x65, 0x69, 0x7F, 0x81, 0x83]
@@ -108,9 +111,11 @@ def push_long(r, b, known, depth=0):
         b.put(r.choice(LONG_DIVISIONS if r.random() < 0.1 else LONG_OPS))
 
 
-def act(r, b, known):
-    """Puts the code of one statement."""
+def act(r, b, known, counted=False):
+    """Puts the code of one statement; where iterations are counted, it leaves the static field."""
     kind = r.randrange(10)
+    if counted and kind == 6:
+        kind = 7
     if kind <= 3:
         push_int(r, b, known)
         k = r.choice(INTS)
@@ -192,6 +197,106 @@ def method(r):
     return assembled(blocks)
 
 
+class Looped:
+    """A method with loops: its blocks, each of which goes on to the next."""
+
+    def __init__(self, r):
+        self.r, self.blocks = r, [Block()]
+        self.known = set(INTS + LONGS)
+
+    def here(self):
+        """A new block, by its number."""
+        self.blocks.append(Block())
+        return len(self.blocks) - 1
+
+    def last(self):
+        return self.blocks[-1]
+
+    def jump_if(self):
+        """A jump to a block that isn't known yet, where a test of two ints or of a reference holds."""
+        b = self.last()
+        if self.r.random() < 0.8:
+            push_int(self.r, b, self.known, 2)
+            push_int(self.r, b, self.known, 2)
+            return b, self.r.choice(INT_TESTS)
+        b.put(0x19, OBJECT)
+        return b, self.r.choice([0xC6, 0xC7])
+
+    def statements(self, depth, leave):
+        """A few statements inside so many loops; `leave` has for each of these the jumps out of it."""
+        for _ in range(self.r.randrange(1, 3)):
+            kind = self.r.randrange(10 if depth == 0 else 14)
+            if kind <= 3 or kind >= 10:
+                act(self.r, self.last(), self.known, counted=True)
+            elif kind <= 6:
+                b, op = self.jump_if()
+                self.here()
+                act(self.r, self.last(), self.known, counted=True)
+                b.jump(op, self.here())
+            elif kind == 8 and 0 < depth < 3:
+                self.loop(depth, leave)
+            elif leave:
+                b, op = self.jump_if()
+                self.r.choice(leave).append((b, len(b.code), op))
+                b.put(op, 0, 0)
+                self.here()
+            elif kind == 9 and self.r.random() < 0.3:
+                b, op = self.jump_if()
+                self.here()
+                push_int(self.r, self.last(), self.known)
+                self.last().put(0xAC)
+                b.jump(op, self.here())
+
+    def body(self, depth, leave):
+        """What a loop does in an iteration, which is counted."""
+        self.last().put(0x84, COUNT, 1, 0x15, COUNT, 0xB3, 0, FIELD)
+        self.statements(depth + 1, leave)
+        self.last().put(0x84, COUNTERS[depth], 0xFF)
+
+    def loop(self, depth, leave):
+        counter, mine = COUNTERS[depth], []
+        self.last().put(0x10, self.r.randrange(4, 8) if depth == 0 else self.r.randrange(1, 4), 0x36, counter)
+        kind = self.r.randrange(3)
+        if kind == 0:
+            test = self.here()
+            b = self.last()
+            b.put(0x15, counter)
+            self.here()
+            self.body(depth, leave + [mine])
+            self.last().jump(0xA7, test)
+            after = self.here()
+            b.jump(0x9E, after)
+        elif kind == 1:
+            b = self.last()
+            first = self.here()
+            self.body(depth, leave + [mine])
+            b.jump(0xA7, self.here())
+            self.last().put(0x15, counter)
+            self.last().jump(0x9D, first)
+            after = self.here()
+        else:
+            first = self.here()
+            self.body(depth, leave + [mine])
+            self.last().put(0x15, counter)
+            self.last().jump(0x9D, first)
+            after = self.here()
+        for block, place, op in mine:
+            block.jumps.append((place, after))
+
+
+def looped(r):
+    """The bytes of a random method's code with loops."""
+    m = Looped(r)
+    b = m.last()
+    b.put(0x1A, 0x36, 6, 0x1B, 0x36, 7, 0x20, 0x37, 8, 0x03, 0x36, COUNT)
+    m.statements(0, [])
+    m.loop(0, [])
+    m.statements(0, [])
+    push_int(r, m.last(), m.known)
+    m.last().put(0xAC)
+    return assembled(m.blocks)
+
+
 def assembled(blocks):
     """The code of blocks one after another, with the offsets of their jumps."""
     starts, at = [], 0
@@ -240,15 +345,23 @@ def setting(r):
     return args, "; ".join(steps)
 
 
+def iterations(run):
+    """How often a loop's body has begun, by the static field at the end of a run."""
+    texts = run.split("; ")
+    return int(texts[1]) if len(texts) > 1 and texts[1].lstrip("-").isdigit() else 0
+
+
 def main():
-    given = [int(word) for word in sys.argv[1:]]
+    loops = sys.argv[1:2] == ["--loops"]
+    given = [int(word) for word in sys.argv[1 + loops:]]
     seed, count, lists = given + [1, 2000, 10][len(given):]
     if not os.access(PROGRAM, os.X_OK):
         sys.exit("no program: run 'cd crates/cases && rt run < stdin' first")
     r = random.Random(seed)
     lines = []
     for _ in range(count):
-        text = f"pool=6,{ENTRIES} f,({PARAMS})I,0009,40,{LOCALS},{method(r).hex().upper()}"
+        code = looped(r) if loops else method(r)
+        text = f"pool=6,{ENTRIES} f,({PARAMS})I,0009,40,{LOCALS + 4 * loops},{code.hex().upper()}"
         for _ in range(lists):
             args, steps = setting(r)
             lines.append(f"{STEPS} {args}; {text}; {steps}")
@@ -265,6 +378,9 @@ def main():
         kind = run.split("(")[0].split(" at ")[0]
         kinds[kind] = kinds.get(kind, 0) + 1
     print(f"seed {seed}: {len(pairs)} of {len(lines)} runs of {count} methods, {len(wrong)} differ; {kinds}")
+    if loops:
+        many = sum(1 for run, _ in pairs if iterations(run) > 3)
+        print(f"{many} end after more than three iterations")
     sys.exit(1 if wrong or len(pairs) != len(lines) else 0)
 
 

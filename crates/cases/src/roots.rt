@@ -2,7 +2,7 @@
 //!
 //! | Line | Answer |
 //! |---|---|
-//! | `root FUEL NUMBER ..; METHOD ..; STEP; ..` | the value of the root of the first of these methods, with this fuel, at these arguments: as `machine` says how the method ends, or `None` where it has no value; or the reason why it has no root |
+//! | `root FUEL NUMBER ..; METHOD ..; STEP; ..` | the value of the root of the first of these methods, with this fuel, at these arguments: as `machine` says how the method ends, or `None` where it has no value; or the cause for which it has no root |
 //!
 //! A METHOD and a STEP are as those of `machine`.
 
@@ -13,8 +13,9 @@ use crate::machine::{end_text, setting_of};
 use crate::samples::class_of;
 use crate::settings::Setting;
 use crate::values::read_nums;
-use pv_build::{Reason, Refused, convert};
+use pv_build::convert;
 use pv_denote::den;
+use pv_frame::Refused;
 use pv_graph::{Graph, NodeId};
 use pv_value::{Input, Val};
 use std::alloc::Global;
@@ -29,15 +30,12 @@ pub fn root(bench: &Bench, rest: &str) -> Answer {
     let (methods, setting) = rest.split_once(';').unwrap_or((rest, ""));
     let class = with_code(alloc, &class_of(bench, &words(alloc, methods)?)?)?;
     let mut graph = Graph::new(alloc);
-    // a graph is one, as its length says
-    let _none = graph.len();
     match convert(alloc, &class, 0, &mut graph) {
         Ok(root) => value_of(alloc, graph, root, how, setting),
-        Err(Refused::For(Reason::Met(cause))) => {
+        Err(Refused::Cause(cause)) => {
             let (kind, at) = (cause.kind, cause.at);
             Ok(format!(in alloc; "{kind:?} at {at}")?)
         }
-        Err(Refused::For(Reason::NotBuilt)) => said(alloc, "NotBuilt"),
         Err(Refused::Memory) => Err(NoAnswer::Memory),
     }
 }

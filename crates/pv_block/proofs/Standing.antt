@@ -8,8 +8,8 @@ use Rattle.pv_graph.specs.Graphs.{Graph}
 use Rattle.pv_equations.specs.Exp.{Exp, Exps, Over, made}
 use Rattle.pv_equations.specs.Flow.{Part, Parts, NoPart, More, put, put_all}
 use Rattle.pv_terms.specs.declared.names.Named.{Named}
-use Rattle.pv_terms.specs.Reads.{IsNoTheta, Reads, ReadAll, Stand}
-use Rattle.pv_terms.specs.Terms.{Grows, ReadsOver}
+use Rattle.pv_terms.specs.Reads.{Reads, ReadAll, Stand}
+use Rattle.pv_terms.specs.Terms.{IsFlat, Grows, ReadsOver}
 use Rattle.pv_terms.proofs.Reading.{standing_reads, extends_stand}
 use Rattle.pv_runs.specs.Held as parts
 use Rattle.pv_block.specs.declared.held.Cell.{Cell}
@@ -17,8 +17,12 @@ use Rattle.pv_block.specs.Standing.{Entry, IsEntered, StandsFor, AllStand, CellS
 
 -- ---- simple operations
 
-pub simple_no_theta : (o : Op) → is_simple o ≡ true → IsNoTheta o
-simple_no_theta o e d is = let z : is_simple (op.Theta d) ≡ true = subst (λ (o : Op). is_simple o ≡ true) is e in absurd (cc)
+pub simple_flat : (o : Op) → is_simple o ≡ true → IsFlat o
+simple_flat (op.Theta d) e = absurd (cc)
+simple_flat (op.Eval d) e = absurd (cc)
+simple_flat (op.Pass d) e = absurd (cc)
+simple_flat (op.Shift d) e = absurd (cc)
+simple_flat o e = refl
 
 simple_made : (o : Op) (es : Exps) → is_simple o ≡ true → made o es ≡ Over o es
 unfolding made

@@ -53,9 +53,12 @@ pub record HoldsFor (at : Entry) (nodes : List Node) (c : Held) (h : parts.Held)
   pub clear : StandsFor at nodes c.clear clear_part
   pub start : StandsFor at nodes c.start (Slot 0)
 
--- the operation is made as it is written: it is neither a theta nor `both`
+-- the operation has no depth, and is made as it is written: it isn't `both`
 abbrev pub is_simple : Op → Bool
 is_simple (op.Theta d) = false
+is_simple (op.Eval d) = false
+is_simple (op.Pass d) = false
+is_simple (op.Shift d) = false
 is_simple op.Both = false
 is_simple o = true
 

@@ -1,8 +1,6 @@
 -- The frame with which a method begins, and what is held there.
-use Rattle.std.proofs.Common.{◌≡◌, ℕ, zero, suc, ◌-◌, ◌<◌, Bool, true, false, List, [], ◌∷◌, ◌++◌, length, replicate, get_or, Option, Some, slice_get, ◌⊎◌, inl, inr, refl, sym, ap, ◌∙◌, subst}
+use Rattle.std.proofs.Common.{◌≡◌, ℕ, zero, suc, ◌-◌, Bool, true, false, List, [], ◌∷◌, ◌++◌, length, replicate, Some, slice_get, ◌⊎◌, inl, inr, refl, sym, ap, ◌∙◌, subst}
 use Rattle.std.specs.List.{AllZip, flat_map}
-use Rattle.std.proofs.lemmas.List.{length-map}
-use Rattle.std.proofs.lemmas.Option.{slice_get_read}
 use Rattle.pv_value.specs.declared.descriptor.JType.{JType}
 use Rattle.pv_value.specs.declared.descriptor.JType.TheVariants as jtype
 use Rattle.pv_frame.specs.declared.sort.Sort.{Sort}
@@ -13,7 +11,6 @@ use Rattle.pv_frame.specs.Frames.{sorts_of, this_sorts, passed_to, padded_sorts,
 use Rattle.pv_frame.proofs.FrameLaws.{some_of}
 use Rattle.pv_frame.proofs.Inferred.{reached_frame}
 use Rattle.pv_flow.specs.declared.block.Block.{Block}
-use Rattle.pv_flow.specs.Edges.{targets_of}
 use Rattle.pv_flow.proofs.Flows.{entry_block}
 use Rattle.pv_graph.specs.declared.node.Node.{Node}
 use Rattle.pv_graph.specs.declared.node.Op.{Op}
@@ -21,19 +18,19 @@ use Rattle.pv_graph.specs.declared.node.Op.TheVariants as op
 use Rattle.pv_graph.specs.Graphs.{Graph}
 use Rattle.pv_graph.specs.Ops.{sort_over}
 use Rattle.pv_equations.specs.Exp.{Over, NoExp}
+use Rattle.pv_terms.specs.declared.names.Named.{Named}
 use Rattle.pv_terms.specs.Reads.{Reads}
 use Rattle.pv_runs.specs.Entries.{param_ops, passed_ops, op_at, start_op}
 use Rattle.pv_block.specs.declared.held.Cell.{Cell}
 use Rattle.pv_block.specs.declared.ran.State.{State}
-use Rattle.pv_block.specs.declared.ran.Ran.{Ran}
 use Rattle.pv_block.specs.Sorted.{op_sort}
 use Rattle.pv_block.specs.Ran.{IsStateOf}
 use Rattle.pv_build.specs.declared.method.Method.{Method}
 use Rattle.pv_build.specs.States.{IsKnown, AreOpsOf, StartCellsRead, ReadsStart}
-use Rattle.pv_build.specs.Made.{IsMethod, IsNext, BeginsBlock, ReadsBlock}
+use Rattle.pv_build.specs.Stages.{IsMethod}
+use Rattle.pv_build.specs.Opening.{BeginsBlock}
 use Rattle.pv_build.proofs.Slotted.{turn_local}
 use Rattle.pv_build.proofs.Stating.{state_reads}
-use Rattle.pv_build.proofs.Flowing.{around_is}
 
 -- ---- the operations have the sorts of what is passed
 
@@ -104,47 +101,29 @@ module _ (m : Method) (is : IsMethod m) where
       (ap (λ (f : Frame). f.stack) (sym same) ∙ leads.flows.stack, subst (λ (f : Frame). AllZip (λ s t. (t ≡ s) ⊎ (t ≡ sort.Unknown)) (padded_sorts m.typed.now.program.max_locals (passed_to m.typed.now.program)) f.locals) same leads.flows.locals)
 
   pub first_stack : (f : Frame) → IsFrameAt m.typed.now.frames 0 f → f.stack ≡ []
-  first_stack f at = (first_flows f at is.straight.shaped.inferred.agrees.entry).0
+  first_stack f at = (first_flows f at is.routine.shaped.inferred.agrees.entry).0
 
   pub first_ops : (f : Frame) → IsFrameAt m.typed.now.frames 0 f → AreOpsOf (passed_ops m.typed.now.program.instance m.typed.now.program.desc.params) f.locals
   first_ops f at i t here known =
       let p : Program = m.typed.now.program in
-      fit_at (passed_ops p.instance p.desc.params) (padded_sorts p.max_locals (passed_to p)) f.locals i t (passed_fit p.instance p.desc.params (p.max_locals - length (passed_to p))) (first_flows f at is.straight.shaped.inferred.agrees.entry).1 here known
+      fit_at (passed_ops p.instance p.desc.params) (padded_sorts p.max_locals (passed_to p)) f.locals i t (passed_fit p.instance p.desc.params (p.max_locals - length (passed_to p))) (first_flows f at is.routine.shaped.inferred.agrees.entry).1 here known
 
   -- block 0 begins there
   pub first_block : (b : Block) → slice_get m.flow.now.blocks 0 ≡ Some b → b.first ≡ 0
   first_block b at =
-      let e = entry_block m.typed.now.program m.flow.now.blocks is.straight.shaped.flow in
+      let e = entry_block m.typed.now.program m.flow.now.blocks is.routine.shaped.flow in
       ap (λ (b : Block). b.first) (some_of b e.0 (sym at ∙ e.1)) ∙ e.2
 
-  -- its slots are those at the entry
-  pub first_reads : (g : Graph) (c : State) → ReadsStart g.nodes c m.typed.now.program → ReadsBlock m g 0 c
-  first_reads g c reads v eqs s n at =
-      let value : v.value 0 s ≡ Over (start_op m.typed.now.program s) NoExp = eqs.starts s (λ heads. absurd (let z : [] ≡ 0 ∷ heads.0 = sym (around_is m.typed.now.program m.typed.now.frames m.flow.now.blocks m.forest.now is.straight 0) ∙ heads.1 in cc)) in
-      subst (Reads g.nodes [] n) (sym value) (reads s n at)
-
-  -- a block of the order, with its frame
-  pub block_low : (k b : ℕ) → slice_get m.forest.now.order.items k ≡ Some b → b < length m.flow.now.blocks
-  block_low k b at = subst (λ (n : ℕ). b < n) (length-map m.flow.now.blocks (λ (b : Block). targets_of b.exits)) (is.straight.ordered.nodes k b at)
-
   pub block_frame : (n : ℕ) (b : Block) → slice_get m.flow.now.blocks n ≡ Some b → (f : Frame) × IsFrameAt m.typed.now.frames b.first f
-  block_frame n b at = reached_frame m.typed.now.program m.typed.now.frames is.straight.shaped.inferred.agrees b.first (is.straight.shaped.flow.each n b at).reached
+  block_frame n b at = reached_frame m.typed.now.program m.typed.now.frames is.routine.shaped.inferred.agrees b.first (is.routine.shaped.flow.each n b at).reached
 
 -- ---- what is held there
 
-pub start_reads : (nodes : List Node) (c : State) (p : Program) → c.stack ≡ [] → Reads nodes [] c.token (Over op.Unit NoExp) → Reads nodes [] c.heap (Over op.Heap0 NoExp) → StartCellsRead nodes c.locals (passed_ops p.instance p.desc.params) → ReadsStart nodes c p
-start_reads nodes c p empty token heap locals =
-    state_reads nodes c (λ s. Over (start_op p s) NoExp) token heap
-    (λ i x at known. subst (λ (o : Op). Reads nodes [] x.node (Over o NoExp)) (sym (turn_local (op_at (passed_ops p.instance p.desc.params)) (λ j. op.Unit) i)) (locals i x at known))
+pub start_reads : (nodes : List Node) (c : State) (p : Program) → c.stack ≡ [] → ((names : List Named) → Reads nodes names c.token (Over op.Unit NoExp)) → ((names : List Named) → Reads nodes names c.heap (Over op.Heap0 NoExp)) → StartCellsRead nodes c.locals (passed_ops p.instance p.desc.params) → ReadsStart nodes c p
+start_reads nodes c p empty token heap locals names =
+    state_reads nodes names c (λ s. Over (start_op p s) NoExp) (token names) (heap names)
+    (λ i x at known. subst (λ (o : Op). Reads nodes names x.node (Over o NoExp)) (sym (turn_local (op_at (passed_ops p.instance p.desc.params)) (λ j. op.Unit) i)) (locals names i x at known))
     (λ i x at known. absurd (let nil : List Cell = [] in let z : slice_get nil i ≡ Some x = subst (λ (xs : List Cell). slice_get xs i ≡ Some x) empty at in cc))
-
--- ---- a block as it is read
-
-module _ (m : Method) (is : IsMethod m) (g : Graph) (table : List (Option Ran)) (b : ℕ) (next : IsNext m g table b) where
-  pub block_at : (now : List Block) (x : Block) → now ≡ m.flow.now.blocks → x ≡ get_or now b x → slice_get m.flow.now.blocks b ≡ Some x
-  block_at now x same e =
-      let low : b < length now = subst (λ (bs : List Block). b < length bs) (sym same) (block_low m is next.place b next.at) in
-      ap (λ (bs : List Block). slice_get bs b) (sym same) ∙ slice_get_read now (length now) b x refl low e
 
 pub begins_block : (m : Method) (g : Graph) (b : ℕ) (block : Block) (f : Frame) (c : State) → slice_get m.flow.now.blocks b ≡ Some block → IsFrameAt m.typed.now.frames block.first f → IsStateOf g c f → BeginsBlock m g b c
 begins_block m g b block f c at there sorted other here =

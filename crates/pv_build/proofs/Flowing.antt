@@ -1,5 +1,5 @@
--- The flow of a method without loops, for walks.
-use Rattle.std.proofs.Common.{◌≡◌, ℕ, zero, suc, ◌<◌, ◌^◌, Bool, true, false, List, [], ◌∷◌, length, map, length-append, get_or, Option, Some, None, slice_get, refl, sym, ap, ◌∙◌, subst, arith}
+-- The flow of a method, for walks.
+use Rattle.std.proofs.Common.{◌≡◌, ℕ, zero, suc, ◌<◌, ◌^◌, Bool, true, false, List, [], ◌∷◌, length, map, length-append, get_or, Option, Some, slice_get, refl, sym, ap, ◌∙◌, subst, arith}
 use Rattle.std.specs.List.{AllZip, All}
 use Rattle.std.proofs.lemmas.List.{length-map}
 use Rattle.std.proofs.lemmas.Option.{slice_get_within, slice_get-get_or}
@@ -16,12 +16,10 @@ use Rattle.pv_flow.specs.Exits.{Departure, Goes, Returns, Throws, branched, bran
 use Rattle.pv_flow.specs.Blocks.{IsExit}
 use Rattle.pv_flow.specs.Edges.{targets_of, edges_of}
 use Rattle.pv_flow.proofs.Flows.{entry_block, edges_within}
-use Rattle.pv_loops.specs.declared.forest.Loop.{Loop}
 use Rattle.pv_loops.specs.declared.forest.Forest.{Forest}
-use Rattle.pv_loops.specs.declared.forest.TheConstants.{MAX_DEPTH}
 use Rattle.pv_loops.specs.Shapes.{IsShape}
 use Rattle.pv_loops.specs.Forests.{IsForest}
-use Rattle.pv_loops.specs.Ranks.{around, headers_from, IsOrdered}
+use Rattle.pv_loops.specs.Ranks.{IsOrdered}
 use Rattle.pv_equations.specs.Flow as flow
 use Rattle.pv_equations.specs.Flow.{Exit, Chain, Leave, To, End, Flow}
 use Rattle.pv_decide.specs.Sites.{dest_of, GoTo, exit_at, test_at}
@@ -35,18 +33,7 @@ use Rattle.pv_runs.proofs.Departures.{Departs, exits_of}
 use Rattle.pv_runs.proofs.Edges.{number_is, has_chain, chain_at}
 use Rattle.pv_runs.proofs.Typed.{typed_chain}
 use Rattle.pv_runs.proofs.Ranked.{method_ranked}
-use Rattle.pv_build.specs.Straight.{IsStraight}
-
--- ---- no loops
-
-none_from : (n : ℕ) (at : Option ℕ) → headers_from n [] at ≡ []
-unfolding headers_from
-none_from zero at = refl
-none_from (suc n) None = refl
-none_from (suc n) (Some i) = refl
-
-pub around_none : (forest : Forest) → forest.loops.items ≡ [] → (b : ℕ) → around forest b ≡ []
-around_none forest none b = ap (λ (loops : List Loop). headers_from MAX_DEPTH loops (get_or forest.home.items b None)) none ∙ none_from MAX_DEPTH (get_or forest.home.items b None)
+use Rattle.pv_build.specs.Routine.{IsRoutine}
 
 -- ---- the exits of chains
 
@@ -99,12 +86,9 @@ zip_some R [] ys low all = absurd (omega arith)
 zip_some R (x ∷ xs) [] low all = absurd all
 zip_some R (x ∷ xs) (y ∷ ys) low all = omega arith
 
-module _ (p : Program) (frames : List (Option Frame)) (blocks : List Block) (forest : Forest) (is : IsStraight p frames blocks forest) where
+module _ (p : Program) (frames : List (Option Frame)) (blocks : List Block) (forest : Forest) (is : IsRoutine p frames blocks forest) where
   abbrev pub F : Flow
   F = flow_of p frames blocks forest
-
-  pub around_is : (b : ℕ) → F.around b ≡ []
-  around_is b = around_none forest is.straight b
 
   pub ranked : IsRanked F (length blocks)
   ranked = method_ranked is.file is.method p frames blocks forest is.shaped

@@ -1,61 +1,104 @@
 -- What is kept as a graph grows.
-use Rattle.std.proofs.Common.{◌≡◌, ℕ, Bool, true, false, if◌then◌else◌, List, [], ◌∷◌, Option, Some, None, sym, ap, ◌∙◌}
+use Rattle.std.proofs.Common.{◌≡◌, ℕ, Bool, true, false, if◌then◌else◌, List, [], ◌∷◌, Option, Some, None, refl, sym, ◌∙◌}
 use Rattle.pv_frame.specs.declared.sort.Sort.{Sort}
-use Rattle.pv_graph.specs.declared.node.Node.{Node}
 use Rattle.pv_graph.specs.declared.node.OpSort.{OpSort}
 use Rattle.pv_graph.specs.declared.node.Op.{Op}
-use Rattle.pv_graph.specs.Ops.{is_depth, alike, sort_over, HasSort}
+use Rattle.pv_graph.specs.declared.node.Op.TheVariants as op
+use Rattle.pv_graph.specs.Ops.{is_depth, alike, eval_sort, shift_sort, sort_over, HasSort}
 use Rattle.pv_graph.specs.Graphs.{Graph}
 use Rattle.pv_equations.specs.Exp.{Exp, Over, NoExp}
 use Rattle.pv_decide.specs.declared.tree.TreeNode.{TreeNode}
 use Rattle.pv_decide.specs.declared.tree.TreeNode.TheVariants as node
-use Rattle.pv_terms.specs.Reads.{AreNames, IsNoTheta, Reads}
-use Rattle.pv_terms.specs.Terms.{Grows, IsOfSort, ReadsOver}
-use Rattle.pv_terms.specs.Fold.{IsMaybeOf}
-use Rattle.pv_terms.proofs.Made.{reads_grown}
-use Rattle.pv_terms.proofs.Folded.{maybe_grown}
+use Rattle.pv_terms.specs.declared.names.Named.{Named}
+use Rattle.pv_terms.specs.Reads.{Reads}
+use Rattle.pv_terms.specs.Terms.{IsFlat, Grows, IsOfSort, ReadsOver}
+use Rattle.pv_terms.specs.Fold.{ReadsMaybe}
+use Rattle.pv_terms.proofs.Reading.{names_stand}
 use Rattle.pv_block.specs.declared.held.Cell.{Cell}
-use Rattle.pv_block.specs.declared.ran.Ran.{Ran}
 use Rattle.pv_block.specs.Ran.{IsCellOf}
 use Rattle.pv_build.specs.declared.slot.Part.{Part}
-use Rattle.pv_build.specs.Tables.{HasNodeOf, GivesAt, Gives, HasNodeFor, ReadsAt, FoldsTo}
+use Rattle.pv_build.specs.declared.source.Source.{Source}
+use Rattle.pv_build.specs.declared.source.Given.{Given}
+use Rattle.pv_build.specs.Sources.{HasNodeOf, GivesAt, Gives, HasNodeFor, ReadsAt, FoldsTo}
 use Rattle.pv_build.specs.States.{CellsGive, CellsFold, AreCellsOf}
-
--- no name is there
-pub no_names : (nodes : List Node) → AreNames (λ h. 0) nodes []
-no_names nodes = record { thetas = λ h s n i. absurd i; one_name = λ h s k t n i j. absurd i; one_node = λ h s n k i j. absurd i }
+use Rattle.pv_build.proofs.Persisting as on
+use Rattle.pv_build.proofs.Persisting.{Persists, grown}
 
 -- ---- operations without kids
 
 pub has_no_kids : (g : Graph) (o : Op) (t : OpSort) → sort_over o [] ≡ Some t → HasSort g.sorts o [] t
 has_no_kids g o t e = record { sorts = []; kids_have = tt; over = e }
 
--- none is a theta
-pub no_theta : (o : Op) (t : OpSort) → sort_over o [] ≡ Some t → IsNoTheta o
-no_theta o t e d is = go (is_depth d) (ap (λ (o : Op). sort_over o []) (sym is) ∙ e)
-  where
-    go : (b : Bool) → (if b then alike [] else None) ≡ Some t → ⊥
-    go true e = absurd (cc)
-    go false e = absurd (cc)
+pub read_no_kids : (old new : Graph) (names : List Named) (o : Op) (n : ℕ) → ReadsOver old o [] new n → Reads new.nodes names n (Over o NoExp)
+read_no_kids old new names o n reads = reads names NoExp tt
 
-pub read_no_kids : (old new : Graph) (o : Op) (n : ℕ) → ReadsOver old o [] new n → Reads new.nodes [] n (Over o NoExp)
-read_no_kids old new o n reads = reads [] NoExp tt
+-- none of them has a depth
+either : (b : Bool) (r : Option OpSort) (t : OpSort) → r ≡ None → (if b then r else None) ≡ Some t → ⊥
+either true r t none e = absurd (let z : None ≡ Some t = sym none ∙ e in cc)
+either false r t none e = absurd (cc)
+
+pub no_depth : (o : Op) (t : OpSort) → sort_over o [] ≡ Some t → IsFlat o
+no_depth (op.Theta d) t e = absurd (either (is_depth d) (alike []) t refl e)
+no_depth (op.Eval d) t e = absurd (either (is_depth d) (eval_sort []) t refl e)
+no_depth (op.Pass d) t e = absurd (either (is_depth d) None t refl e)
+no_depth (op.Shift d) t e = absurd (either (is_depth d) (shift_sort []) t refl e)
+no_depth o t e = refl
+
+-- ---- as nodes go on standing for what they stand for
+
+module _ (old new : Graph) (p : Persists old new) where
+  has_on : (given : Option ℕ) (t : OpSort) → HasNodeOf old given t → HasNodeOf new given t
+  has_on given t (n, at, is) = (n, at, on.sort_on old new p n t is)
+
+  for_on : (names : List Named) (given : Option ℕ) (e : Exp) → HasNodeFor old.nodes names given e → HasNodeFor new.nodes names given e
+  for_on names given e (n, at, r) = (n, at, on.reads_on old new p names names (λ h s n i. i) n e r)
+
+  at_on : (k : Source) (s : ℕ) (t : OpSort) (y : TreeNode) → GivesAt old k s t y → GivesAt new k s t y
+  at_on k s t (node.Leaf b e) is = has_on _ t is
+  at_on k s t (node.Test b e y m) is = has_on _ _ is
+  at_on k s t node.Nothing is = tt
+  at_on k s t node.Dead is = tt
+
+  read_on : (names : List Named) (k : Source) (s : ℕ) (leaf test : ℕ → ℕ → Exp) (y : TreeNode) → ReadsAt old.nodes names k s leaf test y → ReadsAt new.nodes names k s leaf test y
+  read_on names k s leaf test (node.Leaf b e) is = for_on names _ _ is
+  read_on names k s leaf test (node.Test b e y m) is = for_on names _ _ is
+  read_on names k s leaf test node.Nothing is = tt
+  read_on names k s leaf test node.Dead is = tt
+
+  maybe_reads_on : (names : List Named) (n : Option ℕ) (r : Option Exp) → ReadsMaybe old.nodes names n r → ReadsMaybe new.nodes names n r
+  maybe_reads_on names None r h = h
+  maybe_reads_on names (Some n) r h = (h.0, on.reads_on old new p names names (λ h s n i. i) n h.0 h.1, h.2)
+
+  pub gives_on : (x : Given) (s : ℕ) (dead : Option ℕ) (t : OpSort) → Gives old x s dead t → Gives new x s dead t
+  gives_on x s dead t is = record { value = is.value; size = is.size; each = λ n y k at from. at_on k s t y (is.each n y k at from); dead_is = on.maybe_on old new p dead t is.dead_is }
+
+  pub folds_on : (names : List Named) (x : Given) (s : ℕ) (dead : Option ℕ) (q : Option Exp) → FoldsTo old.nodes names x s dead q → FoldsTo new.nodes names x s dead q
+  folds_on names x s dead q is = record {
+    depth = is.depth;
+    are_names = names_stand is.depth old.nodes new.nodes names p.stand is.are_names;
+    size = is.size;
+    leaf = is.leaf;
+    test = is.test;
+    ended = is.ended;
+    each = λ n y k at from. read_on names k s is.leaf is.test y (is.each n y k at from);
+    dead_gives = maybe_reads_on names dead is.ended is.dead_gives;
+    folds = is.folds;
+  }
 
 -- ---- growth
 
 module _ (old new : Graph) (grows : Grows old new) where
+  p : Persists old new
+  p = grown IsFlat old new grows
+
   pub sort_kept : (n : ℕ) (t : OpSort) → IsOfSort old n t → IsOfSort new n t
-  sort_kept n t is = grows.extends.sorts n t is
+  sort_kept n t is = on.sort_on old new p n t is
 
-  pub maybe_kept : (n : Option ℕ) (t : OpSort) → IsMaybeOf old t n → IsMaybeOf new t n
-  maybe_kept None t is = tt
-  maybe_kept (Some n) t is = sort_kept n t is
-
-  pub reads_kept : (n : ℕ) (e : Exp) → Reads old.nodes [] n e → Reads new.nodes [] n e
-  reads_kept n e r = reads_grown old new [] n e grows r
+  pub reads_kept : (names : List Named) (n : ℕ) (e : Exp) → Reads old.nodes names n e → Reads new.nodes names n e
+  reads_kept names n e r = on.reads_on old new p names names (λ h s n i. i) n e r
 
   pub cell_kept : (c : Cell) (t : Sort) → IsCellOf old c t → IsCellOf new c t
-  cell_kept c t is = (is.0, sort_kept c.node _ is.1)
+  cell_kept c t is = on.cell_on old new p c t is
 
   pub cells_kept : (cells : List Cell) (sorts : List Sort) → AreCellsOf old cells sorts → AreCellsOf new cells sorts
   cells_kept [] [] all = tt
@@ -63,41 +106,14 @@ module _ (old new : Graph) (grows : Grows old new) where
   cells_kept (c ∷ cells) [] all = absurd all
   cells_kept (c ∷ cells) (t ∷ sorts) all = (cell_kept c t all.0, cells_kept cells sorts all.1)
 
-  has_kept : (given : Option ℕ) (t : OpSort) → HasNodeOf old given t → HasNodeOf new given t
-  has_kept given t (n, at, is) = (n, at, sort_kept n t is)
+  pub gives_kept : (x : Given) (s : ℕ) (dead : Option ℕ) (t : OpSort) → Gives old x s dead t → Gives new x s dead t
+  gives_kept x s dead t is = gives_on old new p x s dead t is
 
-  for_kept : (given : Option ℕ) (e : Exp) → HasNodeFor old.nodes given e → HasNodeFor new.nodes given e
-  for_kept given e (n, at, r) = (n, at, reads_kept n e r)
+  pub folds_kept : (names : List Named) (x : Given) (s : ℕ) (dead : Option ℕ) (q : Option Exp) → FoldsTo old.nodes names x s dead q → FoldsTo new.nodes names x s dead q
+  folds_kept names x s dead q is = folds_on old new p names x s dead q is
 
-  module _ (table : List (Option Ran)) where
-    at_kept : (s : ℕ) (t : OpSort) (x : TreeNode) → GivesAt old table s t x → GivesAt new table s t x
-    at_kept s t (node.Leaf b e) is = has_kept _ t is
-    at_kept s t (node.Test b k y m) is = has_kept _ _ is
-    at_kept s t node.Nothing is = tt
-    at_kept s t node.Dead is = tt
+  pub cells_give_kept : (x : Given) (which : Part) (sorts : List Sort) → CellsGive old x which sorts → CellsGive new x which sorts
+  cells_give_kept x which sorts give i t at known = gives_kept x _ None _ (give i t at known)
 
-    read_kept : (s : ℕ) (leaf test : ℕ → ℕ → Exp) (x : TreeNode) → ReadsAt old.nodes table s leaf test x → ReadsAt new.nodes table s leaf test x
-    read_kept s leaf test (node.Leaf b e) is = for_kept _ _ is
-    read_kept s leaf test (node.Test b k y m) is = for_kept _ _ is
-    read_kept s leaf test node.Nothing is = tt
-    read_kept s leaf test node.Dead is = tt
-
-    module _ (tree : List TreeNode) where
-      pub gives_kept : (s : ℕ) (dead : Option ℕ) (t : OpSort) → Gives old table tree s dead t → Gives new table tree s dead t
-      gives_kept s dead t is = record { value = is.value; each = λ n x at. at_kept s t x (is.each n x at); dead_is = maybe_kept dead t is.dead_is }
-
-      pub folds_kept : (s : ℕ) (dead : Option ℕ) (q : Option Exp) → FoldsTo old.nodes table tree s dead q → FoldsTo new.nodes table tree s dead q
-      folds_kept s dead q is = record {
-        leaf = is.leaf;
-        test = is.test;
-        ended = is.ended;
-        each = λ n x at. read_kept s is.leaf is.test x (is.each n x at);
-        dead_gives = maybe_grown old new [] grows dead is.ended is.dead_gives;
-        folds = is.folds;
-      }
-
-      pub cells_give_kept : (which : Part) (sorts : List Sort) → CellsGive old table tree which sorts → CellsGive new table tree which sorts
-      cells_give_kept which sorts give i t at known = gives_kept _ None _ (give i t at known)
-
-      pub cells_fold_kept : (which : Part) (sorts : List Sort) (base : ℕ → Exp) → CellsFold old.nodes table tree which sorts base → CellsFold new.nodes table tree which sorts base
-      cells_fold_kept which sorts base fold i t at known = folds_kept _ None _ (fold i t at known)
+  pub cells_fold_kept : (names : List Named) (x : Given) (which : Part) (sorts : List Sort) (base : ℕ → Exp) → CellsFold old.nodes names x which sorts base → CellsFold new.nodes names x which sorts base
+  cells_fold_kept names x which sorts base fold i t at known = folds_kept names x _ None _ (fold i t at known)

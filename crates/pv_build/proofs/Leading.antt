@@ -31,7 +31,7 @@ use Rattle.pv_frame.specs.declared.program.Program.{Program}
 use Rattle.pv_build.specs.declared.slot.Part.{Part}
 use Rattle.pv_build.specs.declared.slot.Part.TheVariants as part
 use Rattle.pv_build.specs.Slots.{number_in}
-use Rattle.pv_build.specs.Tables.{HasNodeOf}
+use Rattle.pv_build.specs.Sources.{HasNodeOf}
 use Rattle.pv_build.specs.States.{IsKnown}
 use Rattle.pv_build.specs.Ends.{default_sort}
 use Rattle.pv_build.proofs.Slotted.{turn_local, turn_stack, local_some, stack_some}

@@ -1,5 +1,5 @@
 -- A root over its four kids.
-use Rattle.std.proofs.Common.{◌≡◌, ℕ, [], ◌∷◌, Option, Some, None, refl, sym, ap, ◌∙◌, subst}
+use Rattle.std.proofs.Common.{◌≡◌, ℕ, List, [], ◌∷◌, Option, Some, None, refl, sym, ap, ◌∙◌, subst}
 use Rattle.pv_value.specs.declared.descriptor.JType.{JType}
 use Rattle.pv_value.specs.declared.descriptor.JType.TheVariants as jtype
 use Rattle.pv_graph.specs.declared.node.Op.{Op}
@@ -9,11 +9,12 @@ use Rattle.pv_graph.specs.Graphs.{Graph}
 use Rattle.pv_graph.specs.Ops.{sort_over, HasSort}
 use Rattle.pv_equations.specs.Exp.{Exp, Over, NoExp}
 use Rattle.pv_equations.specs.Equations.{or_else}
+use Rattle.pv_terms.specs.declared.names.Named.{Named}
 use Rattle.pv_terms.specs.Reads.{Reads}
 use Rattle.pv_terms.specs.Terms.{IsOfSort}
-use Rattle.pv_build.specs.Straight.{none_of}
+use Rattle.pv_build.specs.Unfolded.{none_of}
 use Rattle.pv_build.specs.Ends.{default_of, default_sort}
-use Rattle.pv_build.proofs.Finishing.{none_is}
+use Rattle.pv_build.proofs.Defaults.{none_is}
 
 root_sorted : (r : Option JType) → sort_over op.Root (T ∷ F ∷ default_sort r ∷ H ∷ []) ≡ Some R
 root_sorted None = refl
@@ -31,5 +32,5 @@ pub root_has : (g : Graph) (r : Option JType) (a b c d : ℕ) → IsOfSort g a T
 root_has g r a b c d at bt ct dt = record { sorts = T ∷ F ∷ default_sort r ∷ H ∷ []; kids_have = (at, (bt, (ct, (dt, tt)))); over = root_sorted r }
 
 -- the result, or else a value of its type
-pub result_reads : (g : Graph) (r : Option JType) (o : Op) (n : ℕ) (q : Option Exp) → o ≡ default_of r → Reads g.nodes [] n (or_else q (Over o NoExp)) → Reads g.nodes [] n (or_else q (none_of r))
-result_reads g r o n q is reads = subst (λ (e : Exp). Reads g.nodes [] n (or_else q e)) (ap (λ (o : Op). Over o NoExp) is ∙ sym (none_is r)) reads
+pub result_reads : (g : Graph) (names : List Named) (r : Option JType) (o : Op) (n : ℕ) (q : Option Exp) → o ≡ default_of r → Reads g.nodes names n (or_else q (Over o NoExp)) → Reads g.nodes names n (or_else q (none_of r))
+result_reads g names r o n q is reads = subst (λ (e : Exp). Reads g.nodes names n (or_else q e)) (ap (λ (o : Op). Over o NoExp) is ∙ sym (none_is r)) reads

@@ -12,6 +12,7 @@ use Rattle.pv_runs.specs.Entries.{param_ops, passed_ops, op_at}
 use Rattle.pv_graph.specs.Graphs.{Graph}
 use Rattle.pv_graph.specs.Ops.{sort_over}
 use Rattle.pv_equations.specs.Exp.{Over, NoExp}
+use Rattle.pv_terms.specs.declared.names.Named.{Named}
 use Rattle.pv_terms.specs.Reads.{Reads}
 use Rattle.pv_terms.specs.Terms.{Grows, ReadsOver, HasItsSort}
 use Rattle.pv_block.specs.declared.held.Cell.{Cell}
@@ -92,10 +93,10 @@ pub record StartCell (g : Graph) (ops : List Op) (sorts : List Sort) (i : ℕ) (
   pub of : Sort
   pub at : slice_get sorts i ≡ Some of
   pub is : IsCellOf g c of
-  pub reads : IsKnown c.sort → Reads g.nodes [] c.node (Over (op_at ops i) NoExp)
+  pub reads : (names : List Named) → IsKnown c.sort → Reads g.nodes names c.node (Over (op_at ops i) NoExp)
 
 pub start_cell_kept : (old new : Graph) → Grows old new → (ops : List Op) (sorts : List Sort) (i : ℕ) (c : Cell) → StartCell old ops sorts i c → StartCell new ops sorts i c
-start_cell_kept old new grows ops sorts i c s = record { of = s.of; at = s.at; is = cell_kept old new grows c s.of s.is; reads = λ known. reads_kept old new grows c.node (Over (op_at ops i) NoExp) (s.reads known) }
+start_cell_kept old new grows ops sorts i c s = record { of = s.of; at = s.at; is = cell_kept old new grows c s.of s.is; reads = λ names known. reads_kept old new grows names c.node (Over (op_at ops i) NoExp) (s.reads names known) }
 
 pub start_cell : (old new : Graph) (ops : List Op) (sorts : List Sort) (k : ℕ) (t : Sort) (o : Op) (n : ℕ) → AreOpsOf ops sorts → slice_get sorts k ≡ Some t → IsFirstOp ops k t o → ReadsOver old o [] new n → HasItsSort old o [] new n
     → StartCell new ops sorts k (record { sort = t; node = n })
@@ -103,7 +104,7 @@ start_cell old new ops sorts k t o n are at is reads sorted = record {
   of = t;
   at = at;
   is = (refl, sorted (op_sort t) (has_no_kids old o (op_sort t) (first_sort ops sorts k t o are at is)));
-  reads = λ known. subst (λ (o : Op). Reads new.nodes [] n (Over o NoExp)) (first_is ops k t o is known) (read_no_kids old new o n reads);
+  reads = λ names known. subst (λ (o : Op). Reads new.nodes names n (Over o NoExp)) (first_is ops k t o is known) (read_no_kids old new names o n reads);
 }
 
 pub known_of : (t : Sort) → IsOneOf t → IsKnown t

@@ -1,8 +1,10 @@
 -- What the conversion of a method gives: the root of its graph, or why it has none.
-use Rattle.std.specs.Prelude.{◌≡◌, ◌⊎◌, ℕ, ◌≤◌, List, [], length, Option, Some, slice_get, Result, Ok, Err}
+use Rattle.std.specs.Prelude.{◌≡◌, ◌⊎◌, ℕ, ◌≤◌, List, length, Option, Some, slice_get, Result, Ok, Err}
 use Rattle.pv_class.specs.declared.file.ClassFile.{ClassFile}
 use Rattle.pv_class.specs.declared.file.Method.{Method}
 use Rattle.pv_frame.specs.declared.cause.Cause.{Cause}
+use Rattle.pv_frame.specs.declared.cause.Refused.{Refused}
+use Rattle.pv_frame.specs.declared.cause.Refused.TheVariants as refused
 use Rattle.pv_frame.specs.declared.program.Program.{Program}
 use Rattle.pv_frame.specs.declared.frame.Frame.{Frame}
 use Rattle.pv_frame.specs.Causes.{IsAccepted, IsRefused}
@@ -11,12 +13,8 @@ use Rattle.pv_flow.specs.Answers.{most_blocks}
 use Rattle.pv_loops.specs.declared.forest.Forest.{Forest}
 use Rattle.pv_graph.specs.Graphs.{Graph}
 use Rattle.pv_runs.specs.Methods.{IsShaped}
-use Rattle.pv_build.specs.declared.reason.Reason.{Reason}
-use Rattle.pv_build.specs.declared.reason.Reason.TheVariants as reason
-use Rattle.pv_build.specs.declared.reason.Refused.{Refused}
-use Rattle.pv_build.specs.declared.reason.Refused.TheVariants as refused
-use Rattle.pv_build.specs.Structure.{IsStructured, MeetsShape, HasLoop}
-use Rattle.pv_build.specs.Straight.{IsBuilt}
+use Rattle.pv_build.specs.Structure.{MeetsShape}
+use Rattle.pv_build.specs.Unfolded.{IsBuilt}
 
 -- ---- why a method is refused
 
@@ -26,14 +24,13 @@ pub record IsUnstructured (file : ClassFile) (m : Method) (c : Cause) : Type 0 w
   pub accepted : IsAccepted file m program
   pub meets : MeetsShape program c
 
--- for a cause of its code or of its blocks; or none holds, and it has a loop, which isn't built yet
-abbrev pub Meets : ClassFile → Method → Reason → Type 0
-Meets file m (reason.Met cause) = IsRefused file m cause ⊎ IsUnstructured file m cause
-Meets file m reason.NotBuilt = (p : Program) × IsAccepted file m p × IsStructured p × HasLoop p
+-- for a cause of its code or of its blocks
+abbrev pub Meets : ClassFile → Method → Cause → Type 0
+Meets file m cause = IsRefused file m cause ⊎ IsUnstructured file m cause
 
 -- ---- the root of a method
 
--- a method that isn't refused: its program, its frames, its blocks and the forest of their loops, of which there are none
+-- a method that isn't refused: its program, its frames, its blocks and the forest of their loops
 pub record Form (file : ClassFile) (m : Method) : Type 0 where
   pub program : Program
   pub frames : List (Option Frame)
@@ -42,7 +39,6 @@ pub record Form (file : ClassFile) (m : Method) : Type 0 where
   pub accepted : IsAccepted file m program
   pub shaped : IsShaped file m program frames blocks forest
   pub few : length blocks ≤ most_blocks
-  pub straight : forest.loops.items ≡ []
 
 -- the node unfolds as the root of the method's equations
 pub record IsRootOf (g : Graph) (root : ℕ) (file : ClassFile) (m : Method) : Type 0 where
@@ -51,10 +47,10 @@ pub record IsRootOf (g : Graph) (root : ℕ) (file : ClassFile) (m : Method) : T
 
 -- ---- the conversion
 
--- a root, or the reason why there is none
+-- a root, or the cause for which there is none
 abbrev pub Converts : Graph → ClassFile → Method → Result ℕ Refused → Type 0
 Converts g file m (Ok root) = IsRootOf g root file m
-Converts g file m (Err (refused.For why)) = Meets file m why
+Converts g file m (Err (refused.Cause cause)) = Meets file m cause
 Converts g file m (Err refused.Memory) = Unit {0}
 
 -- so it is for the method at a place

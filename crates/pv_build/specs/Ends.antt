@@ -11,12 +11,12 @@ use Rattle.pv_graph.specs.Graphs.{Graph}
 use Rattle.pv_graph.specs.Ops.{sort_over}
 use Rattle.pv_equations.specs.Exp.{Exp, Over, NoExp, Then, three}
 use Rattle.pv_equations.specs.Equations.{or_else, never_exp}
-use Rattle.pv_decide.specs.declared.tree.TreeNode.{TreeNode}
+use Rattle.pv_terms.specs.declared.names.Named.{Named}
 use Rattle.pv_terms.specs.Reads.{Reads}
 use Rattle.pv_terms.specs.Terms.{IsOfSort}
-use Rattle.pv_block.specs.declared.ran.Ran.{Ran}
-use Rattle.pv_build.specs.Straight.{none_of}
-use Rattle.pv_build.specs.Tables.{Gives, FoldsTo}
+use Rattle.pv_build.specs.declared.source.Given.{Given}
+use Rattle.pv_build.specs.Unfolded.{none_of}
+use Rattle.pv_build.specs.Sources.{Gives, FoldsTo}
 
 -- the operation without kids of a value of the result's type
 abbrev pub default_of : Option JType → Op
@@ -33,22 +33,22 @@ default_sort (Some jtype.A) = A
 default_sort (Some t) = I
 
 -- what is given has the sort of the operation without kids
-abbrev pub GivesLike : Graph → List (Option Ran) → List TreeNode → ℕ → Option ℕ → Op → Type 0
-GivesLike g table tree s dead o = (t : OpSort) × Gives g table tree s dead t × (sort_over o [] ≡ Some t)
+abbrev pub GivesLike : Graph → Given → ℕ → Option ℕ → Op → Type 0
+GivesLike g x s dead o = (t : OpSort) × Gives g x s dead t × (sort_over o [] ≡ Some t)
 
 -- the node stands for what the tree gives, or else for the operation
-abbrev pub ReadsOrElse : Graph → List (Option Ran) → List TreeNode → ℕ → Option ℕ → Op → Graph → ℕ → Type 0
-ReadsOrElse old table tree s dead o new n = (q : Option Exp) → FoldsTo old.nodes table tree s dead q → Reads new.nodes [] n (or_else q (Over o NoExp))
+abbrev pub ReadsOrElse : Graph → Given → ℕ → Option ℕ → Op → Graph → ℕ → Type 0
+ReadsOrElse old x s dead o new n = (names : List Named) (q : Option Exp) → FoldsTo old.nodes names x s dead q → Reads new.nodes names n (or_else q (Over o NoExp))
 
-abbrev pub IsSortedOrElse : Graph → List (Option Ran) → List TreeNode → ℕ → Option ℕ → Op → Graph → ℕ → Type 0
-IsSortedOrElse old table tree s dead o new n = (t : OpSort) → Gives old table tree s dead t → sort_over o [] ≡ Some t → IsOfSort new n t
+abbrev pub IsSortedOrElse : Graph → Given → ℕ → Option ℕ → Op → Graph → ℕ → Type 0
+IsSortedOrElse old x s dead o new n = (t : OpSort) → Gives old x s dead t → sort_over o [] ≡ Some t → IsOfSort new n t
 
 -- nodes of the right sorts are given at the ends, and at the returns for the result
-pub record EndsGive (g : Graph) (table : List (Option Ran)) (ends returns : List TreeNode) (never : ℕ) (result : Option JType) : Type 0 where
-  pub token : Gives g table ends 0 (Some never) T
-  pub fault : Gives g table ends 1 None F
-  pub heap : Gives g table ends 3 None H
-  pub result_is : Gives g table returns 2 None (default_sort result)
+pub record EndsGive (g : Graph) (ends returns : Given) (never : ℕ) (result : Option JType) : Type 0 where
+  pub token : Gives g ends 0 (Some never) T
+  pub fault : Gives g ends 1 None F
+  pub heap : Gives g ends 3 None H
+  pub result_is : Gives g returns 2 None (default_sort result)
 
 -- what trees give for the four slots
 pub record AtEnds : Type 0 where
@@ -57,16 +57,16 @@ pub record AtEnds : Type 0 where
   pub result : Option Exp
   pub heap : Option Exp
 
-pub record EndsFold (nodes : List Node) (table : List (Option Ran)) (ends returns : List TreeNode) (never : ℕ) (q : AtEnds) : Type 0 where
-  pub token : FoldsTo nodes table ends 0 (Some never) q.token
-  pub fault : FoldsTo nodes table ends 1 None q.fault
-  pub heap : FoldsTo nodes table ends 3 None q.heap
-  pub result : FoldsTo nodes table returns 2 None q.result
+pub record EndsFold (nodes : List Node) (names : List Named) (ends returns : Given) (never : ℕ) (q : AtEnds) : Type 0 where
+  pub token : FoldsTo nodes names ends 0 (Some never) q.token
+  pub fault : FoldsTo nodes names ends 1 None q.fault
+  pub heap : FoldsTo nodes names ends 3 None q.heap
+  pub result : FoldsTo nodes names returns 2 None q.result
 
 -- the root over these
 abbrev pub root_over : Option JType → AtEnds → Exp
 root_over result q =
     Over op.Root (Then (or_else q.token never_exp) (three (or_else q.fault (Over op.Clear NoExp)) (or_else q.result (none_of result)) (or_else q.heap (Over op.Heap0 NoExp))))
 
-abbrev pub ReadsRoot : Graph → List (Option Ran) → List TreeNode → List TreeNode → ℕ → Option JType → Graph → ℕ → Type 0
-ReadsRoot old table ends returns never result new r = (q : AtEnds) → EndsFold old.nodes table ends returns never q → Reads new.nodes [] r (root_over result q)
+abbrev pub ReadsRoot : Graph → Given → Given → ℕ → Option JType → Graph → ℕ → Type 0
+ReadsRoot old ends returns never result new r = (names : List Named) (q : AtEnds) → EndsFold old.nodes names ends returns never q → Reads new.nodes names r (root_over result q)

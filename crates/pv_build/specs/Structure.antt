@@ -12,7 +12,6 @@ use Rattle.pv_loops.specs.declared.fault.TStep.{TStep}
 use Rattle.pv_loops.specs.declared.forest.TheConstants.{MAX_DEPTH}
 use Rattle.pv_loops.specs.Steps.{Stuck, IsReducible}
 use Rattle.pv_loops.specs.declared.forest.Forest.{Forest}
-use Rattle.pv_loops.specs.Loops.{IsLoop}
 use Rattle.pv_loops.specs.Forests.{IsForest, NestsUpTo, HasDepth}
 use Rattle.pv_loops.specs.Ranks.{IsOrdered}
 
@@ -45,11 +44,3 @@ pub record IsLaidOut (p : Program) (blocks : List Block) (forest : Forest) : Typ
   pub ordered : IsOrdered (edges_of blocks) forest
   pub reducible : IsReducible (edges_of blocks)
   pub shallow : NestsUpTo (edges_of blocks) MAX_DEPTH
-
--- a block is reached from itself
-pub record HasLoop (p : Program) : Type 0 where
-  pub edges : List (List ℕ)
-  pub has : HasEdges p edges
-  pub headers : List ℕ
-  pub members : List ℕ
-  pub is : IsLoop edges headers members

@@ -1,24 +1,33 @@
-//! The graph of a method without loops.
+//! The graph of a method.
 
-ghost use Rattle.std.specs.Prelude.{◌≡◌, None, replicate, IfOk};
-ghost use Rattle.pv_graph.specs.Graphs.{IsGraph};
+ghost use Rattle.std.specs.Prelude.{◌≡◌, ◌+◌, ◌<◌, ◌↔◌, true, ℕ, [], length, None, Some, replicate, slice_get, IfOk, OnOk, IsTrue};
+ghost use Rattle.pv_graph.specs.Graphs.{IsWellMade};
 ghost use Rattle.pv_graph.specs.declared.node.OpSort.TheVariants.{R};
 ghost use Rattle.pv_frame.specs.Frames.{IsFrameAt};
-ghost use Rattle.pv_terms.specs.Terms.{Grows, IsOfSort};
-ghost use Rattle.pv_build.specs.Straight.{IsStraight, IsBuilt};
-ghost use Rattle.pv_build.specs.Made.{HasFrameAt, IsMethod, IsNext, IsDone, AreAllDone, BeginsBlock, ReadsBlock, IsBuiltOf};
+ghost use Rattle.pv_terms.specs.Terms.{Enlarges, Keeps, IsOfSort};
+ghost use Rattle.pv_build.specs.declared.method.Stage.TheVariants as stage;
+ghost use Rattle.pv_build.specs.Routine.{IsRoutine};
+ghost use Rattle.pv_build.specs.Unfolded.{IsBuilt};
+ghost use Rattle.pv_build.specs.Stages.{loops_at, loops_around, IsLoopAt, IsMethod, IsStage, AreDone, HasFrameAt, KeepsFirst, GrowsIn};
+ghost use Rattle.pv_build.specs.Opening.{BeginsBlock, IsEnteredBy, IsOuter};
+ghost use Rattle.pv_build.specs.Building.{IsOwnLoop, HasBlock, IsNext, IsLast, Begun, IsStageBefore, IsStageFor, IsNothing, IsBuiltOf};
 
+use crate::arranging::arranged;
+use crate::carrying::carried;
+use crate::closing::close;
 use crate::ending::root;
 use crate::entering::enter;
-use crate::method::Method;
+use crate::giving::given;
+use crate::method::{Made, Method, Stage};
+use crate::opening::open;
 use crate::starting::start;
 use pv_block::{Ran, State, run};
-use pv_decide::{Region, Target, Trees};
+use pv_decide::{Target, Trees};
 use pv_flow::{Block, Flow};
 use pv_frame::{Frame, Typed};
 use pv_graph::{Graph, NodeId, Op};
-use pv_loops::Forest;
-use pv_terms::over;
+use pv_loops::{Forest, MAX_DEPTH};
+use pv_terms::{Names, over};
 use pv_value::Memory;
 use std::alloc::Global;
 
@@ -33,100 +42,253 @@ fn first_frame<'a>(typed: &'a Typed, block: &Block) -> &'a Frame
     }
 }
 
-// What is held where a block begins, when those before it in the order are done.
-fn begin(
+// The loop of which a block is the header, if it is one.
+fn own_loop(method: &Method, b: u32) -> Option<u32>
+    requires method { IsMethod method.now }
+    requires block { b < length method.now.flow.now.blocks }
+    ensures { IsOwnLoop method.now b result }
+{
+    match method.forest.home[b as usize] {
+        Some(i) => {
+            if method.forest.loops[i as usize].header == b {
+                Some(i)
+            } else {
+                None
+            }
+        }
+        None => None,
+    }
+}
+
+// The innermost loop that is open where a block is entered.
+fn outer_loop(method: &Method, b: u32) -> Option<u32>
+    requires method { IsMethod method.now }
+    requires block { b < length method.now.flow.now.blocks }
+    ensures outer { IsOuter method.now b result }
+    ensures region { IsLoopAt method.now result }
+{
+    match own_loop(method, b) {
+        Some(i) => method.forest.loops[i as usize].parent,
+        None => method.forest.home[b as usize],
+    }
+}
+
+// What is held where a block is entered, in the region of the loops that are open.
+fn entered(
     alloc: Global,
     g: &mut Graph,
     method: &Method,
-    table: &[Option<Ran>],
+    made: &Made,
+    at: Option<u32>,
     b: u32,
 ) -> Result<State, Memory>
-    requires graph { IsGraph g.old }
     requires method { IsMethod method.now }
-    requires next { IsNext method.now g.old table.now b }
-    ensures reads { IfOk result (λ c. ReadsBlock method.now g.new b c) }
+    requires next { IsNext method.now made.now b }
+    requires outer { IsOuter method.now b at }
+    requires region { IsLoopAt method.now at }
+    requires stage { IsStage method.now g.old made.now (loops_at method.now at) }
+    ensures reads { IfOk result (λ c. IsEnteredBy method.now g.new made.now.names b c) }
     ensures sorts { IfOk result (λ c. BeginsBlock method.now g.new b c) }
-    ensures grows { Grows g.old g.new }
+    ensures grows { GrowsIn (length (loops_at method.now at)) g.old g.new }
 {
     let block = &method.flow.blocks.as_slice()[b as usize];
     let frame = first_frame(method.typed, block);
     if b == 0 {
         return start(alloc, g, &method.typed.program, frame);
     }
-    let tree = method.trees.walk(alloc, Region::Top, Target::Node(b))?;
+    let given = given(alloc, g, method, made, at, Target::Node(b))?;
     let never = over(alloc, g, Op::Never, &[])?;
-    enter(alloc, g, table, &tree.nodes, never, frame)
+    enter(alloc, g, &given, never, frame)
 }
 
-// What a block leaves, when those before it in the order are done.
+// What is held where a block begins; its loop is opened where it is a header.
+fn begin(
+    alloc: Global,
+    g: &mut Graph,
+    method: &Method,
+    made: &mut Made,
+    b: u32,
+) -> Result<State, Memory>
+    requires method { IsMethod method.now }
+    requires next { IsNext method.now made.old b }
+    requires stage { IsStageBefore method.now g.old made.old b }
+    ensures begun { IfOk result (λ c. Begun method.now g.new made.new b c) }
+    ensures blocks { made.new.blocks ≡ made.old.blocks }
+    ensures start { made.new.start ≡ made.old.start }
+    ensures keeps { KeepsFirst made.old.start g.old g.new }
+{
+    let at = outer_loop(method, b);
+    let state = entered(alloc, g, method, made, at, b)?;
+    match own_loop(method, b) {
+        Some(i) => open(alloc, g, method, made, i, state),
+        None => Ok(state),
+    }
+}
+
+// Runs a block, when those before it in the order are done.
 fn leave(
     alloc: Global,
     g: &mut Graph,
     method: &Method,
-    table: &[Option<Ran>],
+    made: &mut Made,
     b: u32,
-) -> Result<Ran, Memory>
-    requires graph { IsGraph g.old }
+) -> Result<(), Memory>
     requires method { IsMethod method.now }
-    requires next { IsNext method.now g.old table.now b }
-    ensures done { IfOk result (λ ran. IsDone method.now g.new b ran) }
-    ensures grows { Grows g.old g.new }
+    requires next { IsNext method.now made.old b }
+    requires stage { IsStageBefore method.now g.old made.old b }
+    ensures stage { OnOk result (IsStage method.now g.new made.new (loops_around method.now b)) }
+    ensures done { OnOk result ((k : ℕ) → AreDone method.now made.old k → slice_get method.now.order.items k ≡ Some b → AreDone method.now made.new (k + 1)) }
+    ensures start { made.new.start ≡ made.old.start }
+    ensures keeps { KeepsFirst made.old.start g.old g.new }
 {
-    let state = begin(alloc, g, method, table, b)?;
+    let state = begin(alloc, g, method, made, b)?;
     let block = &method.flow.blocks.as_slice()[b as usize];
-    run(alloc, g, method.typed, block, state)
+    let ran = run(alloc, g, method.typed, block, state)?;
+    made.blocks[b as usize] = Some(ran);
+    Ok(())
 }
 
-// A table of this many blocks, of which none is done.
-fn no_blocks(alloc: Global, count: usize) -> Result<Vec<Option<Ran>>, Memory>
-    ensures { IfOk result (λ table. table.items ≡ replicate count None) }
-{
-    let mut table = Vec::new(alloc);
-    for _ in 0..count {
-        table.push(None)?;
-    }
-    Ok(table)
-}
-
-// What each block leaves.
-fn blocks(alloc: Global, g: &mut Graph, method: &Method) -> Result<Vec<Option<Ran>>, Memory>
-    requires graph { IsGraph g.old }
+// Whether a loop has a block.
+fn has_block(method: &Method, i: u32, b: u32) -> bool
     requires method { IsMethod method.now }
-    ensures done { IfOk result (λ table. AreAllDone method.now g.new table.items) }
-    ensures grows { Grows g.old g.new }
+    requires loop_ { i < length method.now.forest.now.loops.items }
+    requires block { b < length method.now.flow.now.blocks }
+    ensures { IsTrue result ↔ HasBlock method.now i (Some b) }
 {
-    let mut table = no_blocks(alloc, method.flow.blocks.as_slice().len())?;
-    let order = &method.forest.order;
-    for k in 0..order.len() {
-        let b = order[k];
-        let ran = leave(alloc, g, method, &table, b)?;
-        table[b as usize] = Some(ran);
+    let mut at = method.forest.home[b as usize];
+    for _ in 0..MAX_DEPTH {
+        let Some(j) = at else {
+            return false;
+        };
+        if j == i {
+            return true;
+        }
+        at = method.forest.loops[j as usize].parent;
     }
-    Ok(table)
+    false
 }
 
-// The root, when all blocks are done.
-fn finish(
+// .. if there is one.
+fn has_next(method: &Method, i: u32, next: Option<u32>) -> bool
+    requires method { IsMethod method.now }
+    requires loop_ { i < length method.now.forest.now.loops.items }
+    requires next { (b : ℕ) → next ≡ Some b → b < length method.now.flow.now.blocks }
+    ensures { IsTrue result ↔ HasBlock method.now i next }
+{
+    match next {
+        Some(b) => has_block(method, i, b),
+        None => false,
+    }
+}
+
+// Closes the loops around a block that the next block isn't in.
+fn close_all(
     alloc: Global,
     g: &mut Graph,
     method: &Method,
-    table: &[Option<Ran>],
-) -> Result<NodeId, Memory>
-    requires graph { IsGraph g.old }
+    made: &mut Made,
+    b: u32,
+    next: Option<u32>,
+) -> Result<(), Memory>
     requires method { IsMethod method.now }
-    requires done { AreAllDone method.now g.old table.now }
-    ensures root { IfOk result (λ r. IsBuiltOf method.now g.new r) }
-    ensures sort { IfOk result (λ r. IsOfSort g.new r R) }
-    ensures grows { Grows g.old g.new }
+    requires last { IsLast method.now made.old b next }
+    requires stage { IsStage method.now g.old made.old (loops_around method.now b) }
+    ensures stage { OnOk result (IsStageFor method.now g.new made.new next) }
+    ensures blocks { made.new.blocks ≡ made.old.blocks }
+    ensures start { made.new.start ≡ made.old.start }
+    ensures keeps { KeepsFirst made.old.start g.old g.new }
 {
-    let ends = method.trees.walk(alloc, Region::Top, Target::Exit)?;
-    let returns = method.trees.walk(alloc, Region::Top, Target::Return)?;
-    let never = over(alloc, g, Op::Never, &[])?;
-    let of = method.typed.program.desc.result;
-    root(alloc, g, table, &ends.nodes, &returns.nodes, never, of)
+    let mut at = method.forest.home[b as usize];
+    for _ in 0..MAX_DEPTH {
+        let Some(i) = at else {
+            return Ok(());
+        };
+        if has_next(method, i, next) {
+            return Ok(());
+        }
+        close(alloc, g, method, made, i)?;
+        at = method.forest.loops[i as usize].parent;
+    }
+    Ok(())
 }
 
-/// Adds the root of a method to a graph, where no block is reached from itself.
+// The block at this place of the order, if there is one.
+fn block_at(order: &[u32], k: usize) -> Option<u32>
+    ensures { result ≡ slice_get order.now k }
+{
+    order.get(k).copied()
+}
+
+// Makes all blocks and closes all loops.
+fn blocks(alloc: Global, g: &mut Graph, method: &Method, made: &mut Made) -> Result<(), Memory>
+    requires method { IsMethod method.now }
+    requires stage { IsStage method.now g.old made.old [] }
+    requires none { AreDone method.now made.old 0 }
+    ensures stage { OnOk result (IsStage method.now g.new made.new []) }
+    ensures done { OnOk result (AreDone method.now made.new (length method.now.order.items)) }
+    ensures start { made.new.start ≡ made.old.start }
+    ensures keeps { KeepsFirst made.old.start g.old g.new }
+{
+    for k in 0..method.order.len() {
+        let b = method.order[k];
+        leave(alloc, g, method, made, b)?;
+        let next = block_at(&method.order, k + 1);
+        close_all(alloc, g, method, made, b, next)?;
+    }
+    Ok(())
+}
+
+// The root, when all blocks are done and all loops are closed.
+fn finish(alloc: Global, g: &mut Graph, method: &Method, made: &Made) -> Result<NodeId, Memory>
+    requires method { IsMethod method.now }
+    requires stage { IsStage method.now g.old made.now [] }
+    requires done { AreDone method.now made.now (length method.now.order.items) }
+    ensures root { IfOk result (λ r. IsBuiltOf method.now g.new r) }
+    ensures sort { IfOk result (λ r. IsOfSort g.new r R) }
+    ensures grows { GrowsIn 0 g.old g.new }
+{
+    let ends = given(alloc, g, method, made, None, Target::Exit)?;
+    let returns = given(alloc, g, method, made, None, Target::Return)?;
+    let never = over(alloc, g, Op::Never, &[])?;
+    let of = method.typed.program.desc.result;
+    root(alloc, g, &ends, &returns, never, of)
+}
+
+// n blocks, of which none is done.
+fn no_blocks(alloc: Global, n: usize) -> Result<Vec<Option<Ran>>, Memory>
+    ensures { IfOk result (λ blocks. blocks.items ≡ replicate n None) }
+{
+    let mut blocks = Vec::new(alloc);
+    for _ in 0..n {
+        blocks.push(None)?;
+    }
+    Ok(blocks)
+}
+
+// n loops, of which none is opened.
+fn no_loops(alloc: Global, n: usize) -> Result<Vec<Stage>, Memory>
+    ensures { IfOk result (λ loops. loops.items ≡ replicate n stage.Ahead) }
+{
+    let mut loops = Vec::new(alloc);
+    for _ in 0..n {
+        loops.push(Stage::Ahead)?;
+    }
+    Ok(loops)
+}
+
+// Nothing of a method with these numbers of blocks and loops.
+fn nothing(alloc: Global, start: NodeId, blocks: usize, loops: usize) -> Result<Made, Memory>
+    ensures { IfOk result (λ made. IsNothing made start blocks loops) }
+{
+    Ok(Made {
+        start,
+        names: Names::new(alloc),
+        blocks: no_blocks(alloc, blocks)?,
+        loops: no_loops(alloc, loops)?,
+    })
+}
+
+/// Adds the root of a method to an open graph.
 pub(crate) fn build(
     alloc: Global,
     g: &mut Graph,
@@ -134,18 +296,24 @@ pub(crate) fn build(
     flow: &Flow,
     forest: &Forest,
 ) -> Result<NodeId, Memory>
-    requires graph { IsGraph g.old }
-    requires straight { IsStraight typed.now.program typed.now.frames flow.now.blocks forest.now }
+    requires made { IsWellMade g.old }
+    requires open { g.old.is_open ≡ true }
+    requires routine { IsRoutine typed.now.program typed.now.frames flow.now.blocks forest.now }
     ensures root { IfOk result (λ r. IsBuilt g.new typed.now.program typed.now.frames flow.now.blocks forest.now r) }
     ensures sort { IfOk result (λ r. IsOfSort g.new r R) }
-    ensures grows { Grows g.old g.new }
+    ensures enlarges { IfOk result (λ r. Enlarges g.old g.new) }
+    ensures keeps { Keeps g.old g.new }
 {
     let method = Method {
         typed,
         flow,
         forest,
         trees: Trees::new(alloc, flow, forest)?,
+        order: arranged(alloc, typed, flow, forest)?,
+        carried: carried(alloc, typed, flow, forest)?,
     };
-    let table = blocks(alloc, g, &method)?;
-    finish(alloc, g, &method, &table)
+    let count = flow.blocks.as_slice().len();
+    let mut made = nothing(alloc, g.len(), count, forest.loops.len())?;
+    blocks(alloc, g, &method, &mut made)?;
+    finish(alloc, g, &method, &made)
 }

@@ -6,13 +6,12 @@ ghost use Rattle.pv_graph.specs.declared.node.OpSort.TheVariants.{R};
 ghost use Rattle.pv_terms.specs.Reads.{IsNoTheta};
 ghost use Rattle.pv_terms.specs.Terms.{Grows, IsOfSort};
 ghost use Rattle.pv_build.specs.Slots.{number};
-ghost use Rattle.pv_build.specs.Tables.{IsTree};
+ghost use Rattle.pv_build.specs.Sources.{IsTree};
 ghost use Rattle.pv_build.specs.Ends.{default_of, GivesLike, ReadsOrElse, IsSortedOrElse, EndsGive, ReadsRoot};
 
 use crate::entering::fold_slot;
 use crate::slot::Slot;
-use pv_block::Ran;
-use pv_decide::TreeNode;
+use crate::source::Given;
 use pv_graph::{Graph, NodeId, Op};
 use pv_terms::over;
 use pv_value::{JType, Memory};
@@ -34,21 +33,20 @@ fn no_result(of: Option<JType>) -> Op
 fn at_end(
     alloc: Global,
     g: &mut Graph,
-    table: &[Option<Ran>],
-    tree: &[TreeNode],
+    given: &Given,
     slot: Slot,
     dead: Option<NodeId>,
     default: Op,
 ) -> Result<NodeId, Memory>
     requires graph { IsGraph g.old }
-    requires tree { IsTree tree.now }
+    requires tree { IsTree given.now.nodes.items }
     requires other { IsNoTheta default }
-    requires gives { GivesLike g.old table.now tree.now (number slot) dead default }
-    ensures reads { IfOk result (λ n. ReadsOrElse g.old table.now tree.now (number slot) dead default g.new n) }
-    ensures sort { IfOk result (λ n. IsSortedOrElse g.old table.now tree.now (number slot) dead default g.new n) }
+    requires gives { GivesLike g.old given.now (number slot) dead default }
+    ensures reads { IfOk result (λ n. ReadsOrElse g.old given.now (number slot) dead default g.new n) }
+    ensures sort { IfOk result (λ n. IsSortedOrElse g.old given.now (number slot) dead default g.new n) }
     ensures grows { Grows g.old g.new }
 {
-    let made = fold_slot(alloc, g, table, tree, slot, dead)?;
+    let made = fold_slot(alloc, g, given, slot, dead)?;
     match made {
         Some(n) => Ok(n),
         None => over(alloc, g, default, &[]),
@@ -60,24 +58,23 @@ fn at_end(
 pub(crate) fn root(
     alloc: Global,
     g: &mut Graph,
-    table: &[Option<Ran>],
-    ends: &[TreeNode],
-    returns: &[TreeNode],
+    ends: &Given,
+    returns: &Given,
     never: NodeId,
     of: Option<JType>,
 ) -> Result<NodeId, Memory>
     requires graph { IsGraph g.old }
-    requires ends { IsTree ends.now }
-    requires returns { IsTree returns.now }
-    requires gives { EndsGive g.old table.now ends.now returns.now never of }
-    ensures reads { IfOk result (λ r. ReadsRoot g.old table.now ends.now returns.now never of g.new r) }
+    requires ends { IsTree ends.now.nodes.items }
+    requires returns { IsTree returns.now.nodes.items }
+    requires gives { EndsGive g.old ends.now returns.now never of }
+    ensures reads { IfOk result (λ r. ReadsRoot g.old ends.now returns.now never of g.new r) }
     ensures sort { IfOk result (λ r. IsOfSort g.new r R) }
     ensures grows { Grows g.old g.new }
 {
     let dead = Some(never);
-    let token = at_end(alloc, g, table, ends, Slot::Token, dead, Op::Never)?;
-    let fault = at_end(alloc, g, table, ends, Slot::Fault, None, Op::Clear)?;
-    let given = at_end(alloc, g, table, returns, Slot::Result, None, no_result(of))?;
-    let heap = at_end(alloc, g, table, ends, Slot::Heap, None, Op::Heap0)?;
+    let token = at_end(alloc, g, ends, Slot::Token, dead, Op::Never)?;
+    let fault = at_end(alloc, g, ends, Slot::Fault, None, Op::Clear)?;
+    let given = at_end(alloc, g, returns, Slot::Result, None, no_result(of))?;
+    let heap = at_end(alloc, g, ends, Slot::Heap, None, Op::Heap0)?;
     over(alloc, g, Op::Root, &[token, fault, given, heap])
 }

@@ -1,31 +1,39 @@
 //! From a method to the root of its graph.
 //!
 //! This layer stands on `pv_block`, which runs a block on nodes, on `pv_decide`, whose trees say by which
-//! exits a block is reached, and on `pv_terms`, which folds a tree. `structure` finds a method's blocks and
-//! loops; `specs/Structure` says which programs are structured, and for which cause others aren't. The graph
-//! of a method in which no block is reached from itself is built (`specs/Straight`). The blocks are taken in
-//! an order that edges follow (`building`): what is held at the method's first block is what it is given
-//! (`starting`), and at another one it is, slot by slot, the fold of its tree over what holds at the exits of
-//! earlier blocks (`entering`); the table of these is `table`. The root is over the folds of the trees of the
-//! method's ends (`ending`). `specs/Slots`, `Tables`, `States`, `Ends`, `Made` and `Reasons` are private to
-//! this crate.
+//! exits a block is reached, and on `pv_terms`, which folds a tree and ties thetas. `structure` finds a
+//! method's blocks and loops; `specs/Structure` says which programs are structured, and for which cause
+//! others aren't.
+//!
+//! The blocks are taken in an order in which those of a loop stand together (`arranging`, `specs/Arranged`), one
+//! after another (`building`). What is held where a block is entered is what the method is given (`starting`), or
+//! slot by slot the fold (`entering`) of the tree of the region that the block is in, over what holds at the exits
+//! of earlier blocks (`giving`), taken out of the loops that they leave (`taking`). At the header of a loop each slot
+//! that the loop carries (`carrying`) becomes a theta (`opening`); after its last block it is known whether the loop
+//! is left, and the thetas are tied (`closing`). The root is over the folds of the trees of the method's ends
+//! (`ending`). `specs/Stages` has the invariant, `IsStage`: what is made of a method stands for what the equations
+//! say, each theta has its kids or is one of an open loop, and no node from before a loop leads into it. The other
+//! files of `specs/` but for `Structure`, `Unfolded`, `Conversion` and `Reasons` are private to this crate too.
 //!
 //! The layer above uses `convert`: its root unfolds as whatever solves the equations of the method's flow
 //! says (`IsRootOf` in `specs/Conversion`), so that by the laws of `pv_runs` it has the outcomes of the
-//! method; or it gives the reason why the method has no root, the causes of `pv_frame` before those of its
-//! blocks, and a loop, which isn't built yet, last.
+//! method; or it gives the cause why the method has no root, those of `pv_frame` before those of its blocks.
 #![tactic(auto)]
 
+mod arranging;
 mod building;
+mod carrying;
+mod closing;
 mod conversion;
 mod ending;
 mod entering;
+mod giving;
 mod method;
-mod reason;
+mod opening;
 mod slot;
+mod source;
 mod starting;
 mod structure;
-mod table;
+mod taking;
 
 pub use conversion::convert;
-pub use reason::{Reason, Refused};

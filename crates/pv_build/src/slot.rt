@@ -1,6 +1,6 @@
 //! Slots of the equations, and their nodes where a block is left.
 
-ghost use Rattle.std.specs.Prelude.{◌≡◌, ◌<◌};
+ghost use Rattle.std.specs.Prelude.{◌≡◌, ◌<◌, ◌+◌, IfSome};
 ghost use Rattle.pv_block.specs.Ran.{node_of_cell, local_node, stack_node, slot_of, ending_slot, slot_at};
 ghost use Rattle.pv_build.specs.Slots.{number, number_in};
 
@@ -25,6 +25,33 @@ pub(crate) enum Slot {
 pub(crate) enum Part {
     Locals,
     Stack,
+}
+
+impl Slot {
+    /// The number of the slot in the equations, if it is small enough.
+    pub(crate) fn number(self) -> Option<u32>
+        ensures { IfSome result (λ n. n ≡ number self) }
+    {
+        match self {
+            Slot::Token => Some(0),
+            Slot::Fault => Some(1),
+            Slot::Result => Some(2),
+            Slot::Heap => Some(3),
+            Slot::Local(k) => numbered(4, k),
+            Slot::Place(j) => numbered(5, j),
+        }
+    }
+}
+
+// The number of the slot at this place of those that begin with the first and take turns with others.
+fn numbered(first: u32, place: usize) -> Option<u32>
+    requires { first < 8 }
+    ensures { IfSome result (λ n. n ≡ first + (place + place)) }
+{
+    if place > 0x3FFF_FFFF {
+        return None;
+    }
+    Some(first + 2 * place as u32)
 }
 
 impl Part {

@@ -3,11 +3,12 @@
 ghost use Rattle.std.specs.Prelude.{◌≡◌, ◌<◌, ◌^◌, length, IfOk};
 ghost use Rattle.pv_frame.specs.Frames.{IsInferred};
 ghost use Rattle.pv_flow.specs.Edges.{edges_of};
-ghost use Rattle.pv_build.specs.Reasons.{Structures, met};
+ghost use Rattle.pv_frame.specs.Causes.{cause};
+ghost use Rattle.pv_frame.specs.declared.cause.Refused.TheVariants as refused;
+ghost use Rattle.pv_build.specs.Reasons.{Structures};
 
-use crate::reason::{Reason, Refused};
 use pv_flow::{Flow, blocks};
-use pv_frame::{Cause, CauseKind, Typed};
+use pv_frame::{Cause, CauseKind, Refused, Typed};
 use pv_loops::{Forest, LoopFault, Shape, reduce};
 use pv_value::Memory;
 use std::alloc::Global;
@@ -47,7 +48,7 @@ fn shape_of(alloc: Global, flow: &Flow) -> Result<Shape, Memory>
 
 // A cause that is in no single instruction.
 fn met(kind: CauseKind) -> Refused
-    ensures { result ≡ met kind }
+    ensures { result ≡ refused.Cause (cause kind 0) }
 {
-    Refused::For(Reason::Met(Cause { kind, at: 0 }))
+    Refused::Cause(Cause { kind, at: 0 })
 }

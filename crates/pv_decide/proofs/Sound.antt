@@ -81,11 +81,18 @@ module _ (sites : List Site) (r : Scope) (t : Target) where
       go dest.Throw l.Returns goes il e = absurd il
 
   -- .. and of the exit
-  leaf_aimed : (lan : Landing) (b : ℕ) (d : code.Exit) → IsLanding sites r b d lan → verdict.Leaf ≡ verdict_of r t lan → AimsAt t d
+  leaf_aimed : (lan : Landing) (b : ℕ) (d : code.Exit) → IsLanding sites r b d lan → verdict.Leaf ≡ verdict_of r t lan → AimsAt r t d
   leaf_aimed lan b d il e = go t d lan il e
     where
-      go : (t : Target) (d : code.Exit) (lan : Landing) → IsLanding sites r b d lan → verdict.Leaf ≡ verdict_of r t lan → AimsAt t d
-      go target.Back d lan il e = tt
+      go : (t : Target) (d : code.Exit) (lan : Landing) → IsLanding sites r b d lan → verdict.Leaf ≡ verdict_of r t lan → AimsAt r t d
+      go target.Back (dest.To m) l.Header il e = (m, il.2, refl)
+      go target.Back d (l.On k) il e = absurd (cc)
+      go target.Back d l.Gone il e = absurd (cc)
+      go target.Back d l.Again il e = absurd (cc)
+      go target.Back d l.Returns il e = absurd (cc)
+      go target.Back d l.Throws il e = absurd (cc)
+      go target.Back dest.Return l.Header il e = absurd il
+      go target.Back dest.Throw l.Header il e = absurd il
       go target.Leave d lan il e = tt
       go (target.Node n) (dest.To m) (l.On k) il e = ⊎_elim
           (λ z. ap dest.To (sym il.0 ∙ z.1))
@@ -115,11 +122,11 @@ module _ (sites : List Site) (r : Scope) (t : Target) where
       go target.Return dest.Return l.Returns il e = refl
       go target.Return dest.Throw l.Returns il e = absurd il
 
-  aimed_at : (b e : ℕ) (k : Site) (d : code.Exit) → slice_get sites b ≡ Some k → slice_get k.exits.items e ≡ Some d → AimsAt t d → IsAimedAt sites t b e
+  aimed_at : (b e : ℕ) (k : Site) (d : code.Exit) → slice_get sites b ≡ Some k → slice_get k.exits.items e ≡ Some d → AimsAt r t d → IsAimedAt sites r t b e
   aimed_at b e k d here at a j c there exit =
       let same : j ≡ k = (let z : Some j ≡ Some k = sym there ∙ here in cc) in
       let one : d ≡ c = (let z : Some d ≡ Some c = sym at ∙ ap (λ (j : Site). slice_get j.exits.items e) (sym same) ∙ exit in cc) in
-      subst (AimsAt t) one a
+      subst (AimsAt r t) one a
 
   -- a pushed leaf
   pub leaf_fits : (a c : List TreeNode) (b e n : ℕ) (k : Site) (d : code.Exit) (lan : Landing) (ans : Verdict) → slice_get sites b ≡ Some k → slice_get k.exits.items e ≡ Some d → GoesAs b d → ans ≡ verdict_of r t lan → ans ≡ verdict.Leaf → IsLanding sites r b d lan

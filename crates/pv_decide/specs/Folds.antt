@@ -6,6 +6,7 @@ use Rattle.pv_flow.specs.declared.block.Exit as flow
 use Rattle.pv_flow.specs.declared.block.Exit.TheVariants as exit
 use Rattle.pv_decide.specs.declared.site.Site.{Site}
 use Rattle.pv_decide.specs.declared.aim.Scope.{Scope}
+use Rattle.pv_decide.specs.declared.aim.Scope.TheVariants as scope
 use Rattle.pv_decide.specs.declared.tree.Target.{Target}
 use Rattle.pv_decide.specs.declared.tree.Target.TheVariants as target
 use Rattle.pv_decide.specs.Sites.{Inside, AreOrdered, place_of}
@@ -34,21 +35,21 @@ IsTestOf sites r b e = Inside sites r b × (k : Site) × (slice_get sites b ≡ 
 abbrev pub IsEarly : List Site → Target → ℕ → Type 0
 IsEarly sites t b = (n : ℕ) (order : List ℕ) → t ≡ target.Node n → n < length sites → AreOrdered sites order → place_of order b < place_of order n
 
--- an exit of this kind is looked for: one to the block, or an end of the method
-abbrev pub AimsAt : Target → flow.Exit → Type 0
-AimsAt (target.Node n) d = d ≡ exit.To n
-AimsAt target.Exit d = (d ≡ exit.Return) ⊎ (d ≡ exit.Throw)
-AimsAt target.Return d = d ≡ exit.Return
-AimsAt target.Back d = ⊤
-AimsAt target.Leave d = ⊤
+-- an exit of this kind is looked for: one to the block, an end of the method, or one to the header of the region's loop
+abbrev pub AimsAt : Scope → Target → flow.Exit → Type 0
+AimsAt r (target.Node n) d = d ≡ exit.To n
+AimsAt r target.Exit d = (d ≡ exit.Return) ⊎ (d ≡ exit.Throw)
+AimsAt r target.Return d = d ≡ exit.Return
+AimsAt r target.Back d = (h : ℕ) × (r ≡ scope.Loop h) × (d ≡ exit.To h)
+AimsAt r target.Leave d = ⊤
 
 -- the exit e of the block b is one that is looked for
-abbrev pub IsAimedAt : List Site → Target → ℕ → ℕ → Type 0
-IsAimedAt sites t b e = (k : Site) (d : flow.Exit) → slice_get sites b ≡ Some k → slice_get k.exits.items e ≡ Some d → AimsAt t d
+abbrev pub IsAimedAt : List Site → Scope → Target → ℕ → ℕ → Type 0
+IsAimedAt sites r t b e = (k : Site) (d : flow.Exit) → slice_get sites b ≡ Some k → slice_get k.exits.items e ≡ Some d → AimsAt r t d
 
 -- what a node may be, at place n of the list
 abbrev pub NodeFits : List Site → Scope → Target → ℕ → code.TreeNode → Type 0
-NodeFits sites r t n (node.Leaf b e) = IsExitOf sites r b e × IsEarly sites t b × IsAimedAt sites t b e
+NodeFits sites r t n (node.Leaf b e) = IsExitOf sites r b e × IsEarly sites t b × IsAimedAt sites r t b e
 NodeFits sites r t n (node.Test b e y m) = IsTestOf sites r b e × IsEarly sites t b × (y < n) × (m < n)
 NodeFits sites r t n node.Nothing = ⊤
 NodeFits sites r t n node.Dead = ⊤

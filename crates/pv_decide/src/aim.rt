@@ -7,7 +7,7 @@ use crate::tree::Target;
 
 /// The whole method, or the loop with this header.
 #[derive(Clone, Copy, Debug, PartialEq, Eq)]
-pub(crate) enum Scope {
+pub enum Scope {
     Whole,
     Loop(u32),
 }

@@ -37,5 +37,6 @@ mod tree;
 mod trees;
 mod walking;
 
+pub use aim::Scope;
 pub use tree::{Region, Target, Tree, TreeNode};
 pub use trees::Trees;

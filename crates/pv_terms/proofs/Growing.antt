@@ -1,5 +1,5 @@
 -- Graphs to which nodes are added, and the sorts of these.
-use Rattle.std.proofs.Common.{◌≡◌, ◌≢◌, ℕ, ◌<◌, List, [], ◌∷◌, ◌++◌, length, Bool, true, Some, None, slice_get, ◌⊎◌, inl, inr, refl, sym, ap, ◌∙◌, subst, arith, if◌then◌else◌}
+use Rattle.std.proofs.Common.{◌≡◌, ◌≢◌, ℕ, ◌<◌, List, [], ◌∷◌, ◌++◌, length, Bool, true, false, Some, None, slice_get, ◌⊎◌, inl, inr, ⊎_elim, refl, sym, ap, ◌∙◌, subst, arith, if◌then◌else◌}
 use Rattle.std.specs.Prelude.{Result, Ok, Err, OnErr}
 use Rattle.std.proofs.lemmas.Option.{slice_get_within, same_Some}
 use Rattle.pv_graph.specs.declared.node.Op.{Op}
@@ -14,37 +14,62 @@ use Rattle.pv_graph.specs.Graphs.{Graph, IsGraph, IsUnfinished, Extends}
 use Rattle.pv_graph.specs.Calls.{IsSame, AreNodes, IsOpenTheta, appended, Added, Begun}
 use Rattle.pv_graph.proofs.CallLaws.{added_made, added_extends, begun_made, begun_extends}
 use Rattle.pv_terms.specs.Reads.{IsNoTheta}
-use Rattle.pv_terms.specs.Terms.{Grows, Opens, Keeps, IsOfSort, IsValue, HasItsSort, KeepsSort}
+use Rattle.pv_terms.specs.Terms.{has_depth, IsFlat, IsFlatOrOut, GrowsBy, Grows, Opens, Keeps, IsOfSort, IsValue, HasItsSort, KeepsSort}
 
 -- ---- graphs that grow
 
-pub grows_same : (g : Graph) → IsGraph g → Grows g g
-grows_same g is = record { graph = is; made = λ m. m; extends = record { nodes = λ n x at. at; sorts = λ n s at. at }; open_ = refl; left = λ n is. is }
+pub grows_by_same : (P : Op → Type 0) (g : Graph) → IsGraph g → GrowsBy P g g
+grows_by_same P g is = record { graph = is; made = λ m. m; extends = record { nodes = λ n x at. at; sorts = λ n s at. at }; open_ = refl; left = λ n is. is; added = λ n x at. inl at }
 
-pub grows_then : (a b c : Graph) → Grows a b → Grows b c → Grows a c
-grows_then a b c p q = record {
+pub grows_same : (g : Graph) → IsGraph g → Grows g g
+grows_same g is = grows_by_same IsFlat g is
+
+pub grows_by_then : (P : Op → Type 0) (a b c : Graph) → GrowsBy P a b → GrowsBy P b c → GrowsBy P a c
+grows_by_then P a b c p q = record {
   graph = q.graph;
   made = λ m. q.made (p.made m);
   extends = record { nodes = λ n x at. q.extends.nodes n x (p.extends.nodes n x at); sorts = λ n s at. q.extends.sorts n s (p.extends.sorts n s at) };
   open_ = q.open_ ∙ p.open_;
   left = λ n is. p.left n (q.left n is);
+  added = λ n x at. ⊎_elim (λ old. p.added n x old) (λ more. inr more) (q.added n x at);
 }
+
+pub grows_then : (a b c : Graph) → Grows a b → Grows b c → Grows a c
+grows_then a b c p q = grows_by_then IsFlat a b c p q
+
+-- what is said of fewer operations is said of more
+pub grows_wider : (P Q : Op → Type 0) (a b : Graph) → ((o : Op) → P o → Q o) → GrowsBy P a b → GrowsBy Q a b
+grows_wider P Q a b f p = record {
+  graph = p.graph;
+  made = p.made;
+  extends = p.extends;
+  open_ = p.open_;
+  left = p.left;
+  added = λ n x at. ⊎_elim (λ old. inl old) (λ is. inr (f x.op is)) (p.added n x at);
+}
+
+pub flat_or_out : (d : ℕ) (a b : Graph) → Grows a b → GrowsBy (IsFlatOrOut d) a b
+flat_or_out d a b grows = grows_wider IsFlat (IsFlatOrOut d) a b (λ o is. inl is) grows
 
 -- an equal graph, prepared or not
 same_graph : (old : Graph) (prepared : Bool) → IsGraph old → IsGraph (record old { is_prepared = prepared })
 same_graph old prepared g = record { long = g.long; small = g.small; base = g.base; open_ = g.open_; sorted = g.sorted; early = g.early; late = g.late; ranged = g.ranged }
 
-same_grows : (old : Graph) (prepared : Bool) → IsGraph old → Grows old (record old { is_prepared = prepared })
-same_grows old prepared is = record {
+same_grows : (P : Op → Type 0) (old : Graph) (prepared : Bool) → IsGraph old → GrowsBy P old (record old { is_prepared = prepared })
+same_grows P old prepared is = record {
   graph = same_graph old prepared is;
   made = λ m. record { graph = same_graph old prepared m.graph; rule = m.rule };
   extends = record { nodes = λ n x at. at; sorts = λ n s at. at };
   open_ = refl;
   left = λ n is. is;
+  added = λ n x at. inl at;
 }
 
+pub grows_by_unchanged : (P : Op → Type 0) (old new : Graph) → IsGraph old → IsSame old new → GrowsBy P old new
+grows_by_unchanged P old new is same = subst (GrowsBy P old) (sym same) (same_grows P old new.is_prepared is)
+
 pub grows_unchanged : (old new : Graph) → IsGraph old → IsSame old new → Grows old new
-grows_unchanged old new is same = subst (Grows old) (sym same) (same_grows old new.is_prepared is)
+grows_unchanged old new is same = grows_by_unchanged IsFlat old new is same
 
 added_open : (old new : Graph) (o : Op) (kids : List ℕ) (s : OpSort) → IsSame old new ⊎ (IsAbsent old.nodes (node_of o kids) × (new ≡ appended old (node_of o kids) s new.is_prepared)) → new.is_open ≡ old.is_open
 added_open old new o kids s (inl same) = ap (λ (g : Graph). g.is_open) same
@@ -60,20 +85,46 @@ added_left old new o kids s other (inr more) n is =
       | inr last ↦ absurd (other is.0 (ap (λ (y : Node). y.op) last.1))
     ]
 
-pub grows_added : (old new : Graph) (o : Op) (kids : List ℕ) (n : ℕ) → IsGraph old → IsNoTheta o → Added old new o kids n → Grows old new
-grows_added old new o kids n is other added = record {
+-- a node that isn't an old one is the one that was added
+added_node : (old new : Graph) (o : Op) (kids : List ℕ) (s : OpSort) → IsSame old new ⊎ (IsAbsent old.nodes (node_of o kids) × (new ≡ appended old (node_of o kids) s new.is_prepared)) → (n : ℕ) (x : Node) → slice_get new.nodes n ≡ Some x
+    → (slice_get old.nodes n ≡ Some x) ⊎ (x.op ≡ o)
+added_node old new o kids s (inl same) n x at = inl (sym (ap (λ (g : Graph). slice_get g.nodes n) same) ∙ at)
+added_node old new o kids s (inr more) n x at =
+    elim (push_cases old.nodes (node_of o kids) x n (sym (ap (λ (g : Graph). slice_get g.nodes n) more.1) ∙ at)) [
+      | inl there ↦ inl there
+      | inr last ↦ inr (sym (ap (λ (y : Node). y.op) last.1))
+    ]
+
+pub grows_added : (P : Op → Type 0) (old new : Graph) (o : Op) (kids : List ℕ) (n : ℕ) → IsGraph old → IsNoTheta o → P o → Added old new o kids n → GrowsBy P old new
+grows_added P old new o kids n is other has added = record {
   graph = added.graph;
   made = λ m. added_made old new o kids n m added;
   extends = added_extends old new o kids n is added;
   open_ = added_open old new o kids added.fits.0 added.grows;
   left = added_left old new o kids added.fits.0 other added.grows;
+  added = λ m x at. ⊎_elim (λ old. inl old) (λ e. inr (subst P (sym e) has)) (added_node old new o kids added.fits.0 added.grows m x at);
 }
+
+-- an operation without a depth is no theta, and neither is one that takes a value out of a loop
+pub flat_no_theta : (o : Op) → IsFlat o → IsNoTheta o
+flat_no_theta o flat d e = let z : has_depth (op.Theta d) ≡ false = subst IsFlat e flat in absurd (cc)
+
+pub out_no_theta : (d : ℕ) (o : Op) → (o ≡ op.Eval d) ⊎ (o ≡ op.Pass d) → IsNoTheta o
+out_no_theta d o (inl is) e f = absurd (let z = sym is ∙ f in cc)
+out_no_theta d o (inr is) e f = absurd (let z = sym is ∙ f in cc)
 
 begun_left : (old new : Graph) (d : ℕ) (s : OpSort) (n : ℕ) → Begun old new d s n → (m : ℕ) → IsOpenTheta new m → IsOpenTheta old m ⊎ (m ≡ n)
 begun_left old new d s n begun m is =
     let at : slice_get (old.nodes ++ node_of (op.Theta d) [] ∷ []) m ≡ Some (node_of (op.Theta is.0) []) = sym (ap (λ (g : Graph). slice_get g.nodes m) begun.grows) ∙ is.1 in
     elim (push_cases old.nodes (node_of (op.Theta d) []) (node_of (op.Theta is.0) []) m at) [
       | inl there ↦ inl (is.0, there)
+      | inr last ↦ inr (last.0 ∙ sym begun.number)
+    ]
+
+begun_node : (old new : Graph) (d : ℕ) (s : OpSort) (n : ℕ) → Begun old new d s n → (m : ℕ) (x : Node) → slice_get new.nodes m ≡ Some x → (slice_get old.nodes m ≡ Some x) ⊎ (m ≡ n)
+begun_node old new d s n begun m x at =
+    elim (push_cases old.nodes (node_of (op.Theta d) []) x m (sym (ap (λ (g : Graph). slice_get g.nodes m) begun.grows) ∙ at)) [
+      | inl there ↦ inl there
       | inr last ↦ inr (last.0 ∙ sym begun.number)
     ]
 
@@ -84,6 +135,8 @@ opens_begun old new d s n is begun = record {
   extends = begun_extends old new d s n is begun;
   open_ = ap (λ (g : Graph). g.is_open) begun.grows;
   left = begun_left old new d s n begun;
+  after = begun.number;
+  added = begun_node old new d s n begun;
 }
 
 pub keeps_begun : (old new : Graph) (d : ℕ) (s : OpSort) (n : ℕ) → IsGraph old → Begun old new d s n → Keeps old new
@@ -168,5 +221,5 @@ pub both_has : (g : Graph) (a b : ℕ) → IsOfSort g a sort.T → IsOfSort g b 
 both_has g a b p q = record { sorts = sort.T ∷ sort.T ∷ []; kids_have = (p, (q, tt)); over = refl }
 
 -- a value taken over its pass has its sort
-pub eval_keeps : (old mid new : Graph) (d n p r : ℕ) → is_depth d ≡ true → IsValue old n → Grows old mid → IsOfSort mid p sort.N → HasItsSort mid (op.Eval d) (n ∷ p ∷ []) new r → KeepsSort old n new r
+pub eval_keeps : (old mid new : Graph) (d n p r : ℕ) → is_depth d ≡ true → IsValue old n → GrowsBy (IsFlatOrOut d) old mid → IsOfSort mid p sort.N → HasItsSort mid (op.Eval d) (n ∷ p ∷ []) new r → KeepsSort old n new r
 eval_keeps old mid new d n p r h value grows pass has s at = has s (eval_has mid d n p s h (λ e. value.2 (same_Some value.0 s (sym value.1 ∙ at) ∙ e)) (grows.extends.sorts n s at) pass)

@@ -15,7 +15,7 @@ use Rattle.pv_equations.specs.Equations.{FreeIn, unit_exp}
 use Rattle.pv_terms.specs.declared.names.Named.{Named}
 use Rattle.pv_terms.specs.Reads.{IsNoTheta, Reads, ReadAll, AreNames}
 use Rattle.pv_terms.specs.Laws.{depths}
-use Rattle.pv_terms.specs.Terms.{Grows, IsOfSort, ReadsOver, ReadsBoth, last_of, ReadsLast, ReadsOut, ReadsTokenOut}
+use Rattle.pv_terms.specs.Terms.{IsFlat, IsFlatOrOut, GrowsBy, Grows, IsOfSort, ReadsOver, ReadsBoth, last_of, ReadsLast, ReadsOut, ReadsTokenOut}
 use Rattle.pv_terms.proofs.Reading.{same_node, same_op, same_kids, unnamed, reads_stand, all_stand, names_stand, extends_stand}
 use Rattle.pv_terms.proofs.Freed.{free_reads}
 
@@ -24,8 +24,11 @@ use Rattle.pv_terms.proofs.Freed.{free_reads}
 pub reads_added : (old new : Graph) (o : Op) (kids : List ℕ) (n : ℕ) → IsGraph old → IsNoTheta o → Added old new o kids n → ReadsOver old o kids new n
 reads_added old new o kids n is other added names es all = (kids, other, added.first, all_stand old.nodes new.nodes names names (extends_stand old new (added_extends old new o kids n is added)) (λ h s n i. i) kids es all)
 
+pub reads_grown_by : (P : Op → Type 0) (old new : Graph) (names : List Named) (n : ℕ) (e : Exp) → GrowsBy P old new → Reads old.nodes names n e → Reads new.nodes names n e
+reads_grown_by P old new names n e grows r = reads_stand old.nodes new.nodes names names (extends_stand old new grows.extends) (λ h s n i. i) n e r
+
 pub reads_grown : (old new : Graph) (names : List Named) (n : ℕ) (e : Exp) → Grows old new → Reads old.nodes names n e → Reads new.nodes names n e
-reads_grown old new names n e grows r = reads_stand old.nodes new.nodes names names (extends_stand old new grows.extends) (λ h s n i. i) n e r
+reads_grown old new names n e grows r = reads_grown_by IsFlat old new names n e grows r
 
 -- ---- both(unit, t) is t
 
@@ -86,8 +89,8 @@ both_other g new a b n x there other reads depth names e y are ra rb = subst (Re
 
 -- ---- out of a loop
 
-pub last_reads : (old mid new : Graph) (d ending n p r : ℕ) → Grows old mid → ReadsOver old (op.Pass d) (ending ∷ []) mid p → ReadsOver mid (op.Eval d) (n ∷ p ∷ []) new r → ReadsLast old d ending n new r
-last_reads old mid new d ending n p r grows pass eval names x y rx ry = eval names (two x (Over (op.Pass d) (one y))) (reads_grown old mid names n x grows rx, (pass names (one y) (ry, tt), tt))
+pub last_reads : (old mid new : Graph) (d ending n p r : ℕ) → GrowsBy (IsFlatOrOut d) old mid → ReadsOver old (op.Pass d) (ending ∷ []) mid p → ReadsOver mid (op.Eval d) (n ∷ p ∷ []) new r → ReadsLast old d ending n new r
+last_reads old mid new d ending n p r grows pass eval names x y rx ry = eval names (two x (Over (op.Pass d) (one y))) (reads_grown_by (IsFlatOrOut d) old mid names n x grows rx, (pass names (one y) (ry, tt), tt))
 
 -- where the depth isn't free
 pub out_same : (g : Graph) (d ending n : ℕ) → (IsFree g d n → ⊥) → ReadsOut g d ending n g n
@@ -107,7 +110,7 @@ out_last g new d ending n r free last f v names h B x around deep making re rx =
     (λ z. absurd (z.0 (subst (λ (d : ℕ). FreeIn f v d x) (sym e) ((free_reads f v g.nodes names d making n x rx).0 free))))
     (making.equations.outs_are h x B around)
 
-pub token_reads : (old mid new : Graph) (d entering ending n m r : ℕ) → Grows old mid → ReadsLast old d ending n mid m → ReadsBoth mid entering m new r → ReadsTokenOut old d entering ending n new r
+pub token_reads : (old mid new : Graph) (d entering ending n m r : ℕ) → GrowsBy (IsFlatOrOut d) old mid → ReadsLast old d ending n mid m → ReadsBoth mid entering m new r → ReadsTokenOut old d entering ending n new r
 token_reads old mid new d entering ending n m r grows last both f v names h x deep are ri re rx =
     let left : Reads mid.nodes names m (last_of (depths f h) (v.ending h) x) = subst (λ (d : ℕ). Reads mid.nodes names m (last_of d (v.ending h) x)) (sym deep) (last names x (v.ending h) rx re) in
-    both (depths f) names (v.entering h 0) (last_of (depths f h) (v.ending h) x) (names_stand (depths f) old.nodes mid.nodes names (extends_stand old mid grows.extends) are) (reads_grown old mid names entering (v.entering h 0) grows ri) left
+    both (depths f) names (v.entering h 0) (last_of (depths f h) (v.ending h) x) (names_stand (depths f) old.nodes mid.nodes names (extends_stand old mid grows.extends) are) (reads_grown_by (IsFlatOrOut d) old mid names entering (v.entering h 0) grows ri) left

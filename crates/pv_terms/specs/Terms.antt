@@ -1,7 +1,8 @@
 -- What is added to a graph: operations over nodes, and names, with what they stand for.
-use Rattle.std.specs.Prelude.{◌≡◌, ◌≢◌, ◌⊎◌, ℕ, List, ◌∷◌, Some, slice_get}
+use Rattle.std.specs.Prelude.{◌≡◌, ◌≢◌, ◌⊎◌, ℕ, Bool, true, false, List, ◌∷◌, length, Some, slice_get, ⊤}
 use Rattle.pv_graph.specs.declared.node.Op.{Op}
 use Rattle.pv_graph.specs.declared.node.Op.TheVariants as op
+use Rattle.pv_graph.specs.declared.node.Node.{Node}
 use Rattle.pv_graph.specs.declared.node.OpSort.{OpSort}
 use Rattle.pv_graph.specs.declared.node.OpSort.TheVariants.{R}
 use Rattle.pv_graph.specs.Ops.{HasSort}
@@ -15,22 +16,51 @@ use Rattle.pv_terms.specs.declared.names.Named.{Named}
 use Rattle.pv_terms.specs.Reads.{named, Reads, ReadAll, AreNames}
 use Rattle.pv_terms.specs.Laws.{depths, Making}
 
--- nodes were added: the old ones stay with their sorts, the graph is as open as it was, and well made if it was; and no theta more is
--- left to be tied
-pub record Grows (old new : Graph) : Type 0 where
+-- the operation is a theta, or looks at other iterations of a loop
+abbrev pub has_depth : Op → Bool
+has_depth (op.Theta d) = true
+has_depth (op.Eval d) = true
+has_depth (op.Pass d) = true
+has_depth (op.Shift d) = true
+has_depth o = false
+
+abbrev pub IsFlat : Op → Type 0
+IsFlat o = has_depth o ≡ false
+
+-- .. or it takes a value out of a loop of this depth
+abbrev pub IsFlatOrOut : ℕ → Op → Type 0
+IsFlatOrOut d o = IsFlat o ⊎ (o ≡ op.Eval d) ⊎ (o ≡ op.Pass d)
+
+-- nodes of such operations were added: the old ones stay with their sorts, the graph is as open as it was, and well made if it was; and
+-- no theta more is left to be tied
+pub record GrowsBy (P : Op → Type 0) (old new : Graph) : Type 0 where
   pub graph : IsGraph new
   pub made : IsWellMade old → IsWellMade new
   pub extends : Extends old new
   pub open_ : new.is_open ≡ old.is_open
   pub left : (n : ℕ) → IsOpenTheta new n → IsOpenTheta old n
+  pub added : (n : ℕ) (x : Node) → slice_get new.nodes n ≡ Some x → (slice_get old.nodes n ≡ Some x) ⊎ P x.op
 
--- .. but for one
+-- .. whatever operations
+abbrev pub Any : Op → Type 0
+Any o = ⊤
+
+abbrev pub Enlarges : Graph → Graph → Type 0
+Enlarges old new = GrowsBy Any old new
+
+-- nodes without a depth were added
+abbrev pub Grows : Graph → Graph → Type 0
+Grows old new = GrowsBy IsFlat old new
+
+-- one theta was begun, and is left to be tied
 pub record Opens (old new : Graph) (begun : ℕ) : Type 0 where
   pub graph : IsGraph new
   pub made : IsWellMade old → IsWellMade new
   pub extends : Extends old new
   pub open_ : new.is_open ≡ old.is_open
   pub left : (n : ℕ) → IsOpenTheta new n → IsOpenTheta old n ⊎ (n ≡ begun)
+  pub after : begun ≡ length old.nodes
+  pub added : (n : ℕ) (x : Node) → slice_get new.nodes n ≡ Some x → (slice_get old.nodes n ≡ Some x) ⊎ (n ≡ begun)
 
 -- the old nodes stay, whatever else was begun
 pub record Keeps (old new : Graph) : Type 0 where

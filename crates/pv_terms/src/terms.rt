@@ -1,27 +1,49 @@
 //! Operations over nodes, and names, added to a graph.
 
-ghost use Rattle.std.specs.Prelude.{◌≡◌, ◌≢◌, true, [], ◌∷◌, ◌++◌, slice_get, Some, IsTrue, IfOk, OnErr};
+ghost use Rattle.std.specs.Prelude.{◌≡◌, ◌≢◌, ◌⊎◌, true, [], ◌∷◌, ◌++◌, slice_get, Some, IsTrue, IfOk, OnErr};
 ghost use Rattle.pv_graph.specs.Graphs.{IsGraph};
 ghost use Rattle.pv_graph.specs.Nodes.{node_of};
 ghost use Rattle.pv_graph.specs.Ops.{is_depth};
 ghost use Rattle.pv_graph.specs.Calls.{FitsOver};
 ghost use Rattle.pv_equations.specs.Exp.{Name};
-ghost use Rattle.pv_terms.specs.Reads.{named, IsNoTheta, Reads};
-ghost use Rattle.pv_terms.specs.Terms.{Grows, Opens, Keeps, IsOfSort, IsValue, HasItsSort, KeepsSort, ReadsOver, ReadsBoth, ReadsLast, ReadsOut, ReadsTokenOut, IsUnnamed, StayNames};
+ghost use Rattle.pv_terms.specs.Reads.{named, Reads};
+ghost use Rattle.pv_terms.specs.Terms.{IsFlat, IsFlatOrOut, GrowsBy, Grows, Opens, Keeps, IsOfSort, IsValue, HasItsSort, KeepsSort, ReadsOver, ReadsBoth, ReadsLast, ReadsOut, ReadsTokenOut, IsUnnamed, StayNames};
 
 use crate::names::{Named, Names};
 use pv_graph::{Graph, GraphFault, NodeId, Op, OpSort};
 use pv_value::Memory;
 use std::alloc::Global;
 
-/// The node of an operation over kids that fit it.
+/// The node of an operation without a depth over kids that fit it.
 pub fn over(alloc: Global, g: &mut Graph, op: Op, kids: &[NodeId]) -> Result<NodeId, Memory>
     requires graph { IsGraph g.old }
-    requires other { IsNoTheta op }
+    requires flat { IsFlat op }
     requires fits { FitsOver g.old op kids.now }
     ensures reads { IfOk result (λ n. ReadsOver g.old op kids.now g.new n) }
     ensures sort { IfOk result (λ n. HasItsSort g.old op kids.now g.new n) }
     ensures grows { Grows g.old g.new }
+{
+    match g.add(alloc, op, kids) {
+        Ok(n) => Ok(n),
+        Err(GraphFault::Memory) => Err(Memory),
+        Err(GraphFault::Sort) => unreachable!(),
+    }
+}
+
+// The node of an operation that takes a value out of a loop of this depth.
+fn over_out(
+    alloc: Global,
+    g: &mut Graph,
+    depth: u32,
+    op: Op,
+    kids: &[NodeId],
+) -> Result<NodeId, Memory>
+    requires graph { IsGraph g.old }
+    requires out { (op ≡ Op.Eval depth) ⊎ (op ≡ Op.Pass depth) }
+    requires fits { FitsOver g.old op kids.now }
+    ensures reads { IfOk result (λ n. ReadsOver g.old op kids.now g.new n) }
+    ensures sort { IfOk result (λ n. HasItsSort g.old op kids.now g.new n) }
+    ensures grows { GrowsBy (IsFlatOrOut depth) g.old g.new }
 {
     match g.add(alloc, op, kids) {
         Ok(n) => Ok(n),
@@ -88,10 +110,10 @@ fn last(
     requires value { IsValue g.old n }
     ensures reads { IfOk result (λ r. ReadsLast g.old depth ending n g.new r) }
     ensures sort { IfOk result (λ r. KeepsSort g.old n g.new r) }
-    ensures grows { Grows g.old g.new }
+    ensures grows { GrowsBy (IsFlatOrOut depth) g.old g.new }
 {
-    let pass = over(alloc, g, Op::Pass(depth), &[ending])?;
-    over(alloc, g, Op::Eval(depth), &[n, pass])
+    let pass = over_out(alloc, g, depth, Op::Pass(depth), &[ending])?;
+    over_out(alloc, g, depth, Op::Eval(depth), &[n, pass])
 }
 
 /// The node of a value that is taken out of a loop: its last iteration, where the depth of the loop is
@@ -109,7 +131,7 @@ pub fn out(
     requires value { IsValue g.old n }
     ensures reads { IfOk result (λ r. ReadsOut g.old depth ending n g.new r) }
     ensures sort { IfOk result (λ r. KeepsSort g.old n g.new r) }
-    ensures grows { Grows g.old g.new }
+    ensures grows { GrowsBy (IsFlatOrOut depth) g.old g.new }
 {
     if !g.free(alloc, n, depth)? {
         return Ok(n);
@@ -134,7 +156,7 @@ pub fn token_out(
     requires token { IsOfSort g.old n OpSort.T }
     ensures reads { IfOk result (λ r. ReadsTokenOut g.old depth entering ending n g.new r) }
     ensures sort { IfOk result (λ r. IsOfSort g.new r OpSort.T) }
-    ensures grows { Grows g.old g.new }
+    ensures grows { GrowsBy (IsFlatOrOut depth) g.old g.new }
 {
     let left = last(alloc, g, depth, ending, n)?;
     both(alloc, g, entering, left)

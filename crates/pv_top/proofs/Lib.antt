@@ -1,5 +1,6 @@
 pub mod Decimals
 pub mod Likenesses
+pub mod SameFlows
 pub mod SameRoots
 pub mod Shown
 pub mod SoFar

@@ -109,7 +109,7 @@ no_partner m others entries is at p partner =
 pub as_verdict : (f g : ClassFile) (m p : Method) (v : Verdict) → IsPartner m g.methods p → IsVerdictOn f m g p v → IsVerdict f g m v
 as_verdict f g m p Missing partner on = absurd on
 as_verdict f g m p (NoCode s) partner on = (p, partner, on)
-as_verdict f g m p (Refused s why) partner on = (p, partner, on)
+as_verdict f g m p (Refused s cause) partner on = (p, partner, on)
 as_verdict f g m p Equivalent partner on = (p, partner, on)
 as_verdict f g m p Apart partner on = (p, partner, on)
 

@@ -11,15 +11,7 @@ use Rattle.pv_class.specs.declared.fault.ClassFault.{ClassFault}
 use Rattle.pv_class.specs.ClassFiles.{IsClass}
 use Rattle.pv_class.specs.ClassFaults.{IsBad}
 use Rattle.pv_class.proofs.Outcomes.{is_comes, comes_once}
-use Rattle.pv_frame.specs.declared.frame.Frame.{Frame}
-use Rattle.pv_flow.specs.declared.block.Block.{Block}
-use Rattle.pv_flow.specs.Blocks.{IsFlow}
 use Rattle.pv_flow.specs.Edges.{edges_of}
-use Rattle.pv_flow.proofs.OneFlow.{one_flow}
-use Rattle.pv_loops.specs.declared.forest.Forest.{Forest}
-use Rattle.pv_loops.specs.declared.forest.Loop.{Loop}
-use Rattle.pv_loops.specs.Loops.{IsLoop}
-use Rattle.pv_loops.specs.Forests.{IsForest}
 use Rattle.pv_top.specs.declared.verdict.Side.{Side}
 use Rattle.pv_top.specs.declared.verdict.Side.TheVariants as side
 use Rattle.pv_top.specs.declared.verdict.Verdict.{Verdict}
@@ -29,11 +21,8 @@ use Rattle.pv_top.specs.declared.status.Status.TheVariants as status
 use Rattle.pv_class.proofs.CodeBytes.{HasBytes, class_bytes}
 use Rattle.pv_frame.specs.declared.cause.Cause.{Cause}
 use Rattle.pv_frame.specs.declared.program.Program.{Program}
-use Rattle.pv_frame.specs.Causes.{IsAccepted}
 use Rattle.pv_frame.proofs.CauseLaws.{one_program, one_cause, accepted_or_refused}
-use Rattle.pv_build.specs.declared.reason.Reason.{Reason}
-use Rattle.pv_build.specs.declared.reason.Reason.TheVariants as reason
-use Rattle.pv_build.specs.Structure.{IsStructured, MeetsShape, HasLoop}
+use Rattle.pv_build.specs.Structure.{IsStructured, MeetsShape}
 use Rattle.pv_build.specs.Conversion.{Meets, Form}
 use Rattle.pv_build.proofs.Structures.{one_shape_cause, not_structured}
 use Rattle.pv_top.specs.Roots.{HaveRoots, Alike}
@@ -48,39 +37,23 @@ use Rattle.pv_top.proofs.SameRoots.{alike_once}
 form_code : (file : ClassFile) (m : Method) → Form file m → HasCode m
 form_code file m a = (a.accepted.code, a.accepted.has)
 
-meets_code : (file : ClassFile) (m : Method) (why : Reason) → Meets file m why → HasCode m
-meets_code file m (reason.Met cause) (inl h) = (h.code, h.has)
-meets_code file m (reason.Met cause) (inr h) = (h.accepted.code, h.accepted.has)
-meets_code file m reason.NotBuilt h = (h.1.code, h.1.has)
+meets_code : (file : ClassFile) (m : Method) (cause : Cause) → Meets file m cause → HasCode m
+meets_code file m cause (inl h) = (h.code, h.has)
+meets_code file m cause (inr h) = (h.accepted.code, h.accepted.has)
 
 no_code : (m : Method) → m.code ≡ None → HasCode m → ⊥
 no_code m e h = absurd (let both : ◌≡◌ {A = Option Code} None (Some h.0) = sym e ∙ h.1 in cc)
 
--- ---- one reason
+-- ---- one cause
 
--- a method that is accepted and structured meets no cause
-no_cause : (file : ClassFile) (m : Method) (p : Program) (cause : Cause) → HasBytes m → IsAccepted file m p → IsStructured p → Meets file m (reason.Met cause) → ⊥
-no_cause file m p cause bytes accepted structured (inl h) = accepted_or_refused file m p cause bytes accepted h
-no_cause file m p cause bytes accepted structured (inr h) =
-    let one = one_program file m h.program p bytes h.accepted.of_method accepted.of_method in
-    not_structured p cause (subst (λ (q : Program). MeetsShape q cause) one h.meets) structured
-
-cause_once : (file : ClassFile) (m : Method) (a b : Cause) → HasBytes m → Meets file m (reason.Met a) → Meets file m (reason.Met b) → a ≡ b
+-- it is refused for one cause
+cause_once : (file : ClassFile) (m : Method) (a b : Cause) → HasBytes m → Meets file m a → Meets file m b → a ≡ b
 cause_once file m a b bytes (inl h) (inl k) = one_cause file m a b bytes h k
 cause_once file m a b bytes (inl h) (inr k) = absurd (accepted_or_refused file m k.program a bytes k.accepted h)
 cause_once file m a b bytes (inr h) (inl k) = absurd (accepted_or_refused file m h.program b bytes h.accepted k)
 cause_once file m a b bytes (inr h) (inr k) =
     let one = one_program file m k.program h.program bytes k.accepted.of_method h.accepted.of_method in
     one_shape_cause h.program a b h.meets (subst (λ (q : Program). MeetsShape q b) one k.meets)
-
--- a method without loops has none
-no_loop : (p : Program) (frames : List (Option Frame)) (blocks : List Block) (forest : Forest) → IsFlow p blocks → IsForest (edges_of blocks) forest → forest.loops.items ≡ [] → HasLoop p → ⊥
-no_loop p frames blocks forest flow loops none h =
-    let same = one_flow p h.has.blocks blocks h.has.flow flow in
-    let edges : h.edges ≡ edges_of blocks = h.has.edges_are ∙ ap edges_of same in
-    let listed = loops.all h.headers h.members (subst (λ (e : List (List ℕ)). IsLoop e h.headers h.members) edges h.is) in
-    let at = subst (λ (l : List Loop). slice_get l listed.place ≡ Some listed.listed) none listed.at in
-    absurd (let z = at in cc)
 
 form_structured : (file : ClassFile) (m : Method) (a : Form file m) → IsStructured a.program
 form_structured file m a = record {
@@ -91,27 +64,20 @@ form_structured file m a = record {
 }
 
 -- a method with a root isn't refused
-not_refused : (file : ClassFile) (m : Method) (why : Reason) → HasBytes m → Meets file m why → Form file m → ⊥
-not_refused file m (reason.Met cause) bytes h a = no_cause file m a.program cause bytes a.accepted (form_structured file m a) h
-not_refused file m reason.NotBuilt bytes h a =
-    let one = one_program file m h.0 a.program bytes h.1.of_method a.accepted.of_method in
-    no_loop a.program a.frames a.blocks a.forest a.shaped.flow a.shaped.loops a.straight (subst HasLoop one h.3)
-
--- it is refused for one reason
-reason_once : (file : ClassFile) (m : Method) (a b : Reason) → HasBytes m → Meets file m a → Meets file m b → a ≡ b
-reason_once file m (reason.Met a) (reason.Met b) bytes h k = ap (λ x. reason.Met x) (cause_once file m a b bytes h k)
-reason_once file m (reason.Met a) reason.NotBuilt bytes h k = absurd (no_cause file m k.0 a bytes k.1 k.2 h)
-reason_once file m reason.NotBuilt (reason.Met b) bytes h k = absurd (no_cause file m h.0 b bytes h.1 h.2 k)
-reason_once file m reason.NotBuilt reason.NotBuilt bytes h k = refl
+not_refused : (file : ClassFile) (m : Method) (cause : Cause) → HasBytes m → Meets file m cause → Form file m → ⊥
+not_refused file m cause bytes (inl h) a = accepted_or_refused file m a.program cause bytes a.accepted h
+not_refused file m cause bytes (inr h) a =
+    let one = one_program file m h.program a.program bytes h.accepted.of_method a.accepted.of_method in
+    not_structured a.program cause (subst (λ (q : Program). MeetsShape q cause) one h.meets) (form_structured file m a)
 
 -- ---- one verdict on a method and its partner
 
--- what a verdict says, in the order of the verdicts: of the code of the first, of the second, of the first's reason or root, of the second's
+-- what a verdict says, in the order of the verdicts: of the code of the first, of the second, of the first's cause or root, of the second's
 data Said (f : ClassFile) (m : Method) (g : ClassFile) (p : Method) : Verdict → Type 0 where
   no_first : m.code ≡ None → Said f m g p (verdict.NoCode side.First)
   no_second : HasCode m → p.code ≡ None → Said f m g p (verdict.NoCode side.Second)
-  first_refused : (why : Reason) → HasCode m → HasCode p → Meets f m why → Said f m g p (verdict.Refused side.First why)
-  second_refused : (why : Reason) → HasCode m → HasCode p → Form f m → Meets g p why → Said f m g p (verdict.Refused side.Second why)
+  first_refused : (cause : Cause) → HasCode m → HasCode p → Meets f m cause → Said f m g p (verdict.Refused side.First cause)
+  second_refused : (cause : Cause) → HasCode m → HasCode p → Form f m → Meets g p cause → Said f m g p (verdict.Refused side.Second cause)
   equivalent : HasCode m → HasCode p → (r : HaveRoots f m g p) → Alike r → Said f m g p verdict.Equivalent
   apart : HasCode m → HasCode p → (r : HaveRoots f m g p) → (Alike r → ⊥) → Said f m g p verdict.Apart
 
@@ -119,8 +85,8 @@ said_by : (f : ClassFile) (m : Method) (g : ClassFile) (p : Method) (v : Verdict
 said_by f m g p verdict.Missing h = absurd h
 said_by f m g p (verdict.NoCode side.First) h = no_first h
 said_by f m g p (verdict.NoCode side.Second) h = no_second h.0 h.1
-said_by f m g p (verdict.Refused side.First why) h = first_refused why (meets_code f m why h.1) h.0 h.1
-said_by f m g p (verdict.Refused side.Second why) h = second_refused why (form_code f m h.0) (meets_code g p why h.1) h.0 h.1
+said_by f m g p (verdict.Refused side.First cause) h = first_refused cause (meets_code f m cause h.1) h.0 h.1
+said_by f m g p (verdict.Refused side.Second cause) h = second_refused cause (form_code f m h.0) (meets_code g p cause h.1) h.0 h.1
 said_by f m g p verdict.Equivalent h = equivalent (form_code f m h.0.one.form) (form_code g p h.0.two.form) h.0 h.1
 said_by f m g p verdict.Apart h = apart (form_code f m h.0.one.form) (form_code g p h.0.two.form) h.0 h.1
 
@@ -137,18 +103,18 @@ said_once f m g p v w x y (no_second a e) (first_refused other c d l) = absurd (
 said_once f m g p v w x y (no_second a e) (second_refused other c d l o) = absurd (no_code p e d)
 said_once f m g p v w x y (no_second a e) (equivalent c d q l) = absurd (no_code p e d)
 said_once f m g p v w x y (no_second a e) (apart c d q o) = absurd (no_code p e d)
-said_once f m g p v w x y (first_refused why a b h) (no_first d) = absurd (no_code m d a)
-said_once f m g p v w x y (first_refused why a b h) (no_second c d) = absurd (no_code p d b)
-said_once f m g p v w x y (first_refused why a b h) (first_refused other c d l) = ap (λ r. verdict.Refused side.First r) (reason_once f m why other x h l)
-said_once f m g p v w x y (first_refused why a b h) (second_refused other c d l o) = absurd (not_refused f m why x h l)
-said_once f m g p v w x y (first_refused why a b h) (equivalent c d q l) = absurd (not_refused f m why x h q.one.form)
-said_once f m g p v w x y (first_refused why a b h) (apart c d q o) = absurd (not_refused f m why x h q.one.form)
-said_once f m g p v w x y (second_refused why a b h k) (no_first d) = absurd (no_code m d a)
-said_once f m g p v w x y (second_refused why a b h k) (no_second c d) = absurd (no_code p d b)
-said_once f m g p v w x y (second_refused why a b h k) (first_refused other c d l) = absurd (not_refused f m other x l h)
-said_once f m g p v w x y (second_refused why a b h k) (second_refused other c d l o) = ap (λ r. verdict.Refused side.Second r) (reason_once g p why other y k o)
-said_once f m g p v w x y (second_refused why a b h k) (equivalent c d q l) = absurd (not_refused g p why y k q.two.form)
-said_once f m g p v w x y (second_refused why a b h k) (apart c d q o) = absurd (not_refused g p why y k q.two.form)
+said_once f m g p v w x y (first_refused cause a b h) (no_first d) = absurd (no_code m d a)
+said_once f m g p v w x y (first_refused cause a b h) (no_second c d) = absurd (no_code p d b)
+said_once f m g p v w x y (first_refused cause a b h) (first_refused other c d l) = ap (λ r. verdict.Refused side.First r) (cause_once f m cause other x h l)
+said_once f m g p v w x y (first_refused cause a b h) (second_refused other c d l o) = absurd (not_refused f m cause x h l)
+said_once f m g p v w x y (first_refused cause a b h) (equivalent c d q l) = absurd (not_refused f m cause x h q.one.form)
+said_once f m g p v w x y (first_refused cause a b h) (apart c d q o) = absurd (not_refused f m cause x h q.one.form)
+said_once f m g p v w x y (second_refused cause a b h k) (no_first d) = absurd (no_code m d a)
+said_once f m g p v w x y (second_refused cause a b h k) (no_second c d) = absurd (no_code p d b)
+said_once f m g p v w x y (second_refused cause a b h k) (first_refused other c d l) = absurd (not_refused f m other x l h)
+said_once f m g p v w x y (second_refused cause a b h k) (second_refused other c d l o) = ap (λ r. verdict.Refused side.Second r) (cause_once g p cause other y k o)
+said_once f m g p v w x y (second_refused cause a b h k) (equivalent c d q l) = absurd (not_refused g p cause y k q.two.form)
+said_once f m g p v w x y (second_refused cause a b h k) (apart c d q o) = absurd (not_refused g p cause y k q.two.form)
 said_once f m g p v w x y (equivalent a b r h) (no_first d) = absurd (no_code m d a)
 said_once f m g p v w x y (equivalent a b r h) (no_second c d) = absurd (no_code p d b)
 said_once f m g p v w x y (equivalent a b r h) (first_refused other c d l) = absurd (not_refused f m other x l r.one.form)

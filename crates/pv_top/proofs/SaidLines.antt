@@ -7,16 +7,15 @@ use Rattle.std.proofs.lemmas.List.Concat.{flat_map-cons}
 use Rattle.std.proofs.lemmas.List.Elements.{Contains-append_right}
 use Rattle.pv_class.specs.declared.file.Method.{Method}
 use Rattle.pv_class.specs.declared.file.ClassFile.{ClassFile}
+use Rattle.pv_frame.specs.declared.cause.Cause.{Cause}
 use Rattle.pv_frame.specs.declared.cause.CauseKind.{CauseKind}
 use Rattle.pv_frame.specs.declared.cause.CauseKind.TheVariants as kind
-use Rattle.pv_build.specs.declared.reason.Reason.{Reason}
-use Rattle.pv_build.specs.declared.reason.Reason.TheVariants as reason
 use Rattle.pv_top.specs.declared.verdict.Side.{Side}
 use Rattle.pv_top.specs.declared.verdict.Side.TheVariants as side
 use Rattle.pv_top.specs.declared.verdict.Verdict.{Verdict}
 use Rattle.pv_top.specs.declared.verdict.Verdict.TheVariants as verdict
 use Rattle.pv_top.specs.Verdicts.{IsVerdict}
-use Rattle.pv_top.specs.Lines.{shown, kind_word, reason_word, address_of, reason_text, side_word, verdict_text, line_of, line_text}
+use Rattle.pv_top.specs.Lines.{shown, kind_word, cause_text, side_word, verdict_text, line_of, line_text}
 use Rattle.pv_top.specs.Report.{lines_of}
 use Rattle.pv_top.specs.Run.{IsLineOf, EndsWith}
 use Rattle.pv_top.proofs.WholeLines.{IsWhole, no_line_of_nothing, first_or_later}
@@ -68,21 +67,18 @@ whole_kind kind.Blocks = tested (codes "blocks") refl
 whole_kind kind.Irreducible = tested (codes "irreducible") refl
 whole_kind kind.Depth = tested (codes "depth") refl
 
-whole_word : (why : Reason) → IsWhole (reason_word why)
-whole_word (reason.Met cause) = whole_kind cause.kind
-whole_word reason.NotBuilt = tested (codes "not-built") refl
-
-whole_reason : (why : Reason) → IsWhole (reason_text why)
-whole_reason why =
-    whole_append (reason_word why ++ codes " at ") (decimal (address_of why)) (whole_append (reason_word why) (codes " at ") (whole_word why) (tested (codes " at ") refl)) (whole_decimal (address_of why))
+whole_cause : (cause : Cause) → IsWhole (cause_text cause)
+whole_cause cause =
+    let word = kind_word cause.kind in
+    whole_append (word ++ codes " at ") (decimal cause.at) (whole_append word (codes " at ") (whole_kind cause.kind) (tested (codes " at ") refl)) (whole_decimal cause.at)
 
 whole_verdict : (v : Verdict) → IsWhole (verdict_text v)
 whole_verdict verdict.Missing = tested (codes "missing") refl
 whole_verdict (verdict.NoCode s) = whole_append (codes "nocode ") (side_word s) (tested (codes "nocode ") refl) (whole_side s)
-whole_verdict (verdict.Refused s why) =
+whole_verdict (verdict.Refused s cause) =
     let side = whole_append (codes "refused ") (side_word s) (tested (codes "refused ") refl) (whole_side s) in
     let blank = whole_append (codes "refused " ++ side_word s) (codes " ") side (tested (codes " ") refl) in
-    whole_append (codes "refused " ++ side_word s ++ codes " ") (reason_text why) blank (whole_reason why)
+    whole_append (codes "refused " ++ side_word s ++ codes " ") (cause_text cause) blank (whole_cause cause)
 whole_verdict verdict.Equivalent = tested (codes "equivalent") refl
 whole_verdict verdict.Apart = tested (codes "unknown apart") refl
 
@@ -159,18 +155,18 @@ digit_last line front said n e f =
 abbrev front_of : Method → List ℕ
 front_of m = shown m.name ++ codes " " ++ shown m.desc ++ codes " "
 
-refused_apart : (m : Method) (s : Side) (why : Reason) (line front : List ℕ) → line ≡ line_of m (verdict.Refused s why) → line ≡ front ++ codes " equivalent" → ⊥
-refused_apart m s why line front says ends =
+refused_apart : (m : Method) (s : Side) (cause : Cause) (line front : List ℕ) → line ≡ line_of m (verdict.Refused s cause) → line ≡ front ++ codes " equivalent" → ⊥
+refused_apart m s cause line front says ends =
     let said = codes "refused " ++ side_word s ++ codes " " in
-    let word = reason_word why ++ codes " at " in
-    let number = decimal (address_of why) in
+    let word = kind_word cause.kind ++ codes " at " in
+    let number = decimal cause.at in
     let whole : line ≡ (front_of m ++ (said ++ word)) ++ number = says ∙ ap (λ (t : List ℕ). front_of m ++ t) (sym (append_assoc said word number)) ∙ sym (append_assoc (front_of m) (said ++ word) number) in
-    digit_last line front (front_of m ++ (said ++ word)) (address_of why) whole ends
+    digit_last line front (front_of m ++ (said ++ word)) cause.at whole ends
 
 pub only_equivalent : (m : Method) (v : Verdict) (line : List ℕ) → line ≡ line_of m v → EndsWith line (codes " equivalent") → v ≡ verdict.Equivalent
 only_equivalent m verdict.Missing line says ends = absurd (differ 103 116 refl ((last_two line ends.0 (front_of m) (codes "missi") 110 103 says ends.1).1))
 only_equivalent m (verdict.NoCode side.First) line says ends = absurd (differ 115 110 refl ((last_two line ends.0 (front_of m) (codes "nocode fir") 115 116 says ends.1).0))
 only_equivalent m (verdict.NoCode side.Second) line says ends = absurd (differ 100 116 refl ((last_two line ends.0 (front_of m) (codes "nocode seco") 110 100 says ends.1).1))
-only_equivalent m (verdict.Refused s why) line says ends = absurd (refused_apart m s why line ends.0 says ends.1)
+only_equivalent m (verdict.Refused s cause) line says ends = absurd (refused_apart m s cause line ends.0 says ends.1)
 only_equivalent m verdict.Equivalent line says ends = refl
 only_equivalent m verdict.Apart line says ends = absurd (differ 114 110 refl ((last_two line ends.0 (front_of m) (codes "unknown apa") 114 116 says ends.1).0))

@@ -25,7 +25,7 @@ use Rattle.pv_loops.specs.declared.forest.TheConstants.{MAX_DEPTH}
 use Rattle.pv_runs.specs.Methods.{flow_of}
 use Rattle.pv_runs.proofs.Ranked.{method_ranked}
 use Rattle.pv_runs.proofs.Converted.{method_converts}
-use Rattle.pv_build.specs.Straight.{none_of}
+use Rattle.pv_build.specs.Unfolded.{none_of}
 use Rattle.pv_build.specs.Conversion.{Form, IsRootOf}
 use Rattle.pv_top.specs.Roots.{HaveRoots, Alike}
 

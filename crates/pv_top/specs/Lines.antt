@@ -6,10 +6,9 @@ use Rattle.pv_class.specs.declared.fault.ClassFault.{ClassFault}
 use Rattle.pv_class.specs.declared.fault.ClassFault.TheVariants as fault
 use Rattle.pv_class.specs.declared.fault.PoolWord.{PoolWord}
 use Rattle.pv_class.specs.declared.fault.PoolWord.TheVariants as pool
+use Rattle.pv_frame.specs.declared.cause.Cause.{Cause}
 use Rattle.pv_frame.specs.declared.cause.CauseKind.{CauseKind}
 use Rattle.pv_frame.specs.declared.cause.CauseKind.TheVariants as kind
-use Rattle.pv_build.specs.declared.reason.Reason.{Reason}
-use Rattle.pv_build.specs.declared.reason.Reason.TheVariants as reason
 use Rattle.pv_top.specs.declared.verdict.Side.{Side}
 use Rattle.pv_top.specs.declared.verdict.Side.TheVariants as side
 use Rattle.pv_top.specs.declared.verdict.Verdict.{Verdict}
@@ -51,22 +50,17 @@ kind_word kind.Blocks = codes "blocks"
 kind_word kind.Irreducible = codes "irreducible"
 kind_word kind.Depth = codes "depth"
 
-abbrev pub reason_word : Reason → List ℕ
-reason_word (reason.Met cause) = kind_word cause.kind
-reason_word reason.NotBuilt = codes "not-built"
+abbrev pub word_at : List ℕ → ℕ → List ℕ
+word_at word at = word ++ codes " at " ++ decimal at
 
--- the address of an instruction, 0 where the reason is in no single one
-abbrev pub address_of : Reason → ℕ
-address_of (reason.Met cause) = cause.at
-address_of reason.NotBuilt = 0
-
-abbrev pub reason_text : Reason → List ℕ
-reason_text why = reason_word why ++ codes " at " ++ decimal (address_of why)
+-- a cause with the address of its instruction, 0 where it is in no single one
+abbrev pub cause_text : Cause → List ℕ
+cause_text cause = word_at (kind_word cause.kind) cause.at
 
 abbrev pub verdict_text : Verdict → List ℕ
 verdict_text verdict.Missing = codes "missing"
 verdict_text (verdict.NoCode s) = codes "nocode " ++ side_word s
-verdict_text (verdict.Refused s why) = codes "refused " ++ side_word s ++ codes " " ++ reason_text why
+verdict_text (verdict.Refused s cause) = codes "refused " ++ side_word s ++ codes " " ++ cause_text cause
 verdict_text verdict.Equivalent = codes "equivalent"
 verdict_text verdict.Apart = codes "unknown apart"
 
@@ -82,9 +76,6 @@ abbrev pub pool_word : PoolWord → List ℕ
 pool_word pool.Tag = codes "pool-tag"
 pool_word pool.Utf8 = codes "pool-utf8"
 pool_word pool.Reference = codes "pool-reference"
-
-abbrev pub word_at : List ℕ → ℕ → List ℕ
-word_at word at = word ++ codes " at " ++ decimal at
 
 -- a fault with its place; no file is answered out of memory
 abbrev pub fault_text : ClassFault → List ℕ

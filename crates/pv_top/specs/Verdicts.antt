@@ -30,8 +30,8 @@ abbrev pub IsVerdictOn : ClassFile → Method → ClassFile → Method → Verdi
 IsVerdictOn first m second p verdict.Missing = ⊥
 IsVerdictOn first m second p (verdict.NoCode side.First) = m.code ≡ None
 IsVerdictOn first m second p (verdict.NoCode side.Second) = HasCode m × (p.code ≡ None)
-IsVerdictOn first m second p (verdict.Refused side.First why) = HasCode p × Meets first m why
-IsVerdictOn first m second p (verdict.Refused side.Second why) = Form first m × Meets second p why
+IsVerdictOn first m second p (verdict.Refused side.First cause) = HasCode p × Meets first m cause
+IsVerdictOn first m second p (verdict.Refused side.Second cause) = Form first m × Meets second p cause
 IsVerdictOn first m second p verdict.Equivalent = (r : HaveRoots first m second p) × Alike r
 IsVerdictOn first m second p verdict.Apart = (r : HaveRoots first m second p) × (Alike r → ⊥)
 

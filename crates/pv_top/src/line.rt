@@ -1,12 +1,11 @@
 //! The lines of a report.
 
 ghost use Rattle.std.specs.Prelude.{◌≡◌, ◌++◌, ◌<◌, OnOk};
-ghost use Rattle.pv_top.specs.Lines.{shown, shown_byte, hex_digit, side_word, kind_word, reason_word, address_of, reason_text, verdict_text, line_of, line_text, pool_word, word_at, fault_text, bad_class};
+ghost use Rattle.pv_top.specs.Lines.{shown, shown_byte, hex_digit, side_word, kind_word, cause_text, verdict_text, line_of, line_text, pool_word, word_at, fault_text, bad_class};
 
 use crate::verdict::{Side, Verdict};
-use pv_build::Reason;
 use pv_class::{ClassFault, Method, PoolWord};
-use pv_frame::CauseKind;
+use pv_frame::{Cause, CauseKind};
 use std::alloc::{AllocError, Global};
 
 /// The line that says that a file has no reading, with its fault.
@@ -88,44 +87,22 @@ fn push_verdict(alloc: Global, out: &mut Vec<u8>, verdict: Verdict) -> Result<()
             out.extend_from_slice(b"nocode ")?;
             out.extend_from_slice(side_word(side))
         }
-        Verdict::Refused(side, why) => {
+        Verdict::Refused(side, cause) => {
             out.extend_from_slice(b"refused ")?;
             out.extend_from_slice(side_word(side))?;
             out.extend_from_slice(b" ")?;
-            push_reason(alloc, out, why)
+            push_cause(alloc, out, cause)
         }
         Verdict::Equivalent => out.extend_from_slice(b"equivalent"),
         Verdict::Apart => out.extend_from_slice(b"unknown apart"),
     }
 }
 
-fn push_reason(alloc: Global, out: &mut Vec<u8>, why: Reason) -> Result<(), AllocError>
-    ensures { OnOk result (out.new.items ≡ out.old.items ++ reason_text why) }
+// A cause and the address of its instruction.
+fn push_cause(alloc: Global, out: &mut Vec<u8>, cause: Cause) -> Result<(), AllocError>
+    ensures { OnOk result (out.new.items ≡ out.old.items ++ cause_text cause) }
 {
-    let at = address_of(why);
-    out.extend_from_slice(reason_word(why))?;
-    out.extend_from_slice(b" at ")?;
-    let at = format!(in alloc; "{at}")?;
-    out.extend_from_slice(at.as_bytes())
-}
-
-// The address of an instruction, 0 where the reason is in no single one.
-fn address_of(why: Reason) -> u32
-    ensures { result ≡ address_of why }
-{
-    match why {
-        Reason::Met(cause) => cause.at,
-        Reason::NotBuilt => 0,
-    }
-}
-
-fn reason_word(why: Reason) -> &'static [u8]
-    ensures { result.now ≡ reason_word why }
-{
-    match why {
-        Reason::Met(cause) => kind_word(cause.kind),
-        Reason::NotBuilt => b"not-built",
-    }
+    push_word_at(alloc, out, kind_word(cause.kind), cause.at as usize)
 }
 
 fn kind_word(kind: CauseKind) -> &'static [u8]

@@ -11,8 +11,9 @@ ghost use Rattle.pv_top.specs.Partnering.{IsIndexOf};
 
 use crate::partners::{Partners, partner_of};
 use pv_alike::least;
-use pv_build::{Reason, Refused, convert};
+use pv_build::convert;
 use pv_class::ClassFile;
+use pv_frame::{Cause, Refused};
 use pv_graph::{Graph, NodeId};
 use pv_value::Memory;
 use std::alloc::Global;
@@ -31,8 +32,8 @@ pub(crate) enum Verdict {
     Missing,
     /// The method of this side has no code.
     NoCode(Side),
-    /// The method of this side was refused.
-    Refused(Side, Reason),
+    /// The method of this side was refused for this cause.
+    Refused(Side, Cause),
     /// The two have the same meaning.
     Equivalent,
     /// Nothing joins the two.
@@ -91,12 +92,12 @@ fn verdict_with(
     let mut g = Graph::new(alloc);
     let one = match convert(alloc, first, method, &mut g) {
         Ok(root) => root,
-        Err(Refused::For(why)) => return Ok(Verdict::Refused(Side::First, why)),
+        Err(Refused::Cause(cause)) => return Ok(Verdict::Refused(Side::First, cause)),
         Err(Refused::Memory) => return Err(Memory),
     };
     let two = match convert(alloc, second, partner, &mut g) {
         Ok(root) => root,
-        Err(Refused::For(why)) => return Ok(Verdict::Refused(Side::Second, why)),
+        Err(Refused::Cause(cause)) => return Ok(Verdict::Refused(Side::Second, cause)),
         Err(Refused::Memory) => return Err(Memory),
     };
     let alike = are_alike(alloc, g, one, two)?;

@@ -1,97 +1,55 @@
-use Rattle.std.proofs.Common.{◌≡◌, ℕ, List, slice_get, refl, sym, ap, ◌∙◌, subst}
-use Rattle.std.proofs.lemmas.Result.{IfOk-weaker}
-use Rattle.pv_frame.specs.declared.frame.Frame.{Frame}
-use Rattle.pv_frame.specs.Frames.{IsFrameAt}
-use Rattle.pv_graph.specs.declared.node.Op.TheVariants as op
-use Rattle.pv_graph.specs.declared.node.OpSort.TheVariants.{T}
-use Rattle.pv_decide.specs.declared.tree.TreeNode.{TreeNode}
-use Rattle.pv_terms.proofs.Growing.{grows_then}
-use Rattle.pv_build.specs.Tables.{IsTree}
-use Rattle.pv_build.specs.States.{FrameGives, FrameFolds, FrameFoldsToSome}
-use Rattle.pv_build.specs.Made.{ReadsBlock}
-use Rattle.pv_build.proofs.Kept.{has_no_kids, read_no_kids}
-use Rattle.pv_build.proofs.Doing.{next_kept}
-use Rattle.pv_build.proofs.Entered.{is_tree, frame_gives, frame_folds, frame_folds_some}
-use Rattle.pv_build.proofs.Beginning.{first_stack, first_ops, first_block, first_reads, block_frame, block_at, begins_block}
+use Rattle.std.proofs.Common.{length}
+use Rattle.pv_build.specs.Stages.{IsBeyond, loops_at}
+use Rattle.pv_build.proofs.Staged.{first_kept, first_then}
+use Rattle.pv_build.proofs.Turns.{block_low}
+use Rattle.pv_build.proofs.Blocks.{three_ok, begun_plain, opens_next, opens_stage, opens_reads, opens_sorts, begun_open}
 use Rattle.pv_build.proofs.building.begin.Goals as goal
 
-pub first_frame-frame-requires : goal.first_frame-frame-requires
-first_frame-frame-requires c =
-    let at = block_at c.args.method.now c.requires.method c.args.g.now c.args.table.now c.args.b c.requires.next c.as_slice.result.now c.index-as_slice-b.result c.as_slice.ensures c.index-as_slice-b.is in
-    block_frame c.args.method.now c.requires.method c.args.b c.index-as_slice-b.result at
+pub outer_loop-at-requires-clause-block : goal.outer_loop-at-requires-clause-block
+outer_loop-at-requires-clause-block c = block_low c.args.method.now c.requires.method c.requires.next.place c.args.b c.requires.next.at
 
-pub start-requires-clause-ops : goal.start-requires-clause-ops
-start-requires-clause-ops c =
-    let m = c.args.method.now in
-    let block = c.index-as_slice-b.result in
-    let at = block_at m c.requires.method c.args.g.now c.args.table.now c.args.b c.requires.next c.as_slice.result.now block c.as_slice.ensures c.index-as_slice-b.is in
-    let zero : block.first ≡ 0 = first_block m c.requires.method block (ap (slice_get m.flow.now.blocks) (sym c.if-b-eq0.true) ∙ at) in
-    first_ops m c.requires.method c.first_frame-frame.result.now (subst (λ (k : ℕ). IsFrameAt m.typed.now.frames k c.first_frame-frame.result.now) zero c.first_frame-frame.ensures)
+pub entered-requires-clause-stage : goal.entered-requires-clause-stage
+entered-requires-clause-stage c = c.requires.stage c.outer_loop-at.result c.outer_loop-at.ensures.outer
 
-pub start-requires-clause-stack : goal.start-requires-clause-stack
-start-requires-clause-stack c =
-    let m = c.args.method.now in
-    let block = c.index-as_slice-b.result in
-    let at = block_at m c.requires.method c.args.g.now c.args.table.now c.args.b c.requires.next c.as_slice.result.now block c.as_slice.ensures c.index-as_slice-b.is in
-    let zero : block.first ≡ 0 = first_block m c.requires.method block (ap (slice_get m.flow.now.blocks) (sym c.if-b-eq0.true) ∙ at) in
-    first_stack m c.requires.method c.first_frame-frame.result.now (subst (λ (k : ℕ). IsFrameAt m.typed.now.frames k c.first_frame-frame.result.now) zero c.first_frame-frame.ensures)
+pub own_loop-requires-clause-block : goal.own_loop-requires-clause-block
+own_loop-requires-clause-block c = block_low c.args.method.now c.requires.method c.requires.next.place c.args.b c.requires.next.at
 
-pub returns-then-b-eq0-clause-reads : goal.returns-then-b-eq0-clause-reads
-returns-then-b-eq0-clause-reads c =
-    IfOk-weaker c.start.result _ _ (λ s reads. subst (λ (b : ℕ). ReadsBlock c.args.method.now c.start.new.g b s) (sym c.if-b-eq0.true) (first_reads c.args.method.now c.requires.method c.start.new.g s reads)) c.start.ensures.reads
+pub open-requires-clause-next : goal.open-requires-clause-next
+open-requires-clause-next c =
+    opens_next c.args.method.now c.requires.method c.args.made.now c.args.b c.outer_loop-at.result c.outer_loop-at.ensures.region c.outer_loop-at.ensures.outer c.args.g.now c.entered.new.g c.requires.stage c.entered.ensures.grows
+    c.in-Some.i c.in-Some.ensures c.requires.next
 
-pub returns-then-b-eq0-clause-sorts : goal.returns-then-b-eq0-clause-sorts
-returns-then-b-eq0-clause-sorts c =
-    let at = block_at c.args.method.now c.requires.method c.args.g.now c.args.table.now c.args.b c.requires.next c.as_slice.result.now c.index-as_slice-b.result c.as_slice.ensures c.index-as_slice-b.is in
-    IfOk-weaker c.start.result _ _ (λ s sorted. begins_block c.args.method.now c.start.new.g c.args.b c.index-as_slice-b.result c.first_frame-frame.result.now s at c.first_frame-frame.ensures sorted) c.start.ensures.sorts
+pub open-requires-clause-stage : goal.open-requires-clause-stage
+open-requires-clause-stage c =
+    opens_stage c.args.method.now c.requires.method c.args.made.now c.args.b c.outer_loop-at.result c.outer_loop-at.ensures.region c.outer_loop-at.ensures.outer c.args.g.now c.entered.new.g c.requires.stage c.entered.ensures.grows
+    c.in-Some.i c.in-Some.ensures
 
-pub walk-requires-clause-ready : goal.walk-requires-clause-ready
-walk-requires-clause-ready c = c.requires.method.trees.ready
+pub open-requires-clause-enters : goal.open-requires-clause-enters
+open-requires-clause-enters c =
+    opens_reads c.args.method.now c.requires.method c.args.made.now c.args.b c.outer_loop-at.result c.outer_loop-at.ensures.region c.outer_loop-at.ensures.outer c.args.g.now c.entered.new.g c.requires.stage c.entered.ensures.grows
+    c.in-Some.i c.in-Some.ensures c.in_ok-state.state c.in_ok-state.ensures.reads
 
-pub over-requires-clause-fits : goal.over-requires-clause-fits
-over-requires-clause-fits c = (T, has_no_kids c.args.g.now op.Never T refl)
+pub open-requires-clause-sorts : goal.open-requires-clause-sorts
+open-requires-clause-sorts c =
+    opens_sorts c.args.method.now c.requires.method c.args.made.now c.args.b c.outer_loop-at.result c.outer_loop-at.ensures.region c.outer_loop-at.ensures.outer c.args.g.now c.entered.new.g c.requires.stage c.entered.ensures.grows
+    c.in-Some.i c.in-Some.ensures c.in_ok-state.state c.in_ok-state.ensures.sorts
 
-pub enter-requires-clause-tree : goal.enter-requires-clause-tree
-enter-requires-clause-tree c =
-    let at = block_at c.args.method.now c.requires.method c.args.g.now c.args.table.now c.args.b c.requires.next c.as_slice.result.now c.index-as_slice-b.result c.as_slice.ensures c.index-as_slice-b.is in
-    subst IsTree (sym c.deref.ensures.value)
-    (is_tree c.args.method.now c.requires.method c.args.g.now c.args.table.now c.args.b c.requires.next c.index-as_slice-b.result at c.first_frame-frame.result.now c.first_frame-frame.ensures c.in_ok-tree.tree c.in_ok-tree.ensures.sound)
+pub returns-in_err-state-clause-keeps : goal.returns-in_err-state-clause-keeps
+returns-in_err-state-clause-keeps c = first_kept (IsBeyond (length (loops_at c.args.method.now c.outer_loop-at.result))) c.args.made.now.start c.args.g.now c.entered.new.g c.entered.ensures.grows
 
-pub enter-requires-clause-gives : goal.enter-requires-clause-gives
-enter-requires-clause-gives c =
-    let m = c.args.method.now in
-    let at = block_at m c.requires.method c.args.g.now c.args.table.now c.args.b c.requires.next c.as_slice.result.now c.index-as_slice-b.result c.as_slice.ensures c.index-as_slice-b.is in
-    let next = next_kept c.args.g.now c.over.new.g c.over.ensures.grows m c.args.table.now c.args.b c.requires.next in
-    let f : Frame = c.first_frame-frame.result.now in
-    subst (λ (tree : List TreeNode). FrameGives c.over.new.g c.args.table.now tree c.in_ok-never.never f) (sym c.deref.ensures.value)
-    (frame_gives m c.requires.method c.over.new.g c.args.table.now c.args.b next c.index-as_slice-b.result at f c.first_frame-frame.ensures c.in_ok-tree.tree c.in_ok-tree.ensures.sound c.in_ok-never.never
-    (c.in_ok-never.ensures.sort T (has_no_kids c.args.g.now op.Never T refl)))
+pub returns-in-Some-clause-begun : goal.returns-in-Some-clause-begun
+returns-in-Some-clause-begun c =
+    three_ok c.open.result _ _ _ _ (λ s reads sorts at_stage. begun_open c.args.method.now c.requires.method c.args.made.now c.args.b c.outer_loop-at.result c.outer_loop-at.ensures.region c.outer_loop-at.ensures.outer c.args.g.now c.entered.new.g c.requires.stage c.entered.ensures.grows
+    c.in-Some.i c.in-Some.ensures c.open.new.g c.open.new.made s reads sorts at_stage) c.open.ensures.reads c.open.ensures.sorts c.open.ensures.stage
 
-pub enter-requires-clause-some : goal.enter-requires-clause-some
-enter-requires-clause-some c =
-    let m = c.args.method.now in
-    let at = block_at m c.requires.method c.args.g.now c.args.table.now c.args.b c.requires.next c.as_slice.result.now c.index-as_slice-b.result c.as_slice.ensures c.index-as_slice-b.is in
-    let next = next_kept c.args.g.now c.over.new.g c.over.ensures.grows m c.args.table.now c.args.b c.requires.next in
-    let f : Frame = c.first_frame-frame.result.now in
-    subst (λ (tree : List TreeNode). FrameFoldsToSome c.over.new.g.nodes c.args.table.now tree c.in_ok-never.never f) (sym c.deref.ensures.value)
-    (frame_folds_some m c.requires.method c.over.new.g c.args.table.now c.args.b next c.index-as_slice-b.result at f c.first_frame-frame.ensures c.in_ok-tree.tree c.in_ok-tree.ensures.sound c.in_ok-tree.ensures.gives c.if-b-eq0.false c.in_ok-never.never
-    (read_no_kids c.args.g.now c.over.new.g op.Never c.in_ok-never.never c.in_ok-never.ensures.reads))
+pub returns-in-Some-clause-keeps : goal.returns-in-Some-clause-keeps
+returns-in-Some-clause-keeps c =
+    first_then c.args.made.now.start c.args.g.now c.entered.new.g c.open.new.g (first_kept (IsBeyond (length (loops_at c.args.method.now c.outer_loop-at.result))) c.args.made.now.start c.args.g.now c.entered.new.g c.entered.ensures.grows) c.open.ensures.keeps
 
-pub returns-clause-reads : goal.returns-clause-reads
-returns-clause-reads c =
-    let m = c.args.method.now in
-    let at = block_at m c.requires.method c.args.g.now c.args.table.now c.args.b c.requires.next c.as_slice.result.now c.index-as_slice-b.result c.as_slice.ensures c.index-as_slice-b.is in
-    let next = next_kept c.args.g.now c.over.new.g c.over.ensures.grows m c.args.table.now c.args.b c.requires.next in
-    let f : Frame = c.first_frame-frame.result.now in
-    let never = read_no_kids c.args.g.now c.over.new.g op.Never c.in_ok-never.never c.in_ok-never.ensures.reads in
-    IfOk-weaker c.enter.result _ _ (λ s reads v eqs. reads (v.value c.args.b)
-    (subst (λ (tree : List TreeNode). FrameFolds c.over.new.g.nodes c.args.table.now tree c.in_ok-never.never f (v.value c.args.b)) (sym c.deref.ensures.value)
-    (frame_folds m c.requires.method c.over.new.g c.args.table.now c.args.b next c.index-as_slice-b.result at f c.first_frame-frame.ensures c.in_ok-tree.tree c.in_ok-tree.ensures.sound c.in_ok-tree.ensures.gives c.if-b-eq0.false c.in_ok-never.never never v eqs))) c.enter.ensures.reads
+pub returns-in-None-clause-begun : goal.returns-in-None-clause-begun
+returns-in-None-clause-begun c =
+    begun_plain c.args.method.now c.requires.method c.args.made.now c.args.b c.outer_loop-at.result c.outer_loop-at.ensures.region c.outer_loop-at.ensures.outer c.args.g.now c.entered.new.g c.requires.stage c.entered.ensures.grows
+    c.in_ok-state.state c.in-None.ensures c.in_ok-state.ensures.reads c.in_ok-state.ensures.sorts
 
-pub returns-clause-sorts : goal.returns-clause-sorts
-returns-clause-sorts c =
-    let at = block_at c.args.method.now c.requires.method c.args.g.now c.args.table.now c.args.b c.requires.next c.as_slice.result.now c.index-as_slice-b.result c.as_slice.ensures c.index-as_slice-b.is in
-    IfOk-weaker c.enter.result _ _ (λ s sorted. begins_block c.args.method.now c.enter.new.g c.args.b c.index-as_slice-b.result c.first_frame-frame.result.now s at c.first_frame-frame.ensures sorted) c.enter.ensures.sorts
-
-pub returns-clause-grows : goal.returns-clause-grows
-returns-clause-grows c = grows_then c.args.g.now c.over.new.g c.enter.new.g c.over.ensures.grows c.enter.ensures.grows
+pub returns-in-None-clause-keeps : goal.returns-in-None-clause-keeps
+returns-in-None-clause-keeps c = first_kept (IsBeyond (length (loops_at c.args.method.now c.outer_loop-at.result))) c.args.made.now.start c.args.g.now c.entered.new.g c.entered.ensures.grows

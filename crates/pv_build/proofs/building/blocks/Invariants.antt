@@ -1,9 +1,12 @@
-use Rattle.pv_terms.specs.Terms.{Grows}
-use Rattle.pv_build.specs.Made.{AreDone}
+use Rattle.std.proofs.Common.{◌≡◌, slice_get}
+use Rattle.pv_build.specs.Stages.{AreDone, KeepsFirst}
+use Rattle.pv_build.specs.Building.{IsStageFor}
 use Rattle.pv_build.proofs.building.blocks.Given as goal
 
 abbrev pub invariant-loop-k : goal.invariant-loop-k
 invariant-loop-k l = record {
-  grows : Grows l.fn.g l.g;
-  done : AreDone l.fn.method l.g l.table.items l.k;
+  stage : IsStageFor l.fn.method l.g l.made (slice_get l.fn.method.order.items l.k);
+  done : AreDone l.fn.method l.made l.k;
+  start : l.made.start ≡ l.fn.made.start;
+  keeps : KeepsFirst l.fn.made.start l.fn.g l.g;
 }

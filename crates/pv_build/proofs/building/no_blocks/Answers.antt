@@ -4,12 +4,12 @@ use Rattle.pv_block.specs.declared.ran.Ran.{Ran}
 use Rattle.pv_build.proofs.building.no_blocks.Goals as goal
 
 pub loop-init : goal.loop-init
-loop-init c = c.new-table.ensures.items
+loop-init c = c.new-blocks.ensures.items
 
 pub loop-preserved : goal.loop-preserved
 loop-preserved c = c.in_ok-push.ensures.items ∙ ap (λ (xs : List (Option Ran)). xs ++ None ∷ []) c.loop.invariant ∙ replicate_more c.loop.counter None
 
 pub returns : goal.returns
 returns c =
-    let all : c.loop.counter ≡ c.args.count = omega (arith, c.loop-test.false, c.loop.auto.counter-end) in
+    let all : c.loop.counter ≡ c.args.n = omega (arith, c.loop-test.false, c.loop.auto.counter-end) in
     c.loop.invariant ∙ ap (λ (n : ℕ). replicate {A = Option Ran} n None) all

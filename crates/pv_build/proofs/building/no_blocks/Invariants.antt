@@ -2,4 +2,4 @@ use Rattle.std.proofs.Common.{◌≡◌, None, replicate}
 use Rattle.pv_build.proofs.building.no_blocks.Given as goal
 
 abbrev pub invariant-loop : goal.invariant-loop
-invariant-loop l = l.table.items ≡ replicate l.counter None
+invariant-loop l = l.blocks.items ≡ replicate l.counter None

@@ -25,7 +25,7 @@ pub node_of-requires-clause-some : goal.node_of-requires-clause-some
 node_of-requires-clause-some c = c.requires.some (known_of c.args.sort c.in-Int.is)
 
 pub returns-in_ok-node-in-Int-clause-reads : goal.returns-in_ok-node-in-Int-clause-reads
-returns-in_ok-node-in-Int-clause-reads c known e f = c.in_ok-node-in-Int.ensures.reads e f
+returns-in_ok-node-in-Int-clause-reads c known names e f = c.in_ok-node-in-Int.ensures.reads names e f
 
 pub returns-in_ok-node-in-Int-clause-sort : goal.returns-in_ok-node-in-Int-clause-sort
 returns-in_ok-node-in-Int-clause-sort c = (refl, c.in_ok-node-in-Int.ensures.sort (op_sort c.args.sort) (c.requires.gives (known_of c.args.sort c.in-Int.is)))

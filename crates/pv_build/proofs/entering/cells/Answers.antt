@@ -25,18 +25,19 @@ cell-requires-clause-graph c = c.loop-i.invariant.grows.graph
 
 pub cell-requires-clause-gives : goal.cell-requires-clause-gives
 cell-requires-clause-gives c =
-    subst (λ (n : ℕ). CellGives c.loop-i.g c.args.table.now c.args.tree.now n (get_or c.args.sorts.now c.loop-i.i sort.Int)) (sym c.slot-slot.ensures)
-    (λ known. gives_kept c.args.g.now c.loop-i.g c.loop-i.invariant.grows c.args.table.now c.args.tree.now (number_in c.args.part (length c.args.sorts.now) c.loop-i.i) None (op_sort (get_or c.args.sorts.now c.loop-i.i sort.Int))
+    subst (λ (n : ℕ). CellGives c.loop-i.g c.args.given.now n (get_or c.args.sorts.now c.loop-i.i sort.Int)) (sym c.slot-slot.ensures)
+    (λ known. gives_kept c.args.g.now c.loop-i.g c.loop-i.invariant.grows c.args.given.now (number_in c.args.part (length c.args.sorts.now) c.loop-i.i) None (op_sort (get_or c.args.sorts.now c.loop-i.i sort.Int))
     (c.requires.gives c.loop-i.i (get_or c.args.sorts.now c.loop-i.i sort.Int) (slice_get-get_or c.args.sorts.now c.loop-i.i sort.Int c.loop-i-test.true) known))
 
 pub cell-requires-clause-some : goal.cell-requires-clause-some
 cell-requires-clause-some c =
     let n : ℕ = number_in c.args.part (length c.args.sorts.now) c.loop-i.i in
-    subst (λ (n : ℕ). CellFoldsToOne c.loop-i.g.nodes c.args.table.now c.args.tree.now n (get_or c.args.sorts.now c.loop-i.i sort.Int)) (sym c.slot-slot.ensures)
+    subst (λ (n : ℕ). CellFoldsToOne c.loop-i.g.nodes c.args.given.now n (get_or c.args.sorts.now c.loop-i.i sort.Int)) (sym c.slot-slot.ensures)
     (λ known. (
-      c.requires.some.0 n,
-      folds_kept c.args.g.now c.loop-i.g c.loop-i.invariant.grows c.args.table.now c.args.tree.now n None (Some (c.requires.some.0 n))
-          (c.requires.some.1 c.loop-i.i (get_or c.args.sorts.now c.loop-i.i sort.Int) (slice_get-get_or c.args.sorts.now c.loop-i.i sort.Int c.loop-i-test.true) known),
+      c.requires.some.0,
+      c.requires.some.1 n,
+      folds_kept c.args.g.now c.loop-i.g c.loop-i.invariant.grows c.requires.some.0 c.args.given.now n None (Some (c.requires.some.1 n))
+          (c.requires.some.2 c.loop-i.i (get_or c.args.sorts.now c.loop-i.i sort.Int) (slice_get-get_or c.args.sorts.now c.loop-i.i sort.Int c.loop-i-test.true) known),
     ))
 
 pub returns-in_err-next-clause-grows : goal.returns-in_err-next-clause-grows
@@ -54,14 +55,14 @@ loop-i-preserved c =
     record {
       grows = grows_then c.args.g.now c.loop-i.g c.cell.new.g c.loop-i.invariant.grows c.cell.ensures.grows;
       count = ap length c.in_ok-push.ensures.items ∙ length-append old (x ∷ []) ∙ ap (λ (n : ℕ). n + 1) c.loop-i.invariant.count;
-      each = subst (λ (xs : List Cell). (i : ℕ) (y : Cell) → slice_get xs i ≡ Some y → EnterCell c.args.g.now c.args.table.now c.args.tree.now c.args.part c.args.sorts.now c.cell.new.g i y) (sym c.in_ok-push.ensures.items)
-          (each_push (EnterCell c.args.g.now c.args.table.now c.args.tree.now c.args.part c.args.sorts.now c.loop-i.g) (EnterCell c.args.g.now c.args.table.now c.args.tree.now c.args.part c.args.sorts.now c.cell.new.g) old x c.loop-i.i c.loop-i.invariant.count
-          (enter_cell_kept c.args.g.now c.args.table.now c.args.tree.now c.args.part c.args.sorts.now c.loop-i.g c.cell.new.g c.cell.ensures.grows) c.loop-i.invariant.each
-          (enter_cell c.args.g.now c.args.table.now c.args.tree.now c.args.part c.args.sorts.now c.loop-i.g c.cell.new.g c.loop-i.invariant.grows c.loop-i.i t (number c.slot-slot.result) x at c.slot-slot.ensures c.in_ok-next.ensures.sort c.in_ok-next.ensures.reads));
+      each = subst (λ (xs : List Cell). (i : ℕ) (y : Cell) → slice_get xs i ≡ Some y → EnterCell c.args.g.now c.args.given.now c.args.part c.args.sorts.now c.cell.new.g i y) (sym c.in_ok-push.ensures.items)
+          (each_push (EnterCell c.args.g.now c.args.given.now c.args.part c.args.sorts.now c.loop-i.g) (EnterCell c.args.g.now c.args.given.now c.args.part c.args.sorts.now c.cell.new.g) old x c.loop-i.i c.loop-i.invariant.count
+          (enter_cell_kept c.args.g.now c.args.given.now c.args.part c.args.sorts.now c.loop-i.g c.cell.new.g c.cell.ensures.grows) c.loop-i.invariant.each
+          (enter_cell c.args.g.now c.args.given.now c.args.part c.args.sorts.now c.loop-i.g c.cell.new.g c.loop-i.invariant.grows c.loop-i.i t (number c.slot-slot.result) x at c.slot-slot.ensures c.in_ok-next.ensures.sort c.in_ok-next.ensures.reads));
     }
 
 pub returns-clause-reads : goal.returns-clause-reads
-returns-clause-reads c base folds i x at known = (c.loop-i.invariant.each i x at).reads base folds known
+returns-clause-reads c names base folds i x at known = (c.loop-i.invariant.each i x at).reads names base folds known
 
 pub returns-clause-sorts : goal.returns-clause-sorts
 returns-clause-sorts c =

@@ -8,5 +8,5 @@ abbrev pub invariant-loop-i : goal.invariant-loop-i
 invariant-loop-i l = record {
   grows : Grows l.fn.g l.g;
   count : length l.cells.items ≡ l.i;
-  each : (i : ℕ) (c : Cell) → slice_get l.cells.items i ≡ Some c → EnterCell l.fn.g l.table l.tree l.part l.sorts l.g i c;
+  each : (i : ℕ) (c : Cell) → slice_get l.cells.items i ≡ Some c → EnterCell l.fn.g l.given l.part l.sorts l.g i c;
 }

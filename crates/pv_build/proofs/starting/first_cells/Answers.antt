@@ -7,7 +7,7 @@ use Rattle.pv_block.specs.declared.held.Cell.{Cell}
 use Rattle.pv_block.specs.Sorted.{op_sort}
 use Rattle.pv_block.specs.Ran.{IsCellOf}
 use Rattle.pv_build.proofs.Lists.{each_push, zip_each}
-use Rattle.pv_build.proofs.Kept.{has_no_kids, no_theta}
+use Rattle.pv_build.proofs.Kept.{has_no_kids, no_depth}
 use Rattle.pv_build.proofs.Started.{StartCell, first_sort, start_cell, start_cell_kept}
 use Rattle.pv_build.proofs.starting.first_cells.Goals as goal
 
@@ -24,10 +24,10 @@ returns-in_err-op-clause-grows c = c.loop-k.invariant.grows
 pub over-requires-clause-graph : goal.over-requires-clause-graph
 over-requires-clause-graph c = c.loop-k.invariant.grows.graph
 
-pub over-requires-clause-other : goal.over-requires-clause-other
-over-requires-clause-other c =
+pub over-requires-clause-flat : goal.over-requires-clause-flat
+over-requires-clause-flat c =
     let t : Sort = get_or c.args.sorts.now c.loop-k.k sort.Int in
-    no_theta c.in_ok-op.op (op_sort t) (first_sort c.args.ops.now c.args.sorts.now c.loop-k.k t c.in_ok-op.op c.requires.ops (slice_get-get_or c.args.sorts.now c.loop-k.k sort.Int c.loop-k-test.true) c.in_ok-op.ensures)
+    no_depth c.in_ok-op.op (op_sort t) (first_sort c.args.ops.now c.args.sorts.now c.loop-k.k t c.in_ok-op.op c.requires.ops (slice_get-get_or c.args.sorts.now c.loop-k.k sort.Int c.loop-k-test.true) c.in_ok-op.ensures)
 
 pub over-requires-clause-fits : goal.over-requires-clause-fits
 over-requires-clause-fits c =
@@ -58,7 +58,7 @@ loop-k-preserved c =
     }
 
 pub returns-clause-reads : goal.returns-clause-reads
-returns-clause-reads c i x at known = (c.loop-k.invariant.each i x at).reads known
+returns-clause-reads c names i x at known = (c.loop-k.invariant.each i x at).reads names known
 
 pub returns-clause-sorts : goal.returns-clause-sorts
 returns-clause-sorts c =

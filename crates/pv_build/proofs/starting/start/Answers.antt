@@ -35,8 +35,8 @@ returns-clause-reads c =
     let ops : List Op = passed_ops c.args.program.now.instance c.args.program.now.desc.params in
     let locals : StartCellsRead c.first_cells.new.g.nodes c.in_ok-locals.locals.items ops = subst (StartCellsRead c.first_cells.new.g.nodes c.in_ok-locals.locals.items) (c.deref.ensures.value ∙ c.in_ok-ops.ensures) c.in_ok-locals.ensures.reads in
     start_reads c.first_cells.new.g.nodes (record { stack = c.into.result; locals = c.into-2.result; heap = c.in_ok-heap.heap; token = c.in_ok-token.token }) c.args.program.now (c.into.ensures ∙ c.new.ensures.items)
-    (reads_kept c.over.new.g c.first_cells.new.g from_one c.in_ok-token.token (Over op.Unit NoExp) (read_no_kids c.args.g.now c.over.new.g op.Unit c.in_ok-token.token c.in_ok-token.ensures.reads))
-    (reads_kept c.over-2.new.g c.first_cells.new.g c.first_cells.ensures.grows c.in_ok-heap.heap (Over op.Heap0 NoExp) (read_no_kids c.over.new.g c.over-2.new.g op.Heap0 c.in_ok-heap.heap c.in_ok-heap.ensures.reads))
+    (λ names. reads_kept c.over.new.g c.first_cells.new.g from_one names c.in_ok-token.token (Over op.Unit NoExp) (read_no_kids c.args.g.now c.over.new.g names op.Unit c.in_ok-token.token c.in_ok-token.ensures.reads))
+    (λ names. reads_kept c.over-2.new.g c.first_cells.new.g c.first_cells.ensures.grows names c.in_ok-heap.heap (Over op.Heap0 NoExp) (read_no_kids c.over.new.g c.over-2.new.g names op.Heap0 c.in_ok-heap.heap c.in_ok-heap.ensures.reads))
     (subst (λ (cells : List Cell). StartCellsRead c.first_cells.new.g.nodes cells ops) (sym c.into-2.ensures) locals)
 
 pub returns-clause-sorts : goal.returns-clause-sorts

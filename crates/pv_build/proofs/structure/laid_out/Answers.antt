@@ -1,14 +1,12 @@
 use Rattle.std.proofs.Common.{rules, ◌≡◌, Err}
-use Rattle.pv_flow.specs.Edges.{edges_of}
 use Rattle.pv_build.specs.Structure.{HasEdges, MeetsShape}
-use Rattle.pv_build.specs.Reasons.{refused_of}
 use Rattle.pv_build.proofs.Structures.{is_shape, deep}
 use Rattle.pv_build.proofs.Laid.{too_many_blocks}
 use Rattle.pv_build.proofs.structure.laid_out.Goals as goal
 
 pub returns-in_err-flow : goal.returns-in_err-flow
 returns-in_err-flow c =
-    let same : c.from_residual.result ≡ Err (refused_of c.in_err-flow.field-0.0) = search rules in
+    let same : c.from_residual.result ≡ Err c.in_err-flow.field-0.0 = search rules in
     rw same (too_many_blocks c.args.typed.now.program c.in_err-flow.field-0.0 c.in_err-flow.ensures)
 
 pub reduce-requires : goal.reduce-requires

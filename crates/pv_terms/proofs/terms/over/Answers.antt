@@ -1,4 +1,5 @@
-use Rattle.pv_terms.proofs.Growing.{fit_nodes, grows_added, sort_added}
+use Rattle.pv_terms.specs.Terms.{IsFlat}
+use Rattle.pv_terms.proofs.Growing.{fit_nodes, grows_added, flat_no_theta, sort_added}
 use Rattle.pv_terms.proofs.Made.{reads_added}
 use Rattle.pv_terms.proofs.terms.over.Goals as goal
 
@@ -6,10 +7,10 @@ pub add-requires-clause-kids : goal.add-requires-clause-kids
 add-requires-clause-kids c = fit_nodes c.args.g.now c.requires.graph c.args.kids.now c.requires.fits.1.sorts c.requires.fits.1.kids_have
 
 pub returns-in-Ok-clause-reads : goal.returns-in-Ok-clause-reads
-returns-in-Ok-clause-reads c = reads_added c.args.g.now c.add.new.self c.args.op c.args.kids.now c.in-Ok.n c.requires.graph c.requires.other c.in-Ok.ensures.ok
+returns-in-Ok-clause-reads c = reads_added c.args.g.now c.add.new.self c.args.op c.args.kids.now c.in-Ok.n c.requires.graph (flat_no_theta c.args.op c.requires.flat) c.in-Ok.ensures.ok
 
 pub returns-in-Ok-clause-sort : goal.returns-in-Ok-clause-sort
-returns-in-Ok-clause-sort c = sort_added c.args.g.now c.add.new.self c.args.op c.args.kids.now c.in-Ok.n c.requires.graph c.requires.other c.in-Ok.ensures.ok
+returns-in-Ok-clause-sort c = sort_added c.args.g.now c.add.new.self c.args.op c.args.kids.now c.in-Ok.n c.requires.graph (flat_no_theta c.args.op c.requires.flat) c.in-Ok.ensures.ok
 
 pub returns-in-Ok-clause-grows : goal.returns-in-Ok-clause-grows
-returns-in-Ok-clause-grows c = grows_added c.args.g.now c.add.new.self c.args.op c.args.kids.now c.in-Ok.n c.requires.graph c.requires.other c.in-Ok.ensures.ok
+returns-in-Ok-clause-grows c = grows_added IsFlat c.args.g.now c.add.new.self c.args.op c.args.kids.now c.in-Ok.n c.requires.graph (flat_no_theta c.args.op c.requires.flat) c.requires.flat c.in-Ok.ensures.ok

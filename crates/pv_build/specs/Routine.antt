@@ -1,0 +1,20 @@
+-- A method that isn't refused: private to this crate.
+use Rattle.std.specs.Prelude.{◌≤◌, List, length, Option}
+use Rattle.pv_class.specs.declared.file.ClassFile.{ClassFile}
+use Rattle.pv_class.specs.declared.file.Method.{Method}
+use Rattle.pv_frame.specs.declared.program.Program.{Program}
+use Rattle.pv_frame.specs.declared.frame.Frame.{Frame}
+use Rattle.pv_flow.specs.declared.block.Block.{Block}
+use Rattle.pv_flow.specs.Answers.{most_blocks}
+use Rattle.pv_flow.specs.Edges.{edges_of}
+use Rattle.pv_loops.specs.declared.forest.Forest.{Forest}
+use Rattle.pv_loops.specs.Ranks.{IsOrdered}
+use Rattle.pv_runs.specs.Methods.{IsShaped}
+
+-- a method with its frames, its blocks in an order that edges follow, and the forest of their loops
+pub record IsRoutine (p : Program) (frames : List (Option Frame)) (blocks : List Block) (forest : Forest) : Type 0 where
+  pub file : ClassFile
+  pub method : Method
+  pub shaped : IsShaped file method p frames blocks forest
+  pub few : length blocks ≤ most_blocks
+  pub ordered : IsOrdered (edges_of blocks) forest

@@ -1,0 +1,308 @@
+//! The tree of a region for a target, with what is given for its nodes.
+
+ghost use Rattle.std.specs.Prelude.{◌≡◌, ◌≢◌, ◌<◌, ℕ, [], length, slice_get, Some, IfOk};
+ghost use Rattle.pv_graph.specs.declared.node.OpSort.TheVariants.{I};
+ghost use Rattle.pv_graph.specs.Ops.{sort_over};
+ghost use Rattle.pv_graph.specs.Graphs.{IsGraph};
+ghost use Rattle.pv_equations.specs.Exp.{Over, NoExp};
+ghost use Rattle.pv_decide.specs.Sites.{dest_of, Inside};
+ghost use Rattle.pv_decide.specs.Folds.{IsExitOf, IsTestOf, IsAimedAt, NodeFits, AreSound};
+ghost use Rattle.pv_decide.specs.Walks.{leaving, tests_of};
+ghost use Rattle.pv_terms.specs.Terms.{IsFlat, Grows};
+ghost use Rattle.pv_build.specs.Stages.{flow_in, region_at, loops_at, IsLoopAt, IsMethod, IsStage, HasRun, GrowsIn};
+ghost use Rattle.pv_build.specs.Giving.{scope_at, AreReadyFor, IsTargetIn, AreClosedFrom, IsIntFor, IsLeafFor, IsSourceFor, IsGivenFor};
+ghost use Rattle.pv_build.specs.Leaves.{header_at, header_list, HasExitAt, IsExitAt, IsLeaveFor, HasLeft, Left, HasTested, Tested, AreSourcesFor};
+
+use crate::method::{Closed, Made, Method, Stage};
+use crate::source::{Given, Source};
+use crate::taking::{exit_outs, value_outs};
+use pv_block::{Leaving, Ran};
+use pv_decide::{Region, Target, TreeNode};
+use pv_flow::{Exit, Flow};
+use pv_graph::{Graph, NodeId, Op};
+use pv_loops::MAX_DEPTH;
+use pv_terms::over;
+use pv_value::Memory;
+use std::alloc::Global;
+
+// The region of a loop, or the whole method.
+fn region(at: Option<u32>) -> Region
+    ensures { result ≡ region_at at }
+{
+    match at {
+        None => Region::Top,
+        Some(i) => Region::Loop(i),
+    }
+}
+
+// The closed loop at this place.
+fn closed_at(made: &Made, i: u32) -> Closed
+    requires { (c : Closed) × (slice_get made.now.loops.items i ≡ Some (Stage.Closed c)) }
+    ensures { slice_get made.now.loops.items i ≡ Some (Stage.Closed result) }
+{
+    match &made.loops[i as usize] {
+        Stage::Closed(closed) => *closed,
+        Stage::Ahead | Stage::Open(_) => unreachable!(),
+    }
+}
+
+// The loops between a block that is done and the region, the innermost first; they are closed.
+fn closed_from(
+    alloc: Global,
+    method: &Method,
+    made: &Made,
+    at: Option<u32>,
+    b: u32,
+) -> Result<Vec<Closed>, Memory>
+    requires method { IsMethod method.now }
+    requires stage { (g : Graph) × IsStage method.now g made.now (loops_at method.now at) }
+    requires region { IsLoopAt method.now at }
+    requires done { HasRun made.now b }
+    requires inside { Inside method.now.trees.sites.items (scope_at method.now at) b }
+    ensures { IfOk result (λ left. (g : Graph) → IsStage method.now g made.now (loops_at method.now at) → AreClosedFrom method.now g made.now at b left.items) }
+{
+    let mut left = Vec::new(alloc);
+    let mut next = method.forest.home[b as usize];
+    for _ in 0..MAX_DEPTH {
+        let Some(i) = next else {
+            return Ok(left);
+        };
+        if at == Some(i) {
+            return Ok(left);
+        }
+        left.push(closed_at(made, i))?;
+        next = method.forest.loops[i as usize].parent;
+    }
+    Ok(left)
+}
+
+// What the block left when it was done.
+fn ran_of(made: &Made, b: u32) -> &Ran
+    requires { HasRun made.now b }
+    ensures { slice_get made.now.blocks.items b ≡ Some (Some result.now) }
+{
+    match &made.blocks[b as usize] {
+        Some(ran) => ran,
+        None => unreachable!(),
+    }
+}
+
+// What holds at an exit of a block that is done.
+fn left_at(made: &Made, b: u32, e: u32) -> &Leaving
+    requires { HasLeft made.now b e }
+    ensures { Left made.now b e result.now }
+{
+    &ran_of(made, b).exits[e as usize]
+}
+
+// The node of a test of a block that is done.
+fn tested_at(made: &Made, b: u32, t: u32) -> NodeId
+    requires { HasTested made.now b t }
+    ensures { Tested made.now b t result }
+{
+    ran_of(made, b).tests[t as usize]
+}
+
+// The header of the loop of the region.
+fn header_of(method: &Method, at: Option<u32>) -> Option<u32>
+    requires { IsLoopAt method.now at }
+    ensures { result ≡ header_at method.now.forest.now.loops.items at }
+{
+    let i = at?;
+    Some(method.forest.loops[i as usize].header)
+}
+
+// The exit of a block.
+fn exit_of(flow: &Flow, b: u32, e: u32) -> Exit
+    requires { HasExitAt flow.now.blocks b e }
+    ensures { IsExitAt flow.now.blocks b e result }
+{
+    flow.blocks.as_slice()[b as usize].exits.as_slice()[e as usize]
+}
+
+// Whether an exit of a block leaves the loop with this header: 1 if it does, and 0 where the loop begins again.
+fn left_op(header: Option<u32>, exit: Exit) -> Op
+    ensures reads { Over result NoExp ≡ leaving (dest_of exit) (header_list header) }
+    ensures flat { IsFlat result }
+    ensures int { sort_over result [] ≡ Some I }
+{
+    match exit {
+        Exit::To(m) => match header {
+            Some(h) => Op::Int(if m == h { 0 } else { 1 }),
+            None => Op::Int(1),
+        },
+        Exit::Return | Exit::Throw => Op::Int(1),
+    }
+}
+
+// Whether the loop is left by an exit of a block of the region.
+fn leave_leaf(
+    alloc: Global,
+    g: &mut Graph,
+    method: &Method,
+    at: Option<u32>,
+    b: u32,
+    e: u32,
+) -> Result<Source, Memory>
+    requires graph { IsGraph g.old }
+    requires method { IsMethod method.now }
+    requires region { IsLoopAt method.now at }
+    requires exit { IsExitOf method.now.trees.sites.items (scope_at method.now at) b e }
+    ensures leaf { IfOk result (λ k. IsLeaveFor method.now g.new at b e k) }
+    ensures grows { Grows g.old g.new }
+{
+    let op = left_op(header_of(method, at), exit_of(method.flow, b, e));
+    let n = over(alloc, g, op, &[])?;
+    Ok(Source::Value(n))
+}
+
+// What holds at an exit of a block of the region, as it is outside the loops inside the region.
+fn exit_leaf(
+    alloc: Global,
+    g: &mut Graph,
+    method: &Method,
+    made: &Made,
+    at: Option<u32>,
+    target: Target,
+    b: u32,
+    e: u32,
+) -> Result<Source, Memory>
+    requires method { IsMethod method.now }
+    requires stage { IsStage method.now g.old made.now (loops_at method.now at) }
+    requires region { IsLoopAt method.now at }
+    requires done { HasRun made.now b }
+    requires exit { IsExitOf method.now.trees.sites.items (scope_at method.now at) b e }
+    requires aimed { IsAimedAt method.now.trees.sites.items (scope_at method.now at) target b e }
+    requires other { target ≢ Target.Leave }
+    ensures leaf { IfOk result (λ k. IsLeafFor method.now g.new made.now.names at target b e k) }
+    ensures grows { GrowsIn (length (loops_at method.now at)) g.old g.new }
+{
+    let left = closed_from(alloc, method, made, at, b)?;
+    let out = exit_outs(alloc, g, method.typed, &left, left_at(made, b, e))?;
+    Ok(Source::Exit(out))
+}
+
+// What is given for a leaf.
+fn leaf(
+    alloc: Global,
+    g: &mut Graph,
+    method: &Method,
+    made: &Made,
+    at: Option<u32>,
+    target: Target,
+    b: u32,
+    e: u32,
+) -> Result<Source, Memory>
+    requires method { IsMethod method.now }
+    requires stage { IsStage method.now g.old made.now (loops_at method.now at) }
+    requires region { IsLoopAt method.now at }
+    requires done { HasRun made.now b }
+    requires exit { IsExitOf method.now.trees.sites.items (scope_at method.now at) b e }
+    requires aimed { IsAimedAt method.now.trees.sites.items (scope_at method.now at) target b e }
+    ensures leaf { IfOk result (λ k. IsLeafFor method.now g.new made.now.names at target b e k) }
+    ensures grows { GrowsIn (length (loops_at method.now at)) g.old g.new }
+{
+    match target {
+        Target::Leave => leave_leaf(alloc, g, method, at, b, e),
+        _ => exit_leaf(alloc, g, method, made, at, target, b, e),
+    }
+}
+
+// What is given for a test.
+fn test(
+    alloc: Global,
+    g: &mut Graph,
+    method: &Method,
+    made: &Made,
+    at: Option<u32>,
+    b: u32,
+    t: u32,
+) -> Result<Source, Memory>
+    requires method { IsMethod method.now }
+    requires stage { IsStage method.now g.old made.now (loops_at method.now at) }
+    requires region { IsLoopAt method.now at }
+    requires done { HasRun made.now b }
+    requires test { IsTestOf method.now.trees.sites.items (scope_at method.now at) b t }
+    ensures test { IfOk result (λ k. IsIntFor method.now g.new made.now.names k (λ v. tests_of (flow_in method.now) v (loops_at method.now at) b t)) }
+    ensures grows { GrowsIn (length (loops_at method.now at)) g.old g.new }
+{
+    let left = closed_from(alloc, method, made, at, b)?;
+    let out = value_outs(alloc, g, &left, tested_at(made, b, t))?;
+    Ok(Source::Value(out))
+}
+
+// What is given for a node of a tree of the region.
+fn source(
+    alloc: Global,
+    g: &mut Graph,
+    method: &Method,
+    made: &Made,
+    at: Option<u32>,
+    target: Target,
+    node: TreeNode,
+) -> Result<Source, Memory>
+    requires method { IsMethod method.now }
+    requires stage { IsStage method.now g.old made.now (loops_at method.now at) }
+    requires region { IsLoopAt method.now at }
+    requires ready { AreReadyFor method.now made.now at target }
+    requires fits { (n : ℕ) × NodeFits method.now.trees.sites.items (scope_at method.now at) target n node }
+    ensures source { IfOk result (λ k. IsSourceFor method.now g.new made.now.names at target node k) }
+    ensures grows { GrowsIn (length (loops_at method.now at)) g.old g.new }
+{
+    match node {
+        TreeNode::Leaf { block, exit } => leaf(alloc, g, method, made, at, target, block, exit),
+        TreeNode::Test { block, test: t, .. } => test(alloc, g, method, made, at, block, t),
+        TreeNode::Nothing | TreeNode::Dead => Ok(Source::Nothing),
+    }
+}
+
+// What is given for each node.
+fn sources(
+    alloc: Global,
+    g: &mut Graph,
+    method: &Method,
+    made: &Made,
+    at: Option<u32>,
+    target: Target,
+    nodes: &[TreeNode],
+) -> Result<Vec<Source>, Memory>
+    requires method { IsMethod method.now }
+    requires stage { IsStage method.now g.old made.now (loops_at method.now at) }
+    requires region { IsLoopAt method.now at }
+    requires ready { AreReadyFor method.now made.now at target }
+    requires fits { AreSound method.now.trees.sites.items (scope_at method.now at) target nodes.now }
+    ensures sources { IfOk result (λ ks. AreSourcesFor method.now g.new made.now.names at target nodes.now ks.items) }
+    ensures grows { GrowsIn (length (loops_at method.now at)) g.old g.new }
+{
+    let mut sources = Vec::new(alloc);
+    for node in nodes {
+        let next = source(alloc, g, method, made, at, target, *node)?;
+        sources.push(next)?;
+    }
+    Ok(sources)
+}
+
+/// The tree of the region of a loop, or of the whole method, for a target, with what is given for its nodes.
+pub(crate) fn given(
+    alloc: Global,
+    g: &mut Graph,
+    method: &Method,
+    made: &Made,
+    at: Option<u32>,
+    target: Target,
+) -> Result<Given, Memory>
+    requires method { IsMethod method.now }
+    requires stage { IsStage method.now g.old made.now (loops_at method.now at) }
+    requires region { IsLoopAt method.now at }
+    requires target { IsTargetIn method.now at target }
+    requires ready { AreReadyFor method.now made.now at target }
+    ensures given { IfOk result (λ x. IsGivenFor method.now g.new made.now.names at target x) }
+    ensures grows { GrowsIn (length (loops_at method.now at)) g.old g.new }
+{
+    let tree = method.trees.walk(alloc, region(at), target)?;
+    let sources = sources(alloc, g, method, made, at, target, &tree.nodes)?;
+    Ok(Given {
+        nodes: tree.nodes,
+        sources,
+    })
+}

@@ -15,10 +15,13 @@ import os
 import random
 import subprocess
 import sys
+from concurrent.futures import ThreadPoolExecutor
 
 TOP = os.path.dirname(os.path.dirname(os.path.abspath(__file__)))
 PROGRAM = os.path.join(TOP, "crates", "cases", "out", "cases")
 STEPS = 3000
+# A value takes time that grows with the product of iterations and slots, so some methods are left out.
+SECONDS = 5
 
 # Of the constant pool's entries: the field f of A, an int, as a static one and as one of an object, and the method
 # f of A, without parameters and result.
@@ -345,6 +348,17 @@ def setting(r):
     return args, "; ".join(steps)
 
 
+def answers(lines):
+    """How the machine's run ends and what the root's value is, for each line, or None where that takes too long."""
+    given = "".join(f"machine {line}\nroot {line}\n" for line in lines)
+    try:
+        ran = subprocess.run([PROGRAM], input=given, capture_output=True, text=True, timeout=SECONDS)
+    except subprocess.TimeoutExpired:
+        return None
+    found = ran.stdout.splitlines()
+    return list(zip(found[::2], found[1::2]))
+
+
 def iterations(run):
     """How often a loop's body has begun, by the static field at the end of a run."""
     texts = run.split("; ")
@@ -365,10 +379,12 @@ def main():
         for _ in range(lists):
             args, steps = setting(r)
             lines.append(f"{STEPS} {args}; {text}; {steps}")
-    given = "".join(f"machine {line}\nroot {line}\n" for line in lines)
-    ran = subprocess.run([PROGRAM], input=given, capture_output=True, text=True)
-    answers = ran.stdout.splitlines()
-    pairs = list(zip(answers[::2], answers[1::2]))
+    with ThreadPoolExecutor(max_workers=3) as pool:
+        groups = [lines[k:k + lists] for k in range(0, len(lines), lists)]
+        found = list(pool.map(answers, groups))
+    left = sum(1 for pairs in found if pairs is None)
+    lines = [line for group, pairs in zip(groups, found) if pairs is not None for line in group]
+    pairs = [pair for pairs in found if pairs is not None for pair in pairs]
     same = lambda m, v: m == v or (m == "running" and v == "None")
     wrong = [(line, pair) for line, pair in zip(lines, pairs) if not same(*pair)]
     for line, (run, value) in wrong[:5]:
@@ -377,7 +393,9 @@ def main():
     for run, _ in pairs:
         kind = run.split("(")[0].split(" at ")[0]
         kinds[kind] = kinds.get(kind, 0) + 1
-    print(f"seed {seed}: {len(pairs)} of {len(lines)} runs of {count} methods, {len(wrong)} differ; {kinds}")
+    print(f"seed {seed}: {len(pairs)} of {len(lines)} runs of {count - left} methods, {len(wrong)} differ; {kinds}")
+    if left:
+        print(f"{left} methods left out, whose values take more than {SECONDS} seconds")
     if loops:
         many = sum(1 for run, _ in pairs if iterations(run) > 3)
         print(f"{many} end after more than three iterations")

@@ -1,1 +1,2 @@
+-- the vocabulary of private functions
 pub mod Rules

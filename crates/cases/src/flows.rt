@@ -7,7 +7,7 @@
 //! `samples` says how a METHOD is written. A block is written with the places of its first and last instruction and its
 //! exits: the number of a block, `return` or `throw`, as `0-2: 1 throw`.
 
-ghost use Rattle.pv_frame.specs.Frames.{IsInferred};
+ghost use Rattle.pv_frame.specs.Frames.{AreFrames};
 
 use crate::answers::{Answer, List};
 use crate::bench::{Bench, words};
@@ -30,7 +30,7 @@ pub fn flow(bench: &Bench, rest: &str) -> Answer {
 
 // The blocks of a method with its frames.
 fn typed_text(alloc: Global, typed: &Typed) -> Answer
-    requires { IsInferred typed.now.program typed.now.frames }
+    requires { AreFrames typed.now.program typed.now.frames }
 {
     match blocks(alloc, typed) {
         Ok(flow) => flow_text(alloc, &flow),

@@ -11,7 +11,7 @@ use Rattle.pv_graph.specs.contracts.node.NodeEq.TheImpl.Laws.{laws-law}
 use Rattle.pv_graph.specs.declared.node.Op.{Op}
 use Rattle.pv_graph.specs.declared.node.Op.TheVariants as op
 use Rattle.pv_graph.specs.declared.node.Node.{Node}
-use Rattle.pv_graph.specs.Elements.{push_cases, get_front, found}
+use Rattle.pv_graph.proofs.Elements.{push_cases, get_front, found}
 use Rattle.pv_graph.specs.Ops.{shape}
 use Rattle.pv_graph.specs.Nodes.{node_of, IsAbsent}
 use Rattle.pv_graph.specs.Calls.{IsDistinct}

@@ -6,7 +6,7 @@ use Rattle.std.proofs.lemmas.Option.{slice_get_within, same_Some}
 use Rattle.pv_graph.specs.declared.node.Op.{Op}
 use Rattle.pv_graph.specs.declared.node.OpSort.{OpSort}
 use Rattle.pv_graph.specs.declared.node.Node.{Node}
-use Rattle.pv_graph.specs.Elements.{found}
+use Rattle.pv_graph.proofs.Elements.{found}
 use Rattle.pv_graph.specs.Ops.{shape, sort_over, HaveSorts, HasSort}
 use Rattle.pv_graph.specs.Walks.{In, move_to, KeepsRule}
 use Rattle.pv_graph.specs.Graphs.{Graph, form_at, IsRanged, IsGraph, IsWellMade}

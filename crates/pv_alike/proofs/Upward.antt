@@ -14,7 +14,7 @@ use Rattle.pv_graph.specs.Partition.{is_theta, IsRank}
 use Rattle.pv_graph.proofs.NodeLaws.{node_at}
 use Rattle.pv_alike.specs.BottomUp.{HasKids, IsUpward, IsBottomUp}
 use Rattle.pv_alike.proofs.Places.{place_of, contains_at, get_before, apart_push}
-use Rattle.pv_graph.specs.Elements.{push_cases}
+use Rattle.pv_graph.proofs.Elements.{push_cases}
 use Rattle.pv_alike.proofs.Seen.{has_found, found_has}
 use Rattle.pv_alike.proofs.Closed.{apart_low}
 

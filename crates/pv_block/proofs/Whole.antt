@@ -14,7 +14,7 @@ use Rattle.pv_frame.specs.declared.frame.Frame.{Frame}
 use Rattle.pv_frame.specs.Programs.{IsAt}
 use Rattle.pv_frame.specs.Stacks.{popped}
 use Rattle.pv_frame.specs.Effects.{takes, successors}
-use Rattle.pv_frame.specs.Frames.{same, frame_done, frame_after, Flows, IsEnd, Reached, IsInferred}
+use Rattle.pv_frame.specs.Frames.{same, frame_done, frame_after, Flows, IsEnd, Reached, AreFrames}
 use Rattle.pv_frame.proofs.FrameLaws.{some_of, no_some}
 use Rattle.pv_flow.specs.declared.block.Block.{Block}
 use Rattle.pv_flow.specs.Blocks.{IsSpan}
@@ -204,11 +204,11 @@ leads_on r k a h c is e among j to_j =
     went leaves.Returns among (result, same) = let there : End flow.Return ≡ To j = sym (ap (λ (e : Exit). e.dest) same) ∙ to_j in absurd (cc)
     went leaves.Throws among (fault, g, same, _) = let there : End flow.Throw ≡ To j = sym (ap (λ (e : Exit). e.dest) same) ∙ to_j in absurd (cc)
 
-module _ (p : Program) (frames : List (Option Frame)) (inferred : IsInferred p frames) (clean : (k : ℕ) (a : Action) → IsAt p k a → IsClean a) where
-  module _ (g : Graph) (at : Entry) (k : ℕ) (a : Action) (h : parts.Held) (there : IsAt p k a) (typed : HeldAt p frames inferred clean k h) where
+module _ (p : Program) (frames : List (Option Frame)) (well_typed : AreFrames p frames) (clean : (k : ℕ) (a : Action) → IsAt p k a → IsClean a) where
+  module _ (g : Graph) (at : Entry) (k : ℕ) (a : Action) (h : parts.Held) (there : IsAt p k a) (typed : HeldAt p frames well_typed clean k h) where
     exit_sorted : (e : Leaving) (x : Exit) → IsExit at g.nodes (acted a h) e x → IsSortedLeaving g (result_sort p.desc.result) e → ((j : ℕ) → x.dest ≡ To j → Contains (successors k a) j) → IsSortedExit g p frames e
     exit_sorted (Goes place c) x (after, is, same, stands) s leads =
-        let t = leads_typed p frames inferred clean k place a h after there typed is (leads place (sym (ap (λ (e : Exit). e.dest) same))) in
+        let t = leads_typed p frames well_typed clean k place a h after there typed is (leads place (sym (ap (λ (e : Exit). e.dest) same))) in
         (t.frame, t.there, fits_frame g at c after t.frame stands s t.flows)
     exit_sorted (Returns e) x is s leads = s
     exit_sorted (Throws e) x is s leads = s
@@ -226,15 +226,15 @@ module _ (p : Program) (frames : List (Option Frame)) (inferred : IsInferred p f
 
 -- ---- the whole
 
-module _ (p : Program) (frames : List (Option Frame)) (inferred : IsInferred p frames) (plain_ : ArePlain p) (b : Block) (span : IsSpan p b.first b.last) (reached : Reached p b.first) where
+module _ (p : Program) (frames : List (Option Frame)) (well_typed : AreFrames p frames) (plain_ : ArePlain p) (b : Block) (span : IsSpan p b.first b.last) (reached : Reached p b.first) where
   abbrev clean : (k : ℕ) (a : Action) → IsAt p k a → IsClean a
   clean k a at = (plain_ k a at).0
 
   abbrev pub Whole : Type 0
-  Whole = Chained p frames inferred clean b
+  Whole = Chained p frames well_typed clean b
 
   pub whole : Whole
-  whole = chained_at p frames inferred clean b span reached
+  whole = chained_at p frames well_typed clean b span reached
 
   -- what is held first, in the frame where the block begins
   pub first_held : (g : Graph) (c : State) (new : List Node) (held : Held) (w : Whole) → BeginsAt g frames b.first c → HoldsFirst g c new held → HoldsFor (entry_of g c) new held (held_at w.frame)
@@ -254,14 +254,14 @@ module _ (p : Program) (frames : List (Option Frame)) (inferred : IsInferred p f
   pub runs_sorted : (g : Graph) (c : State) (new : Graph) (a : Action) (ran : Ran) (w : Whole) → IsAt p b.last a → LeavesBy (entry_of g c) new.nodes (acted a w.held) ran w.chain → AreSortedExits new (result_sort p.desc.result) ran → IsSortedRan new p frames ran
   runs_sorted g c new a ran w at leaves s = record {
     tests = s.tests;
-    exits = exits_sorted p frames inferred clean new (entry_of g c) b.last a w.held at w.typed ran.tests.items ran.exits.items w.chain leaves s.exits
+    exits = exits_sorted p frames well_typed clean new (entry_of g c) b.last a w.held at w.typed ran.tests.items ran.exits.items w.chain leaves s.exits
         (leads_on p.desc.result b.last a w.held w.chain (subst (λ (a : Action). chain_of p.desc.result b.last a w.held ≡ Some w.chain) (some_of _ _ (sym w.at ∙ at)) w.ends));
   }
 
   -- a return gives a value of the sort of the result
   pub gives_result : (a : Action) (w : Whole) → IsAt p b.last a → GivesResult p.desc.result a
   gives_result a w at =
-      let y = inferred.agrees.each b.last w.typed.frame w.typed.there in
+      let y = well_typed.agrees.each b.last w.typed.frame w.typed.there in
       subst (GivesResult p.desc.result) (some_of _ _ (sym y.at ∙ at)) (elim y.goes [ inl l ↦ given y.action l.0 | inr on ↦ going y.action w.typed.frame on.after on.is ])
     where
       given : (a : Action) → IsEnd p a → GivesResult p.desc.result a

@@ -1,7 +1,10 @@
-pub mod Cells
+-- what public contracts and laws say
 pub mod Standing
 pub mod Sorted
 pub mod Plain
-pub mod Acting
 pub mod Ran
+
+-- the vocabulary of private functions
+pub mod Cells
+pub mod Acting
 pub mod Leaving

@@ -1,7 +1,7 @@
 //! A whole block.
 
 ghost use Rattle.std.specs.Prelude.{◌≡◌, Some, IfOk};
-ghost use Rattle.pv_frame.specs.Frames.{IsInferred, Reached};
+ghost use Rattle.pv_frame.specs.Frames.{AreFrames, Reached};
 ghost use Rattle.pv_flow.specs.Blocks.{IsSpan};
 ghost use Rattle.pv_graph.specs.Graphs.{IsGraph};
 ghost use Rattle.pv_equations.specs.Flow.{Chain};
@@ -54,7 +54,7 @@ pub fn run(
     state: State,
 ) -> Result<Ran, Memory>
     requires graph { IsGraph g.old }
-    requires inferred { IsInferred typed.now.program typed.now.frames }
+    requires well_typed { AreFrames typed.now.program typed.now.frames }
     requires plain { ArePlain typed.now.program }
     requires span { IsSpan typed.now.program block.now.first block.now.last }
     requires reached { Reached typed.now.program block.now.first }

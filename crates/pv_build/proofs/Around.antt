@@ -7,7 +7,7 @@ use Rattle.pv_frame.proofs.Lists.{contains_first, contains_more, contains_cases,
 use Rattle.pv_flow.specs.declared.block.Block.{Block}
 use Rattle.pv_flow.specs.Edges.{targets_of, edges_of}
 use Rattle.pv_loops.specs.declared.forest.Loop.{Loop}
-use Rattle.pv_graph.specs.Elements.{found}
+use Rattle.pv_graph.proofs.Elements.{found}
 use Rattle.pv_graph.specs.Walks.{In}
 use Rattle.pv_equations.specs.Flow.{Heads}
 use Rattle.pv_equations.specs.Equations.{Values, AreEquations}

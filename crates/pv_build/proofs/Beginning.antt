@@ -101,12 +101,12 @@ module _ (m : Method) (is : IsMethod m) where
       (ap (λ (f : Frame). f.stack) (sym same) ∙ leads.flows.stack, subst (λ (f : Frame). AllZip (λ s t. (t ≡ s) ⊎ (t ≡ sort.Unknown)) (padded_sorts m.typed.now.program.max_locals (passed_to m.typed.now.program)) f.locals) same leads.flows.locals)
 
   pub first_stack : (f : Frame) → IsFrameAt m.typed.now.frames 0 f → f.stack ≡ []
-  first_stack f at = (first_flows f at is.routine.shaped.inferred.agrees.entry).0
+  first_stack f at = (first_flows f at is.routine.shaped.well_typed.agrees.entry).0
 
   pub first_ops : (f : Frame) → IsFrameAt m.typed.now.frames 0 f → AreOpsOf (passed_ops m.typed.now.program.instance m.typed.now.program.desc.params) f.locals
   first_ops f at i t here known =
       let p : Program = m.typed.now.program in
-      fit_at (passed_ops p.instance p.desc.params) (padded_sorts p.max_locals (passed_to p)) f.locals i t (passed_fit p.instance p.desc.params (p.max_locals - length (passed_to p))) (first_flows f at is.routine.shaped.inferred.agrees.entry).1 here known
+      fit_at (passed_ops p.instance p.desc.params) (padded_sorts p.max_locals (passed_to p)) f.locals i t (passed_fit p.instance p.desc.params (p.max_locals - length (passed_to p))) (first_flows f at is.routine.shaped.well_typed.agrees.entry).1 here known
 
   -- block 0 begins there
   pub first_block : (b : Block) → slice_get m.flow.now.blocks 0 ≡ Some b → b.first ≡ 0
@@ -115,7 +115,7 @@ module _ (m : Method) (is : IsMethod m) where
       ap (λ (b : Block). b.first) (some_of b e.0 (sym at ∙ e.1)) ∙ e.2
 
   pub block_frame : (n : ℕ) (b : Block) → slice_get m.flow.now.blocks n ≡ Some b → (f : Frame) × IsFrameAt m.typed.now.frames b.first f
-  block_frame n b at = reached_frame m.typed.now.program m.typed.now.frames is.routine.shaped.inferred.agrees b.first (is.routine.shaped.flow.each n b at).reached
+  block_frame n b at = reached_frame m.typed.now.program m.typed.now.frames is.routine.shaped.well_typed.agrees b.first (is.routine.shaped.flow.each n b at).reached
 
 -- ---- what is held there
 

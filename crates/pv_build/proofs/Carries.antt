@@ -39,11 +39,11 @@ use Rattle.pv_build.proofs.Writing.{along_before, walked_more, walked_none}
 -- in a method that isn't refused each block runs through
 pub run_through : (p : Program) (frames : List (Option Frame)) (blocks : List Block) (forest : Forest) → IsRoutine p frames blocks forest → AllRunThrough p frames blocks
 run_through p frames blocks forest is n b at =
-    let c = chained p frames is.shaped.inferred (program_clean is.file is.method p is.shaped.program) blocks is.shaped.flow n b at in
+    let c = chained p frames is.shaped.well_typed (program_clean is.file is.method p is.shaped.program) blocks is.shaped.flow n b at in
     record {
       frame = c.frame;
       there = c.there;
-      long = frame_long p frames is.shaped.inferred b.first c.frame c.there;
+      long = frame_long p frames is.shaped.well_typed b.first c.frame c.there;
       some = (is.shaped.flow.each n b at).span.some;
       held = c.held;
       along = c.along_;

@@ -94,7 +94,7 @@ module _ (p : Program) (frames : List (Option Frame)) (blocks : List Block) (for
   ranked = method_ranked is.file is.method p frames blocks forest is.shaped
 
   pub chains : (n : ℕ) (b : Block) → slice_get blocks n ≡ Some b → (c : Chain) × (place_chain p frames b ≡ Some c)
-  chains = typed_chain p frames is.shaped.inferred (program_clean is.file is.method p is.shaped.program) blocks is.shaped.flow
+  chains = typed_chain p frames is.shaped.well_typed (program_clean is.file is.method p is.shaped.program) blocks is.shaped.flow
 
   pub chain_goes : (n : ℕ) (b : Block) (c : Chain) → slice_get blocks n ≡ Some b → place_chain p frames b ≡ Some c → GoTo (numbered blocks c) b.exits
   chain_goes n b c at e =

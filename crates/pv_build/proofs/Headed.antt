@@ -161,7 +161,7 @@ module _ (m : Method) (is : IsMethod m) (i : ℕ) (l : Loop) (there : slice_get 
   pub carried_long : (w : Writes) → slice_get m.carried.items i ≡ Some w → (g : Graph) (c : State) → FirstFrame m g h c → length c.locals ≤ length w.locals.items
   carried_long w at g c first =
       let z = zip_long (IsCellOf g) c.locals first.frame.locals first.sorts.locals in
-      let x = frame_long m.typed.now.program m.typed.now.frames is.routine.shaped.inferred first.block.first first.frame first.frame_at in
+      let x = frame_long m.typed.now.program m.typed.now.frames is.routine.shaped.well_typed first.block.first first.frame first.frame_at in
       let y = (carried_is w at).size in
       omega (arith, z, x, y)
 

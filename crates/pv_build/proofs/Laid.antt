@@ -7,7 +7,7 @@ use Rattle.pv_frame.specs.declared.cause.Refused.TheVariants as refused
 use Rattle.pv_frame.specs.declared.program.Program.{Program}
 use Rattle.pv_frame.specs.declared.frame.Frame.{Frame}
 use Rattle.pv_frame.specs.Causes.{IsAccepted}
-use Rattle.pv_frame.specs.Frames.{IsInferred}
+use Rattle.pv_frame.specs.Frames.{AreFrames}
 use Rattle.pv_flow.specs.declared.block.Block.{Block}
 use Rattle.pv_flow.specs.Answers.{Answers}
 use Rattle.pv_loops.specs.declared.forest.Forest.{Forest}
@@ -26,9 +26,9 @@ too_many_blocks p refused.Memory h = tt
 
 -- ---- the conversion
 
-module _ (file : ClassFile) (m : Method) (p : Program) (frames : List (Option Frame)) (blocks : List Block) (forest : Forest) (accepted : IsAccepted file m p) (inferred : IsInferred p frames) (laid : IsLaidOut p blocks forest) where
+module _ (file : ClassFile) (m : Method) (p : Program) (frames : List (Option Frame)) (blocks : List Block) (forest : Forest) (accepted : IsAccepted file m p) (well_typed : AreFrames p frames) (laid : IsLaidOut p blocks forest) where
   shaped : IsShaped file m p frames blocks forest
-  shaped = record { program = accepted.of_method; inferred = inferred; flow = laid.flow; loops = laid.loops; reducible = laid.reducible; shallow = laid.shallow }
+  shaped = record { program = accepted.of_method; well_typed = well_typed; flow = laid.flow; loops = laid.loops; reducible = laid.reducible; shallow = laid.shallow }
 
   pub is_routine : IsRoutine p frames blocks forest
   is_routine = record { file = file; method = m; shaped = shaped; few = laid.few; ordered = laid.ordered }

@@ -1,7 +1,7 @@
 -- The open loop whose thetas are tied, where nodes were added before.
 use Rattle.std.proofs.Common.{◌≡◌, ℕ, ◌<◌, ◌≤◌, List, [], length, Some, slice_get, inl, refl, sym, subst, arith}
 use Rattle.pv_loops.specs.declared.forest.Loop.{Loop}
-use Rattle.pv_graph.specs.Elements.{found}
+use Rattle.pv_graph.proofs.Elements.{found}
 use Rattle.pv_graph.specs.Walks.{In}
 use Rattle.pv_graph.specs.Graphs.{Graph}
 use Rattle.pv_graph.specs.declared.node.Op.TheVariants as op

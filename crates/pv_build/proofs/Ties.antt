@@ -9,7 +9,7 @@ use Rattle.pv_graph.specs.declared.node.Op.TheVariants as op
 use Rattle.pv_graph.specs.declared.node.OpSort.{OpSort}
 use Rattle.pv_graph.specs.declared.node.OpSort.TheVariants.{T, H, R}
 use Rattle.pv_graph.specs.declared.node.Node.{Node}
-use Rattle.pv_graph.specs.Elements.{found}
+use Rattle.pv_graph.proofs.Elements.{found}
 use Rattle.pv_graph.specs.Nodes.{node_of}
 use Rattle.pv_graph.specs.Walks.{In}
 use Rattle.pv_graph.specs.Graphs.{Graph, IsWellMade}

@@ -1,7 +1,10 @@
+-- what public contracts and laws say
 pub mod Structure
 pub mod Unfolded
 pub mod Conversion
 pub mod Reasons
+
+-- the vocabulary of private functions
 pub mod Routine
 pub mod Arranged
 pub mod Carried

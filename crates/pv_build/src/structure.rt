@@ -1,7 +1,7 @@
 //! The blocks of a method and the forest of their loops.
 
 ghost use Rattle.std.specs.Prelude.{◌≡◌, ◌<◌, ◌^◌, length, IfOk};
-ghost use Rattle.pv_frame.specs.Frames.{IsInferred};
+ghost use Rattle.pv_frame.specs.Frames.{AreFrames};
 ghost use Rattle.pv_flow.specs.Edges.{edges_of};
 ghost use Rattle.pv_frame.specs.Causes.{cause};
 ghost use Rattle.pv_frame.specs.declared.cause.Refused.TheVariants as refused;
@@ -24,7 +24,7 @@ pub(crate) struct Layout {
 /// where more than 512 blocks are reached, `Irreducible` where they make no reducible shape, and `Depth`
 /// where loops nest deeper than 16.
 pub(crate) fn laid_out(alloc: Global, typed: &Typed) -> Result<Layout, Refused>
-    requires { IsInferred typed.now.program typed.now.frames }
+    requires { AreFrames typed.now.program typed.now.frames }
     ensures { Structures typed.now.program result }
 {
     let flow = blocks(alloc, typed)?;

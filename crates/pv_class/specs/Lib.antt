@@ -1,9 +1,12 @@
+-- what public contracts and laws say
 pub mod Checks
 pub mod Grammars
-pub mod Deciding
 pub mod ClassGrammar
 pub mod ClassFaults
-pub mod Reading
 pub mod Answers
 pub mod Items
 pub mod ClassFiles
+
+-- the vocabulary of private functions
+pub mod Deciding
+pub mod Reading

@@ -17,11 +17,11 @@ use Rattle.pv_value.specs.Heaps.{IsHeap, IsLoc, read, written}
 use Rattle.pv_value.specs.Inputs.{IsInput, IsOfSort, IsOfResult}
 use Rattle.pv_value.specs.Worlds.{IsWorld, IsReply}
 use Rattle.pv_value.specs.Operations.{Word, int, long, takes, gives, scalar_of, IsOfWord}
-use Rattle.pv_value.specs.OperationLaws.{scalar_fits}
+use Rattle.pv_value.proofs.OperationLaws.{scalar_fits}
 use Rattle.pv_value.specs.Worlds as worlds
 use Rattle.pv_value.specs.Worlds.{length_of, literal_of}
 use Rattle.pv_value.specs.Narrowing.{narrowed, heap_number, kept, shown, element_type, static_place, field_place, read_as, written_as}
-use Rattle.pv_value.specs.Once.{method_type_once}
+use Rattle.pv_value.proofs.Once.{method_type_once}
 use Rattle.pv_value.proofs.Spelling.{method_spelled}
 use Rattle.pv_value.proofs.Writes.{IsHeap-written}
 use Rattle.pv_value.specs.declared.world.World.{World}

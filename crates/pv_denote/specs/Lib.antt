@@ -1,3 +1,4 @@
+-- what public contracts and laws say
 pub mod Denote
 pub mod Means
 pub mod Typed

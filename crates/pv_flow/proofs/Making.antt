@@ -8,7 +8,7 @@ use Rattle.pv_frame.specs.declared.action.Action.{Action}
 use Rattle.pv_frame.specs.declared.frame.Frame.{Frame}
 use Rattle.pv_frame.specs.declared.program.Program.{Program}
 use Rattle.pv_frame.specs.Programs.{IsAt}
-use Rattle.pv_frame.specs.Frames.{IsFrameAt, Reached, IsInferred}
+use Rattle.pv_frame.specs.Frames.{IsFrameAt, Reached, AreFrames}
 use Rattle.pv_frame.specs.Frames as frames
 use Rattle.pv_frame.proofs.FrameLaws.{no_some}
 use Rattle.pv_frame.proofs.Inferred.{reached_frame}
@@ -57,19 +57,19 @@ zip_map R f (x ∷ xs) each = (each x (contains_first x xs), zip_map R f xs (λ 
 
 -- ---- the flow
 
-module _ (p : Program) (fs : List (Option Frame)) (inferred : IsInferred p fs) (begins : List Bool) (marks : AreBegins p begins)
+module _ (p : Program) (fs : List (Option Frame)) (well_typed : AreFrames p fs) (begins : List Bool) (marks : AreBegins p begins)
     (places numbers : List ℕ) (heads : AreHeads begins fs (length fs) places numbers) (blocks : List Block) (made : AllZip (IsMade p numbers) places blocks) where
   -- a block that begins at a place that is reached has the number of that place
   numbered : (j : ℕ) → Begins p j → Reached p j → IsBlockAt blocks (get_or numbers j 0) j
   numbered j begin reached =
-      let f = reached_frame p fs inferred.agrees j reached in
+      let f = reached_frame p fs well_typed.agrees j reached in
       let within = slice_get_within fs j (Some f.0) f.1 in
-      let head : IsHead begins fs j = record { begin = marks.all j begin (omega (arith, marks.one_each, inferred.one_each)); frame = f.0; there = f.1 } in
+      let head : IsHead begins fs j = record { begin = marks.all j begin (omega (arith, marks.one_each, well_typed.one_each)); frame = f.0; there = f.1 } in
       let b = zip_right (IsMade p numbers) places blocks (get_or numbers j 0) j made (heads.all j within head) in
       (b.0, b.1, b.2.place)
 
   first_reached : (n k : ℕ) → slice_get places n ≡ Some k → Reached p k
-  first_reached n k is = let head = heads.each n k is in inferred.reached k head.frame head.there
+  first_reached n k is = let head = heads.each n k is in well_typed.reached k head.frame head.there
 
   exit_is : (b : Block) (k : ℕ) → IsMade p numbers k b → Reached p b.last → (a : Action) → IsAt p b.last a → (d : Departure) → Contains (departures b.last a) d → IsExit blocks d (exit_by numbers d)
   exit_is b k is reached a at (Goes j) among =
@@ -119,7 +119,7 @@ pub head_at : (begins : List Bool) (fs : List (Option Frame)) (n : ℕ) (places 
 head_at begins fs n places numbers i heads lt = heads.each i (get_or places i 0) (slice_get-get_or places i 0 lt)
 
 pub flow_of : (p : Program) (fs : List (Option Frame)) (begins : List Bool) (places items numbers : List ℕ) (i : ℕ) (blocks : List Block)
-    → IsInferred p fs → AreBegins p begins → AreHeads begins fs (length fs) places numbers → items ≡ places → length items ≤ i → AllZip (IsMade p numbers) (take i items) blocks → IsFlow p blocks
-flow_of p fs begins places items numbers i blocks inferred marks heads same le all =
-    makes_flow p fs inferred begins marks places numbers heads blocks
+    → AreFrames p fs → AreBegins p begins → AreHeads begins fs (length fs) places numbers → items ≡ places → length items ≤ i → AllZip (IsMade p numbers) (take i items) blocks → IsFlow p blocks
+flow_of p fs begins places items numbers i blocks well_typed marks heads same le all =
+    makes_flow p fs well_typed begins marks places numbers heads blocks
     (subst (λ (l : List ℕ). AllZip (IsMade p numbers) l blocks) same (zip_all (IsMade p numbers) items blocks i le all))

@@ -9,7 +9,7 @@ use Rattle.pv_frame.specs.declared.program.Program.{Program}
 use Rattle.pv_frame.specs.Effects.{successors}
 use Rattle.pv_frame.specs.Programs.{IsAt}
 use Rattle.pv_frame.specs.Frames as frames
-use Rattle.pv_frame.specs.Frames.{IsFrameAt, Reached, IsInferred}
+use Rattle.pv_frame.specs.Frames.{IsFrameAt, Reached, AreFrames}
 use Rattle.pv_frame.proofs.Inferred.{reached_frame}
 use Rattle.pv_frame.proofs.Lists.{contains_first}
 use Rattle.pv_flow.specs.Exits.{Goes, departures, ends_block}
@@ -73,17 +73,17 @@ module _ (p : Program) (begins : List Bool) (marks : AreBegins p begins) where
   marked_or_not (false ∷ marks) zero = inr (λ e. absurd (cc))
   marked_or_not (b ∷ marks) (suc k) = marked_or_not marks k
 
-  module _ (fs : List (Option Frame)) (inferred : IsInferred p fs) where
+  module _ (fs : List (Option Frame)) (well_typed : AreFrames p fs) where
     frame_within : (k : ℕ) (f : Frame) → IsFrameAt fs k f → k < length p.actions
-    frame_within k f at = let within = slice_get_within fs k (Some f) at in omega (arith, inferred.one_each)
+    frame_within k f at = let within = slice_get_within fs k (Some f) at in omega (arith, well_typed.one_each)
 
     -- no block begins after the first place up to this one, which is reached; this number of places is left
     last_from : (left first k : ℕ) → length p.actions ≤ k + left → first ≤ k → Reached p k → ((j : ℕ) → first < j → j ≤ k → slice_get begins j ≡ Some true → ⊥) → HasLast begins first
-    last_from zero first k room le reached none = let f = reached_frame p fs inferred.agrees k reached in absurd (omega (arith, frame_within k f.0 f.1))
+    last_from zero first k room le reached none = let f = reached_frame p fs well_typed.agrees k reached in absurd (omega (arith, frame_within k f.0 f.1))
     last_from (suc left) first k room le reached none = elim (marked_or_not begins (suc k)) [
       | inl marked ↦ (k, record { some = le; next = marked; whole = none })
       | inr unmarked ↦
-          let f = reached_frame p fs inferred.agrees k reached in
+          let f = reached_frame p fs well_typed.agrees k reached in
           let within = frame_within k f.0 f.1 in
           let here = at_within p.actions k within in
           let begins_not = λ (b : Begins p (suc k)). unmarked (marks.all (suc k) b (omega (arith, marks.one_each))) in
@@ -96,13 +96,13 @@ module _ (p : Program) (begins : List Bool) (marks : AreBegins p begins) where
 
     pub has_last : (first : ℕ) → IsHead begins fs first → HasLast begins first
     has_last first head =
-        last_from (length p.actions) first first (omega arith) (omega arith) (inferred.reached first head.frame head.there) (λ j lt le marked. absurd (omega arith))
+        last_from (length p.actions) first first (omega arith) (omega arith) (well_typed.reached first head.frame head.there) (λ j lt le marked. absurd (omega arith))
 
     -- the last instruction of a block that is reached leads to places that have frames
     pub last_goes_below : (n first last : ℕ) (a : Action) → n ≡ length fs → IsHead begins fs first → IsLast begins first last → IsAt p last a → ((j : ℕ) → Contains (successors last a) j → j < n)
     last_goes_below n first last a e head is at j among =
         let span = last_span first last head.begin is in
-        let reached = inside_reached p first last span a at (inferred.reached first head.frame head.there) last is.some (omega arith) in
-        let f = reached_frame p fs inferred.agrees j (frames.next last j a reached at among) in
+        let reached = inside_reached p first last span a at (well_typed.reached first head.frame head.there) last is.some (omega arith) in
+        let f = reached_frame p fs well_typed.agrees j (frames.next last j a reached at among) in
         let within = slice_get_within fs j (Some f.0) f.1 in
         omega arith

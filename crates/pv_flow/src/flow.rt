@@ -1,7 +1,7 @@
 //! The blocks of a method.
 
 ghost use Rattle.std.specs.Prelude.{◌≡◌, ◌+◌, ◌<◌, ◌^◌, length, IfOk};
-ghost use Rattle.pv_frame.specs.Frames.{IsInferred};
+ghost use Rattle.pv_frame.specs.Frames.{AreFrames};
 ghost use Rattle.pv_flow.specs.Answers.{Answers};
 ghost use Rattle.pv_flow.specs.Finding.{AreBegins, IsHead, IsMade};
 
@@ -24,7 +24,7 @@ fn block(
     numbers: &[u32],
     first: u32,
 ) -> Result<Block, AllocError>
-    requires inferred { IsInferred typed.now.program typed.now.frames }
+    requires well_typed { AreFrames typed.now.program typed.now.frames }
     requires few { length typed.now.program.actions + 1 < 2 ^ 32 }
     requires begins { AreBegins typed.now.program begins.now }
     requires numbers { length numbers.now ≡ length typed.now.frames }
@@ -48,7 +48,7 @@ fn block(
 /// more than 512 blocks are reached. `Memory` says nothing of the method; it also comes where there are
 /// as many instructions as a `u32` can count, or more.
 pub fn blocks(alloc: Global, typed: &Typed) -> Result<Flow, Refused>
-    requires { IsInferred typed.now.program typed.now.frames }
+    requires { AreFrames typed.now.program typed.now.frames }
     ensures { Answers typed.now.program result }
 {
     if typed.program.actions.as_slice().len() >= u32::MAX as usize {

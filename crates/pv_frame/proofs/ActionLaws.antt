@@ -8,7 +8,7 @@ use Rattle.pv_value.specs.declared.descriptor.JType.{JType}
 use Rattle.pv_value.specs.declared.descriptor.Descriptor.{Descriptor}
 use Rattle.pv_value.specs.declared.descriptor.JType.TheVariants.{Z, B, C, S, I, J, F, D, A}
 use Rattle.pv_value.specs.Descriptors.{IsLetter, IsFieldType, IsMethodType}
-use Rattle.pv_value.specs.Once.{field_type_once, method_type_once}
+use Rattle.pv_value.proofs.Once.{field_type_once, method_type_once}
 use Rattle.pv_pool.specs.declared.entry.Entry.{Entry}
 use Rattle.pv_pool.specs.declared.constant.Constant.{Constant}
 use Rattle.pv_pool.specs.declared.constant.Constant.TheVariants as constant

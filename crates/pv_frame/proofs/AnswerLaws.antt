@@ -6,7 +6,7 @@ use Rattle.std.specs.List.{AllZip}
 use Rattle.std.proofs.lemmas.Slice.Zip.{AllZip-long}
 use Rattle.pv_value.specs.declared.descriptor.Descriptor.{Descriptor}
 use Rattle.pv_value.specs.Descriptors.{IsMethodType}
-use Rattle.pv_value.specs.Once.{method_type_once}
+use Rattle.pv_value.proofs.Once.{method_type_once}
 use Rattle.pv_pool.specs.declared.entry.Entry.{Entry}
 use Rattle.pv_class.specs.declared.file.ClassFile.{ClassFile}
 use Rattle.pv_class.specs.declared.file.Method.{Method}
@@ -236,7 +236,7 @@ module _ (file : ClassFile) (m : Method) (code : Code) (source : List ℕ) (d : 
           has = is.has;
           short = plain.short;
           few = let few_slots = plain.few in omega (arith, stack, locals);
-          typed = (t.frames, inferred.agrees);
+          typed = (t.frames, inferred.well_typed.agrees);
         };
         code = code;
         has = is.has;

@@ -258,9 +258,11 @@ next_waits p frames work k i = record {
 -- no place waits
 pub inferred : (p : Program) (frames : List (Option Frame)) (work : List ℕ) → length work ≡ 0 → Inferring p frames work → IsInferred p frames
 inferred p frames work none i = record {
-  agrees = record { passed = i.passed; entry = i.entry; each = λ k f at. elim (i.settled k f at) [ inl (x, within, is) ↦ absurd (omega arith) | inr typed ↦ typed ] };
-  one_each = i.one_each;
-  reached = i.reached;
+  well_typed = record {
+    agrees = record { passed = i.passed; entry = i.entry; each = λ k f at. elim (i.settled k f at) [ inl (x, within, is) ↦ absurd (omega arith) | inr typed ↦ typed ] };
+    one_each = i.one_each;
+    reached = i.reached;
+  };
   fewest = λ others agrees k f g at there. let up = i.fewest others agrees k f at in subst (Flows f) (some_of up.target g (some_of _ _ (sym up.there ∙ there))) up.flows;
 }
 

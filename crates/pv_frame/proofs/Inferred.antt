@@ -85,12 +85,12 @@ module _ (p : Program) (a b : List (Option Frame)) (ia : IsInferred p a) (ib : I
 
   same_at : (k : ℕ) (x y : Option (Option Frame)) → Same k x y
   same_at k None None d e = refl
-  same_at k None (Some y) d e = absurd (past a b k y (ia.one_each ∙ sym ib.one_each) d e)
-  same_at k (Some x) None d e = absurd (past b a k x (ib.one_each ∙ sym ia.one_each) e d)
+  same_at k None (Some y) d e = absurd (past a b k y (ia.well_typed.one_each ∙ sym ib.well_typed.one_each) d e)
+  same_at k (Some x) None d e = absurd (past b a k x (ib.well_typed.one_each ∙ sym ia.well_typed.one_each) e d)
   same_at k (Some None) (Some None) d e = refl
-  same_at k (Some (Some f)) (Some None) d e = let g = reached_frame p b ib.agrees k (ia.reached k f d) in some_none g.0 (sym g.1 ∙ e)
-  same_at k (Some None) (Some (Some g)) d e = let f = reached_frame p a ia.agrees k (ib.reached k g e) in some_none f.0 (sym f.1 ∙ d)
-  same_at k (Some (Some f)) (Some (Some g)) d e = ap (λ (x : Frame). Some (Some x)) (flows_both f g (ia.fewest b ib.agrees k f g d e) (ib.fewest a ia.agrees k g f e d))
+  same_at k (Some (Some f)) (Some None) d e = let g = reached_frame p b ib.well_typed.agrees k (ia.well_typed.reached k f d) in some_none g.0 (sym g.1 ∙ e)
+  same_at k (Some None) (Some (Some g)) d e = let f = reached_frame p a ia.well_typed.agrees k (ib.well_typed.reached k g e) in some_none f.0 (sym f.1 ∙ d)
+  same_at k (Some (Some f)) (Some (Some g)) d e = ap (λ (x : Frame). Some (Some x)) (flows_both f g (ia.fewest b ib.well_typed.agrees k f g d e) (ib.fewest a ia.well_typed.agrees k g f e d))
 
   pub inferred_once : a ≡ b
   inferred_once = same_lists a b (λ k. same_at k (slice_get a k) (slice_get b k) refl refl)

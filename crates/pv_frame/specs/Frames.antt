@@ -132,9 +132,13 @@ pub data Reached (p : Program) : ℕ → Type 0 where
   first : Reached p 0
   next : (k j : ℕ) (a : Action) → Reached p k → IsAt p k a → Contains (successors k a) j → Reached p j
 
--- of all frames that agree these have the fewest unknown locals, and there is one exactly where the instruction is reached
-pub record IsInferred (p : Program) (frames : List (Option Frame)) : Type 0 where
+-- frames that agree, of which there is one exactly where the instruction is reached
+pub record AreFrames (p : Program) (frames : List (Option Frame)) : Type 0 where
   pub agrees : Agrees p frames
   pub one_each : length frames ≡ length p.actions
   pub reached : (k : ℕ) (f : Frame) → IsFrameAt frames k f → Reached p k
+
+-- of all frames that agree these have the fewest unknown locals
+pub record IsInferred (p : Program) (frames : List (Option Frame)) : Type 0 where
+  pub well_typed : AreFrames p frames
   pub fewest : (others : List (Option Frame)) → Agrees p others → (k : ℕ) (f g : Frame) → IsFrameAt frames k f → IsFrameAt others k g → Flows f g

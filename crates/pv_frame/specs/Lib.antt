@@ -1,3 +1,4 @@
+-- what public contracts and laws say
 pub mod Actions
 pub mod Stacks
 pub mod Effects
@@ -5,6 +6,8 @@ pub mod Programs
 pub mod Frames
 pub mod Causes
 pub mod Answers
+
+-- the vocabulary of private functions
 pub mod Acting
 pub mod Inferring
 pub mod Stops

@@ -6,7 +6,7 @@ use Rattle.std.proofs.lemmas.Option.{slice_get_within}
 use Rattle.pv_graph.specs.declared.node.Op.{Op}
 use Rattle.pv_graph.specs.declared.node.OpSort.{OpSort}
 use Rattle.pv_graph.specs.declared.node.Node.{Node}
-use Rattle.pv_graph.specs.Elements.{get_front, get_last, push_cases}
+use Rattle.pv_graph.proofs.Elements.{get_front, get_last, push_cases}
 use Rattle.pv_graph.specs.Nodes.{IsOpen, IsFirst, IsAbsent}
 use Rattle.pv_graph.specs.Ops.{HaveSorts, HasSort}
 use Rattle.pv_graph.specs.Walks.{In}

@@ -16,7 +16,7 @@ use Rattle.pv_graph.specs.declared.node.OpSort.TheVariants.{I, L, A, N, F, T, H,
 use Rattle.pv_graph.specs.declared.node.Node.{Node}
 use Rattle.pv_graph.specs.declared.reach.Use.{Use}
 use Rattle.pv_graph.specs.declared.reach.Look.TheVariants as look
-use Rattle.pv_graph.specs.Elements.{found, push_cases, get_front, get_last}
+use Rattle.pv_graph.proofs.Elements.{found, push_cases, get_front, get_last}
 use Rattle.pv_graph.specs.Ops.{shape, same_sort, word_sort, kind_sort, field_sort, call_sorts, param_sort, exactly, CallSorts, sort_over, HaveSorts, HasSort}
 use Rattle.pv_graph.specs.SortCode.{own_sort, is_source}
 use Rattle.pv_graph.specs.Walks.{In, move_to}

@@ -7,7 +7,7 @@ use Rattle.pv_graph.specs.declared.node.Op.TheVariants as op
 use Rattle.pv_graph.specs.Ops.{HaveSorts}
 use Rattle.pv_graph.specs.declared.node.OpSort.{OpSort}
 use Rattle.pv_graph.specs.declared.node.Node.{Node}
-use Rattle.pv_graph.specs.Elements.{get_front, push_cases, found}
+use Rattle.pv_graph.proofs.Elements.{get_front, push_cases, found}
 use Rattle.pv_graph.specs.Walks.{In, Move, Edge, Walk, stop, step, KeepsRule}
 use Rattle.pv_graph.specs.Graphs.{Graph, form_of, form_at, IsGraph, IsWellMade, Extends}
 use Rattle.pv_graph.specs.Nodes.{node_of}

@@ -9,7 +9,7 @@ use Rattle.pv_graph.specs.declared.prepared.Prepared.{Prepared}
 use Rattle.pv_graph.specs.Nodes.{node_of, IsOpen, IsFirst, IsAbsent}
 use Rattle.pv_graph.specs.Ops.{sort_over, HaveSorts, HasSort}
 use Rattle.pv_graph.specs.Graphs.{Graph, IsRanged, IsGraph}
-use Rattle.pv_graph.specs.Elements.{found}
+use Rattle.pv_graph.proofs.Elements.{found}
 use Rattle.pv_graph.specs.Calls.{MayAdd, FitsOver, Added, appended}
 use Rattle.pv_graph.specs.Index.{Numbers, number_in, Renumbers, IsIndex}
 use Rattle.pv_graph.specs.Kept.{graph_of, IsKept}

@@ -1,3 +1,4 @@
+pub mod Elements
 pub mod Sorting
 pub mod Bisimulations
 pub mod NodeLaws

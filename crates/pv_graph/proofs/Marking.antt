@@ -10,7 +10,7 @@ use Rattle.pv_graph.specs.declared.node.Node.{Node}
 use Rattle.pv_graph.specs.declared.reach.Use.{Use}
 use Rattle.pv_graph.specs.declared.reach.Look.{Look}
 use Rattle.pv_graph.specs.declared.reach.Look.TheVariants as look
-use Rattle.pv_graph.specs.Elements.{found, push_cases, get_front, get_last}
+use Rattle.pv_graph.proofs.Elements.{found, push_cases, get_front, get_last}
 use Rattle.pv_graph.specs.Ops.{theta, eval, shape, may_not_end, is_depth, alike, sort_over}
 use Rattle.pv_graph.specs.declared.node.OpSort.{OpSort}
 use Rattle.std.specs.declared.alloc.Global.{Global}

@@ -9,7 +9,7 @@ use Rattle.pv_graph.specs.declared.node.OpSort.{OpSort}
 use Rattle.pv_graph.specs.declared.node.Node.{Node}
 use Rattle.pv_graph.specs.Ops.{sort_over, HasSort}
 use Rattle.pv_graph.specs.Forms.{Form, form}
-use Rattle.pv_graph.specs.Elements.{found}
+use Rattle.pv_graph.proofs.Elements.{found}
 use Rattle.pv_graph.specs.Unfold.{over, trees_of, tree_at, unfold_at}
 use Rattle.pv_graph.specs.Walks.{In}
 use Rattle.pv_graph.specs.Graphs.{Graph, form_of, form_at, IsUnfinished, IsRanged, IsGraph, Extends}

@@ -7,7 +7,7 @@ use Rattle.std.proofs.lemmas.List.{take_more, length-take-le}
 use Rattle.pv_graph.specs.declared.node.Node.{Node}
 use Rattle.pv_graph.specs.declared.reach.Use.{Use}
 use Rattle.pv_graph.specs.declared.reach.Look.{Look}
-use Rattle.pv_graph.specs.Elements.{push_cases, get_front, get_last}
+use Rattle.pv_graph.proofs.Elements.{push_cases, get_front, get_last}
 use Rattle.pv_graph.specs.Walks.{In}
 use Rattle.pv_graph.specs.Reach.{follows, Uses, IsUse, Grows, IsMarked, AreStarts, Passes, unmarked, Spreads, Hits, begin, along, AreReached, AreUses}
 use Rattle.pv_graph.proofs.Tying.{set_same, set_other, set_length, equal_or_not}

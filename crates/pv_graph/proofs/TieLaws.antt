@@ -3,7 +3,7 @@ use Rattle.std.specs.Prelude.{◌≡◌, ◌≢◌, ℕ, ◌<◌, List, [], ◌�
 use Rattle.std.specs.List.{AllZip}
 use Rattle.std.proofs.Common.{inl, inr, sym, ap, ◌∙◌, subst}
 use Rattle.pv_graph.specs.declared.node.Op.TheVariants as op
-use Rattle.pv_graph.specs.Elements.{found}
+use Rattle.pv_graph.proofs.Elements.{found}
 use Rattle.pv_graph.specs.Nodes.{node_of}
 use Rattle.pv_graph.specs.Forms.{Form}
 use Rattle.pv_graph.specs.Walks.{In, Reaches, itself, along}

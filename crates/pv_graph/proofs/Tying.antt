@@ -9,7 +9,7 @@ use Rattle.pv_graph.specs.declared.node.Node.{Node}
 use Rattle.pv_graph.specs.declared.node.OpSort.{OpSort}
 use Rattle.pv_graph.specs.declared.node.OpSort.TheVariants.{I, L, A, N, F, T, H, R}
 use Rattle.pv_graph.specs.declared.prepared.Prepared.{Prepared}
-use Rattle.pv_graph.specs.Elements.{found}
+use Rattle.pv_graph.proofs.Elements.{found}
 use Rattle.pv_graph.specs.Nodes.{node_of, AreTied, IsOpen, IsFirst, IsAbsent}
 use Rattle.pv_graph.specs.Ops.{is_depth, alike, sort_over, HasSort}
 use Rattle.pv_graph.specs.Walks.{In}

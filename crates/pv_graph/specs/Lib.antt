@@ -1,3 +1,4 @@
+-- what public contracts and laws say
 pub mod Nodes
 pub mod Ops
 pub mod Forms
@@ -5,7 +6,6 @@ pub mod Unfold
 pub mod Finite
 pub mod Walks
 pub mod Graphs
-pub mod Elements
 pub mod Calls
 pub mod Partition
 pub mod Laws
@@ -13,4 +13,6 @@ pub mod SortCode
 pub mod Index
 pub mod Kept
 pub mod Reach
+
+-- the vocabulary of private functions
 pub mod Base

@@ -1,3 +1,4 @@
+-- what public contracts and laws say
 pub mod Shapes
 pub mod Steps
 pub mod Loops

@@ -21,7 +21,7 @@ use Rattle.pv_value.specs.Operations as operation
 use Rattle.pv_value.specs.Heaps.{read}
 use Rattle.pv_value.specs.Descriptors.{IsMethodType}
 use Rattle.pv_value.specs.Inputs.{IsOfResult}
-use Rattle.pv_value.specs.Once.{method_type_once}
+use Rattle.pv_value.proofs.Once.{method_type_once}
 use Rattle.pv_value.specs.Worlds.{IsWorld, reply}
 use Rattle.pv_value.specs.Narrowing.{shown, element_type, static_place, field_place}
 use Rattle.pv_insn.specs.declared.insn.Case.{Case}

@@ -1,3 +1,4 @@
+-- what public contracts and laws say
 pub mod Patterns
 pub mod Numbers
 pub mod Instances

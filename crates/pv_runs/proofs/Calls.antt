@@ -15,7 +15,7 @@ use Rattle.pv_value.specs.declared.outcome.Outcome.TheVariants.{Returned, Threw}
 use Rattle.pv_value.specs.declared.outcome.Val.{Val}
 use Rattle.pv_value.specs.declared.outcome.Val.TheVariants as val
 use Rattle.pv_value.specs.Spelled.{bind, method_type}
-use Rattle.pv_value.specs.Once.{method_type_once}
+use Rattle.pv_value.proofs.Once.{method_type_once}
 use Rattle.pv_value.specs.Descriptors.{IsMethodType}
 use Rattle.pv_value.specs.Inputs.{IsOfResult}
 use Rattle.pv_value.specs.Worlds as worlds

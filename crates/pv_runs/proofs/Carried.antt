@@ -16,7 +16,7 @@ use Rattle.pv_frame.specs.declared.program.Program.{Program}
 use Rattle.pv_frame.specs.declared.frame.Frame.{Frame}
 use Rattle.pv_frame.specs.Stacks.{Taken}
 use Rattle.pv_frame.specs.Programs.{IsAt}
-use Rattle.pv_frame.specs.Frames.{IsFrameAt, GoesOn, IsInferred}
+use Rattle.pv_frame.specs.Frames.{IsFrameAt, GoesOn, AreFrames}
 use Rattle.pv_frame.specs.Frames as frames-of
 use Rattle.pv_frame.proofs.FrameLaws.{some_of}
 use Rattle.pv_machine.specs.Machine as machine
@@ -116,7 +116,7 @@ chooses_numbered w x σ blocks (flows.Test t f c) e (u, is, inr (n, h)) = (u, is
 
 -- ---- what a block does
 
-module _ (p : Program) (clean : IsCleanProgram p) (w : World) (world : IsWorld w) (x : Input) (frames : List (Option Frame)) (inferred : IsInferred p frames) (blocks : List Block) (flow : IsFlow p blocks) (forest : Forest) where
+module _ (p : Program) (clean : IsCleanProgram p) (w : World) (world : IsWorld w) (x : Input) (frames : List (Option Frame)) (well_typed : AreFrames p frames) (blocks : List Block) (flow : IsFlow p blocks) (forest : Forest) where
   abbrev f : Flow
   f = flow_of p frames blocks forest
 
@@ -131,7 +131,7 @@ module _ (p : Program) (clean : IsCleanProgram p) (w : World) (world : IsWorld w
     idles : ((e : Exit) (u : Val) → InChain (f.chain b) e → PartIs w x σ (e.slots 0) u → ⊥) → ((o : Outcome) → MachineEnds (steps p w) s o → ⊥) → Does b σ s
 
   typed_after : (n : ℕ) (s t : State) → IsTypedState frames s → after (steps p w) n s ≡ Onward t → IsTypedState frames t
-  typed_after n s t h e = stays_typed frames p w s world (λ k a at. sound_of a (clean k a at)) inferred.agrees h n t (back_to p w _ _ (same_after p w n s) t e)
+  typed_after n s t h e = stays_typed frames p w s world (λ k a at. sound_of a (clean k a at)) well_typed.agrees h n t (back_to p w _ _ (same_after p w n s) t e)
 
   -- where a step leads back to the same state the machine doesn't end
   stays_on : (n : ℕ) (s : State) → steps p w s ≡ Onward s → after (steps p w) n s ≡ Onward s
@@ -142,8 +142,8 @@ module _ (p : Program) (clean : IsCleanProgram p) (w : World) (world : IsWorld w
   at_left σ m t g y e typed = record { here = e; typed = typed; token = left_token w x σ t g y; heap = left_heap w x σ t g y; locals = left_locals w x σ t g y; stack = left_stack w x σ t g y }
 
   -- a block with its chain
-  chained_at : (b : ℕ) (k : Block) → slice_get blocks b ≡ Some k → Chained p frames inferred clean k
-  chained_at b k at = chained p frames inferred clean blocks flow b k at
+  chained_at : (b : ℕ) (k : Block) → slice_get blocks b ≡ Some k → Chained p frames well_typed clean k
+  chained_at b k at = chained p frames well_typed clean blocks flow b k at
 
   chain_is : (b : ℕ) (k : Block) (at : slice_get blocks b ≡ Some k) → f.chain b ≡ numbered blocks (chained_at b k at).chain
   chain_is b k at = let y = chained_at b k at in chain_at p frames blocks b k y.chain at y.is
@@ -169,7 +169,7 @@ module _ (p : Program) (clean : IsCleanProgram p) (w : World) (world : IsWorld w
   comes_to : (m : ℕ) (τ : ℕ → Val) (t : State) → Begins p m → At frames m τ t → Here (number_at blocks m) τ t
   comes_to m τ t begins h =
       let there : IsFrameAt frames m h.typed.frame = subst (λ (j : ℕ). IsFrameAt frames j h.typed.frame) h.here h.typed.there in
-      let n = flow.all m begins (inferred.reached m h.typed.frame there) in
+      let n = flow.all m begins (well_typed.reached m h.typed.frame there) in
       let k = n.1 in
       subst (λ (i : ℕ). Here i τ t) (sym (number_is blocks flow.ascend n.0 m k)) (k.0, k.1, subst (λ (j : ℕ). At frames j τ t) (sym k.2) h)
 
@@ -194,7 +194,7 @@ module _ (p : Program) (clean : IsCleanProgram p) (w : World) (world : IsWorld w
 
   well_at : (t : State) → IsTypedState frames t → (a : Action) → IsAt p t.at a → EndsWell p a
   well_at t h a at =
-      let y = inferred.agrees.each t.at h.frame h.there in
+      let y = well_typed.agrees.each t.at h.frame h.there in
       subst (EndsWell p) (some_of _ _ (sym y.at ∙ at)) (ends_well t.at y.action h.frame y.goes)
 
   run_of : (b : ℕ) (σ : ℕ → Val) (s : State) (h : Here b σ s) → Run p clean w world x σ h.2.token s (chained_at b h.0 h.1).chain

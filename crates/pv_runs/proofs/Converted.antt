@@ -14,7 +14,7 @@ use Rattle.pv_class.specs.declared.file.Code.{Code}
 use Rattle.pv_insn.proofs.Formats.{IsBytes}
 use Rattle.pv_frame.specs.declared.program.Program.{Program}
 use Rattle.pv_frame.specs.declared.frame.Frame.{Frame}
-use Rattle.pv_frame.specs.Frames.{IsInferred}
+use Rattle.pv_frame.specs.Frames.{AreFrames}
 use Rattle.pv_frame.proofs.CauseLaws.{one_program}
 use Rattle.pv_machine.specs.Machine as machine
 use Rattle.pv_machine.specs.Machine.{State, start, IsProgram, RunEnds, Ends}
@@ -41,33 +41,33 @@ use Rattle.pv_runs.proofs.Clean.{program_clean}
 use Rattle.pv_runs.proofs.Starts.{entry_slots, entry_starts, entry_at}
 use Rattle.pv_runs.proofs.Carried.{same_after, ended_to, Here, Does, moves, stops, idles, does, arguments, carries}
 
-module _ (p : Program) (clean : IsCleanProgram p) (w : World) (world : IsWorld w) (x : Input) (frames : List (Option Frame)) (inferred : IsInferred p frames) (blocks : List Block) (flow : IsFlow p blocks) (forest : Forest) where
+module _ (p : Program) (clean : IsCleanProgram p) (w : World) (world : IsWorld w) (x : Input) (frames : List (Option Frame)) (well_typed : AreFrames p frames) (blocks : List Block) (flow : IsFlow p blocks) (forest : Forest) where
   abbrev f : Flow
   f = flow_of p frames blocks forest
 
   abbrev H : ℕ → (ℕ → Val) → State → Type 0
-  H b σ s = Here p clean w world x frames inferred blocks flow forest b σ s
+  H b σ s = Here p clean w world x frames well_typed blocks flow forest b σ s
 
   -- the slots with which the machine may be where a block begins
   abbrev pub Typed : ℕ → (ℕ → Val) → Type 0
   Typed b σ = (s : State) × H b σ s
 
   runnable : Runnable w x f Typed
-  runnable = record { args = λ b σ e c ps t i z. arguments p clean w world x frames inferred blocks flow forest b σ t.0 e c ps t.1 i z; moves = on; stays = stays }
+  runnable = record { args = λ b σ e c ps t i z. arguments p clean w world x frames well_typed blocks flow forest b σ t.0 e c ps t.1 i z; moves = on; stays = stays }
     where
       on : (b : ℕ) (σ : ℕ → Val) (e : Exit) (u : Val) → Typed b σ → InChain (f.chain b) e → PartIs w x σ (e.slots 0) u → (d : Exit) × (τ : ℕ → Val) × Steps w x f b σ d τ
-      on b σ e u t i h = go (does p clean w world x frames inferred blocks flow forest b σ t.0 t.1)
+      on b σ e u t i h = go (does p clean w world x frames well_typed blocks flow forest b σ t.0 t.1)
         where
-          go : Does p clean w world x frames inferred blocks flow forest b σ t.0 → (d : Exit) × (τ : ℕ → Val) × Steps w x f b σ d τ
+          go : Does p clean w world x frames well_typed blocks flow forest b σ t.0 → (d : Exit) × (τ : ℕ → Val) × Steps w x f b σ d τ
           go (moves c m ρ n s y q r there) = (c, ρ, y)
           go (stops c l ρ n o y q r out) = (c, ρ, y)
           go (idles none never) = absurd (none e u i h)
 
       stays : (b m : ℕ) (σ τ : ℕ → Val) (e : Exit) → Typed b σ → Steps w x f b σ e τ → e.dest ≡ To m → Typed m τ
-      stays b m σ τ e t st d = let r = (carries p clean w world x frames inferred blocks flow forest).goes_on b m σ τ e t.0 t.1 st d in (r.1, r.3)
+      stays b m σ τ e t st d = let r = (carries p clean w world x frames well_typed blocks flow forest).goes_on b m σ τ e t.0 t.1 st d in (r.1, r.3)
 
   finishes : Finishes w x f Typed
-  finishes = record { outcome = λ b σ τ e k t st d. let r = (carries p clean w world x frames inferred blocks flow forest).finishes b σ τ e k t.0 t.1 st d in (r.1, r.3) }
+  finishes = record { outcome = λ b σ τ e k t st d. let r = (carries p clean w world x frames well_typed blocks flow forest).finishes b σ τ e k t.0 t.1 st d in (r.1, r.3) }
 
   run_ends : (s : State) (o : Outcome) → MachineEnds (steps p w) s o ↔ ((n : ℕ) × (machine.after p w s n ≡ machine.ended o))
   run_ends s o = (
@@ -79,14 +79,14 @@ module _ (p : Program) (clean : IsCleanProgram p) (w : World) (world : IsWorld w
   starts_here : Fits p.desc x → H 0 (entry_slots p x) (start p x)
   starts_here fits =
       let b = entry_block p blocks flow in
-      (b.0, b.1, subst (λ (k : ℕ). At frames k (entry_slots p x) (start p x)) (sym b.2) (entry_at p frames inferred.agrees x fits))
+      (b.0, b.1, subst (λ (k : ℕ). At frames k (entry_slots p x) (start p x)) (sym b.2) (entry_at p frames well_typed.agrees x fits))
 
   pub runs_convert : IsRanked f (length blocks) → (v : Values) → AreEquations f v → (g : Graph) (r : ℕ) (d : Exp) → UnfoldsAs (form_at g.nodes) (form_of f v) r (root_of f v d)
       → Fits p.desc x → (i : Index) (o : Outcome) → Value g w x r i (val.End o) ↔ RunEnds p w x o
   runs_convert ranked v eqs g r d unfolds fits i o =
       let here = starts_here fits in
       let a = graph_machine g w x f v ranked.rank ranked.shape ranked.top ranked.below MAX_DEPTH ranked.deep eqs Typed runnable finishes d r unfolds State (steps p w) H
-      (carries p clean w world x frames inferred blocks flow forest) (start p x) (entry_slots p x) here (entry_starts p frames blocks forest w x) (start p x, here) i o in
+      (carries p clean w world x frames well_typed blocks flow forest) (start p x) (entry_slots p x) here (entry_starts p frames blocks forest w x) (start p x, here) i o in
       let b = run_ends (start p x) o in
       ((λ h. b.0 (a.0 h)), (λ h. a.1 (b.1 h)))
 
@@ -107,6 +107,6 @@ method_ends file m p is bytes w x o = (
 pub method_converts : MethodConverts
 method_converts file m p frames blocks forest shaped bytes v eqs g r d unfolds w x world fits i o =
     let ranked = method_ranked file m p frames blocks forest shaped in
-    let a = runs_convert p (program_clean file m p shaped.program) w world x frames shaped.inferred blocks shaped.flow forest ranked v eqs g r d unfolds fits i o in
-    let b = method_ends file m p (record { of_method = shaped.program; typed = (frames, shaped.inferred.agrees) }) bytes w x o in
+    let a = runs_convert p (program_clean file m p shaped.program) w world x frames shaped.well_typed blocks shaped.flow forest ranked v eqs g r d unfolds fits i o in
+    let b = method_ends file m p (record { of_method = shaped.program; typed = (frames, shaped.well_typed.agrees) }) bytes w x o in
     ((λ h. b.0 (a.0 h)), (λ h. a.1 (b.1 h)))

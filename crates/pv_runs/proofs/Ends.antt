@@ -19,7 +19,7 @@ use Rattle.pv_value.specs.declared.outcome.Fault.TheVariants as fault
 use Rattle.pv_value.specs.declared.outcome.Outcome.TheVariants.{Returned}
 use Rattle.pv_value.specs.declared.outcome.Val.{Val}
 use Rattle.pv_value.specs.declared.outcome.Val.TheVariants as val
-use Rattle.pv_value.specs.OperationLaws.{scalar_exact}
+use Rattle.pv_value.proofs.OperationLaws.{scalar_exact}
 use Rattle.pv_value.specs.Operations as operation
 use Rattle.pv_value.specs.Heaps.{read, written}
 use Rattle.pv_value.specs.Worlds as worlds

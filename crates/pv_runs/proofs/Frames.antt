@@ -14,7 +14,7 @@ use Rattle.pv_frame.specs.declared.program.Program.{Program}
 use Rattle.pv_frame.specs.declared.frame.Frame.{Frame}
 use Rattle.pv_frame.specs.Stacks.{is_wide, width, popped, moved, has_room, first_cleared, set_local}
 use Rattle.pv_frame.specs.Effects.{takes, gives, successors}
-use Rattle.pv_frame.specs.Frames.{same, holds, pushed, padded_sorts, passed_to, frame_done, frame_after, IsFrameAt, LeadsTo, IsEnd, Reached, first, next, IsInferred}
+use Rattle.pv_frame.specs.Frames.{same, holds, pushed, padded_sorts, passed_to, frame_done, frame_after, IsFrameAt, LeadsTo, IsEnd, Reached, first, next, AreFrames}
 use Rattle.pv_frame.proofs.FrameLaws.{some_of, no_some, if_some, framed}
 use Rattle.pv_frame.proofs.Lists.{contains_cases, contains_none}
 
@@ -72,7 +72,7 @@ narrower (s ∷ stack) = let rest = narrower stack in let all = sum_by-cons widt
   | false ↦ λ e. let one : width s ≡ 1 = ap (λ (b : _). if b then 2 else 1) e in omega (arith, rest, all, one)
 ] refl
 
-module _ (p : Program) (frames : List (Option Frame)) (is : IsInferred p frames) where
+module _ (p : Program) (frames : List (Option Frame)) (is : AreFrames p frames) where
   -- the frame where an instruction is reached
   record Long (k : ℕ) : Type 0 where
     frame : Frame

@@ -8,7 +8,7 @@ use Rattle.pv_frame.specs.declared.sort.Sort.{Sort}
 use Rattle.pv_frame.specs.declared.action.Action.{Action}
 use Rattle.pv_frame.specs.declared.program.Program.{Program}
 use Rattle.pv_frame.specs.declared.frame.Frame.{Frame}
-use Rattle.pv_frame.specs.Frames.{IsFrameAt, IsInferred}
+use Rattle.pv_frame.specs.Frames.{IsFrameAt, AreFrames}
 use Rattle.pv_frame.proofs.FrameLaws.{some_of, no_some}
 use Rattle.pv_frame.proofs.Lists.{contains_cases, contains_none}
 use Rattle.pv_flow.specs.declared.block.Block.{Block}
@@ -95,7 +95,7 @@ departs_slot : (a : Action) (h : Held) (cells : List Cell) (place s : ℕ) (e : 
 departs_slot a h cells place s e q was now (g, is, inl same) = ap (λ (e : Exit). e.slots s) is ∙ ap (λ (g : Held). slots_of g s) same ∙ was
 departs_slot a h cells place s e q was now (g, is, inr on) = ap (λ (e : Exit). e.slots s) is ∙ now g on
 
-module _ (p : Program) (frames : List (Option Frame)) (blocks : List Block) (inferred : IsInferred p frames) (is : IsFlow p blocks) where
+module _ (p : Program) (frames : List (Option Frame)) (blocks : List Block) (well_typed : AreFrames p frames) (is : IsFlow p blocks) where
   -- the slot, which isn't always carried, has its own value at the beginning of a block
   record Starts (h : Held) (s : ℕ) : Type 0 where
     tracked : Local s
@@ -109,7 +109,7 @@ module _ (p : Program) (frames : List (Option Frame)) (blocks : List Block) (inf
         | inr at_local ↦ subst (Starts (held_at f.0)) (sym at_local.2) (record {
           tracked = local at_local.0;
           own = turns_local (local_part (local_cells 0 f.0.locals)) (stack_part (stack_cells f.0.stack)) at_local.0
-              ∙ local_at f.0.locals 0 at_local.0 at_local.0 (let long = frame_long p frames inferred b.first f.0 f.1 in let lt = at_local.1 in omega (arith, long, lt)) (omega arith);
+              ∙ local_at f.0.locals 0 at_local.0 at_local.0 (let long = frame_long p frames well_typed b.first f.0 f.1 in let lt = at_local.1 in omega (arith, long, lt)) (omega arith);
         })
       ])
 

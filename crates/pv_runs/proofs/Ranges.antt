@@ -18,7 +18,7 @@ use Rattle.pv_value.specs.declared.operation.ScalarOp.{ScalarOp}
 use Rattle.pv_value.specs.declared.operation.ScalarOp.TheVariants.{Iand}
 use Rattle.pv_value.specs.declared.world.World.{World}
 use Rattle.pv_value.specs.Operations as operation
-use Rattle.pv_value.specs.OperationLaws.{scalar_fits, scalar_exact}
+use Rattle.pv_value.proofs.OperationLaws.{scalar_fits, scalar_exact}
 use Rattle.pv_value.specs.Narrowing.{narrowed, shown}
 use Rattle.pv_value.specs.Inputs.{IsOfType, IsOfSort}
 use Rattle.pv_value.specs.Numbers.{IsNum}

@@ -8,7 +8,7 @@ use Rattle.pv_class.specs.declared.file.ClassFile.{ClassFile}
 use Rattle.pv_class.specs.declared.file.Method.{Method}
 use Rattle.pv_frame.specs.declared.program.Program.{Program}
 use Rattle.pv_frame.specs.declared.frame.Frame.{Frame}
-use Rattle.pv_frame.specs.Frames.{IsInferred}
+use Rattle.pv_frame.specs.Frames.{AreFrames}
 use Rattle.pv_flow.specs.declared.block.Block.{Block}
 use Rattle.pv_flow.specs.Blocks.{IsFlow}
 use Rattle.pv_flow.specs.Edges.{targets_of, edges_of}
@@ -43,13 +43,13 @@ numbered_below : (n : ℕ) (blocks : List Block) (c : Chain) → ChainBelow n c 
 numbered_below n blocks (flow.Leave e) b = b
 numbered_below n blocks (flow.Test t e c) b = (b.0, b.1, numbered_below n blocks c b.2)
 
-module _ (p : Program) (frames : List (Option Frame)) (blocks : List Block) (inferred : IsInferred p frames) (is : IsFlow p blocks) where
+module _ (p : Program) (frames : List (Option Frame)) (blocks : List Block) (well_typed : AreFrames p frames) (is : IsFlow p blocks) where
   block_below : (b : Block) (c : Chain) → place_chain p frames b ≡ Some c → ChainBelow (slot_count p) c
   block_below b c e =
       let h = has_chain p frames b c e in
       let f = first_frame frames b h.start h.begins in
-      let long = frame_long p frames inferred b.first f.0 f.1 in
-      let room = frame_room p frames inferred b.first f.0 f.1 in
+      let long = frame_long p frames well_typed b.first f.0 f.1 in
+      let room = frame_room p frames well_typed b.first f.0 f.1 in
       let start = subst (HeldBelow (slot_count p)) f.2 (start_below (slot_count p) f.0 (omega (arith, long)) (omega (arith, room))) in
       let last = along_below (slot_count p) p (b.last - b.first) b.first h.start h.last (omega arith) start h.along in
       chain_below (slot_count p) p.desc.result b.last h.action h.last c (omega arith) last h.is
@@ -88,7 +88,7 @@ module _ (p : Program) (frames : List (Option Frame)) (blocks : List Block) (inf
       tokens = λ b e i. exit_token p frames blocks b e i;
       carries = λ h. refl;
       starts_unit = refl;
-      keeps = λ b m h s G B e. exit_keeps p frames blocks inferred is forest loops b m h s G B e;
+      keeps = λ b m h s G B e. exit_keeps p frames blocks well_typed is forest loops b m h s G B e;
     }
 
     compact : Compact F rank
@@ -106,16 +106,16 @@ module _ (p : Program) (frames : List (Option Frame)) (blocks : List Block) (inf
 -- THE FLOW OF A METHOD IS RANKED
 pub method_ranked : (file : ClassFile) (m : Method) (p : Program) (frames : List (Option Frame)) (blocks : List Block) (forest : Forest) → IsShaped file m p frames blocks forest → IsRanked (flow_of p frames blocks forest) (length blocks)
 method_ranked file m p frames blocks forest is =
-    let chains = typed_chain p frames is.inferred (program_clean file m p is.program) blocks is.flow in
+    let chains = typed_chain p frames is.well_typed (program_clean file m p is.program) blocks is.flow in
     let edges : IsShape (edges_of blocks) = record { entry = subst (λ (n : ℕ). 0 < n) (sym (length-map blocks (λ (b : Block). targets_of b.exits))) (let b = entry_block p blocks is.flow in slice_get_within blocks 0 b.0 b.1); within = λ a b e. subst (λ (n : ℕ). b < n) (sym (length-map blocks (λ (b : Block). targets_of b.exits))) (edges_within p blocks is.flow a b e).1 } in
     let r = ranking (edges_of blocks) forest edges is.reducible is.shallow is.loops in
     record {
       rank = r.0;
       top = r.1;
       slots = slot_count p;
-      shape = shape p frames blocks is.inferred is.flow chains forest is.loops r.0 r.3;
-      compact = compact p frames blocks is.inferred is.flow chains forest is.loops r.0 r.3;
+      shape = shape p frames blocks is.well_typed is.flow chains forest is.loops r.0 r.3;
+      compact = compact p frames blocks is.well_typed is.flow chains forest is.loops r.0 r.3;
       below = r.2;
       deep = r.4;
-      finite = finite p frames blocks is.inferred is.flow chains forest is.loops r.0 r.3;
+      finite = finite p frames blocks is.well_typed is.flow chains forest is.loops r.0 r.3;
     }

@@ -1,4 +1,4 @@
--- In inferred frames each block of a program has its chain, where divisions have two operands, as those of a method's program do.
+-- In well_typed frames each block of a program has its chain, where divisions have two operands, as those of a method's program do.
 use Rattle.std.proofs.Common.{◌≡◌, ℕ, zero, suc, ◌+◌, ◌-◌, ◌≤◌, Bool, true, false, List, [], ◌∷◌, Option, Some, None, refl, ap, sym, subst, ◌∙◌, inl, inr, arith, if◌then◌else◌}
 use Rattle.std.specs.Prelude.{map, option_map, slice_get, slice_set, Contains}
 use Rattle.std.specs.List.{AllByRecursion}
@@ -15,7 +15,7 @@ use Rattle.pv_frame.specs.declared.frame.Frame.{Frame}
 use Rattle.pv_frame.specs.Programs.{IsAt}
 use Rattle.pv_frame.specs.Stacks.{Taken, popped, moved, has_room, set_local}
 use Rattle.pv_frame.specs.Effects.{sort_of_word, sorts_of_result, test_takes, takes, successors}
-use Rattle.pv_frame.specs.Frames.{same, holds, frame_done, frame_after, Flows, IsFrameAt, LeadsTo, IsEnd, Finds, GoesOn, Reached, IsInferred}
+use Rattle.pv_frame.specs.Frames.{same, holds, frame_done, frame_after, Flows, IsFrameAt, LeadsTo, IsEnd, Finds, GoesOn, Reached, AreFrames}
 use Rattle.pv_frame.specs.Frames as frame
 use Rattle.pv_frame.proofs.FrameLaws.{some_of, no_some, if_some, fits_same, popped_sorts, flows_flows, goes_from}
 use Rattle.pv_frame.proofs.StackLaws.{by_sorts, popped_map, moved_map, has_room_map, set_local_map}
@@ -278,7 +278,7 @@ ends_none p k a false at none e = e
 held_flows : (f : Frame) → Flows (sorts_held (held_at f)) f
 held_flows f = subst (λ (g : Frame). Flows g f) (sym (held_sorts f)) (flows_itself f)
 
-module _ (p : Program) (frames : List (Option Frame)) (inferred : IsInferred p frames) (clean : (k : ℕ) (a : Action) → IsAt p k a → IsClean a) where
+module _ (p : Program) (frames : List (Option Frame)) (well_typed : AreFrames p frames) (clean : (k : ℕ) (a : Action) → IsAt p k a → IsClean a) where
   -- what is held before the instruction at a place has the sorts of its frame
   pub record HeldAt (k : ℕ) (h : Held) : Type 0 where
     pub frame : Frame
@@ -296,7 +296,7 @@ module _ (p : Program) (frames : List (Option Frame)) (inferred : IsInferred p f
 
   next_of : (k : ℕ) (h : Held) → HeldAt k h → (Begins p (suc k) → ⊥) → GoesToNext k h
   next_of k h t none =
-      let y = inferred.agrees.each k t.frame t.there in
+      let y = well_typed.agrees.each k t.frame t.there in
       let ends = ends_none p k y.action (ends_block y.action) y.at none refl in
       elim y.goes [
         | inl l ↦ absurd (not_end p y.action ends l.0)
@@ -337,7 +337,7 @@ module _ (p : Program) (frames : List (Option Frame)) (inferred : IsInferred p f
 
   last_chain_is : (k : ℕ) (a : Action) (h : Held) → IsAt p k a → HeldAt k h → HasChain (chain_of p.desc.result k a h)
   last_chain_is k a h at t =
-      let y = inferred.agrees.each k t.frame t.there in
+      let y = well_typed.agrees.each k t.frame t.there in
       subst (λ (a : Action). HasChain (chain_of p.desc.result k a h)) (some_of _ _ (sym y.at ∙ at)) (elim y.goes [
         | inl l ↦ ends_chain p k y.action h l.0 (finds_held y.action h t.frame l.1 t.flows.stack)
         | inr on ↦
@@ -362,10 +362,10 @@ module _ (p : Program) (frames : List (Option Frame)) (inferred : IsInferred p f
 
   pub chained_at : (b : Block) → IsSpan p b.first b.last → Reached p b.first → Chained b
   chained_at b span reached =
-      let f = reached_frame p frames inferred.agrees b.first reached in
+      let f = reached_frame p frames well_typed.agrees b.first reached in
       let t : HeldAt b.first (held_at f.0) = record { frame = f.0; there = f.1; flows = held_flows f.0 } in
       let a = along b.first b.last span (b.last - b.first) b.first (held_at f.0) (omega arith) (let le = span.some in omega arith) t in
-      let y = inferred.agrees.each b.last a.typed.frame a.typed.there in
+      let y = well_typed.agrees.each b.last a.typed.frame a.typed.there in
       let c = last_chain_is b.last y.action a.held y.at a.typed in
       record {
         frame = f.0;
@@ -393,7 +393,7 @@ module _ (p : Program) (frames : List (Option Frame)) (inferred : IsInferred p f
   -- what is held after an action that goes on has the sorts of the frames to which it leads
   pub leads_typed : (k j : ℕ) (a : Action) (h g : Held) → IsAt p k a → HeldAt k h → acted a h ≡ Some g → Contains (successors k a) j → HeldAt j g
   leads_typed k j a h g at t is among =
-      let y = inferred.agrees.each k t.frame t.there in
+      let y = well_typed.agrees.each k t.frame t.there in
       let same_action : y.action ≡ a = some_of _ _ (sym y.at ∙ at) in
       let leads : Contains (successors k y.action) j = subst (λ (a : Action). Contains (successors k a) j) (sym same_action) among in
       elim y.goes [

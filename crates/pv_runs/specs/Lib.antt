@@ -1,3 +1,4 @@
+-- what public contracts and laws say
 pub mod Held
 pub mod Chains
 pub mod Blocks

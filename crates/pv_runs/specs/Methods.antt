@@ -2,7 +2,7 @@
 use Rattle.std.specs.Prelude.{List, Option}
 use Rattle.pv_frame.specs.declared.program.Program.{Program}
 use Rattle.pv_frame.specs.declared.frame.Frame.{Frame}
-use Rattle.pv_frame.specs.Frames.{IsInferred}
+use Rattle.pv_frame.specs.Frames.{AreFrames}
 use Rattle.pv_flow.specs.declared.block.Block.{Block}
 use Rattle.pv_flow.specs.Blocks.{IsFlow}
 use Rattle.pv_flow.specs.Edges.{edges_of}
@@ -30,11 +30,11 @@ flow_of p frames blocks forest = record {
   start_plain = start_plain p;
 }
 
--- a method with its program, the frames that are inferred, its blocks, and the forest of their edges, which are reducible, with loops that
--- nest at most 16 deep: what the layers below give for each method that isn't refused
+-- a method with its program, frames of it, its blocks, and the forest of their edges, which are reducible, with loops that nest at most 16
+-- deep: what the layers below give for each method that isn't refused
 pub record IsShaped (file : ClassFile) (m : Method) (p : Program) (frames : List (Option Frame)) (blocks : List Block) (forest : Forest) : Type 0 where
   pub program : IsProgramOf file m p
-  pub inferred : IsInferred p frames
+  pub well_typed : AreFrames p frames
   pub flow : IsFlow p blocks
   pub loops : IsForest (edges_of blocks) forest
   pub reducible : IsReducible (edges_of blocks)

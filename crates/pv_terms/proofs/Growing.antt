@@ -7,7 +7,7 @@ use Rattle.pv_graph.specs.declared.node.Op.TheVariants as op
 use Rattle.pv_graph.specs.declared.node.Node.{Node}
 use Rattle.pv_graph.specs.declared.node.OpSort.{OpSort}
 use Rattle.pv_graph.specs.declared.node.OpSort.TheVariants as sort
-use Rattle.pv_graph.specs.Elements.{found, push_cases}
+use Rattle.pv_graph.proofs.Elements.{found, push_cases}
 use Rattle.pv_graph.specs.Nodes.{node_of, IsAbsent}
 use Rattle.pv_graph.specs.Ops.{is_depth, sort_over, but_root, HaveSorts, HasSort}
 use Rattle.pv_graph.specs.Graphs.{Graph, IsGraph, IsUnfinished, Extends}

@@ -1,3 +1,4 @@
+-- what public contracts and laws say
 pub mod Reads
 pub mod Laws
 pub mod Terms

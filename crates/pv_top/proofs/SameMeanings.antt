@@ -9,7 +9,7 @@ use Rattle.pv_value.specs.declared.outcome.Val.TheVariants as val
 use Rattle.pv_value.specs.Descriptors.{IsMethodType}
 use Rattle.pv_value.specs.Worlds.{IsWorld}
 use Rattle.pv_value.specs.Inputs.{Fits}
-use Rattle.pv_value.specs.Once.{method_type_once}
+use Rattle.pv_value.proofs.Once.{method_type_once}
 use Rattle.pv_class.specs.declared.file.ClassFile.{ClassFile}
 use Rattle.pv_class.specs.declared.file.Method.{Method}
 use Rattle.pv_pool.proofs.Formats.{IsBytes}

@@ -1,3 +1,4 @@
+-- what public contracts and laws say
 pub mod Statuses
 pub mod Words
 pub mod Roots
@@ -7,6 +8,8 @@ pub mod Report
 pub mod Commands
 pub mod Judging
 pub mod Run
-pub mod Fetching
 pub mod Laws
+
+-- the vocabulary of private functions
+pub mod Fetching
 pub mod Partnering

@@ -1,3 +1,4 @@
+-- what public contracts and laws say
 pub mod Order
 pub mod HeapTables
 pub mod HeapOrder
@@ -5,12 +6,11 @@ pub mod CallOrder
 pub mod Heaps
 pub mod Numbers
 pub mod Descriptors
+pub mod Receivers
 pub mod Reading
 pub mod Spelled
-pub mod Once
 pub mod Inputs
 pub mod Worlds
 pub mod Narrowing
 pub mod Operations
-pub mod OperationLaws
 pub mod Laws

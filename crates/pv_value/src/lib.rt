@@ -17,6 +17,9 @@
 //!   doesn't grow with the text. The grammar sets no limit on the dimensions of an array or the
 //!   number of parameters: that is the caller's.
 //!
+//! - `Receivers`: the symbol under which a call on a receiver is looked up, and its type. `receiver_sym`
+//!   and `Descriptor::with_receiver` meet it.
+//!
 //! `laws` has the laws of these definitions as contracts. `Reading`, `HeapOrder` and `HeapTables`
 //! are for the proofs of this crate. The layers above see a name as its bytes, a list of numbers or
 //! types as a list, a heap as its map and a world as its tables.
@@ -33,6 +36,7 @@ mod narrowing;
 mod number;
 mod operation;
 mod outcome;
+mod receiver;
 mod tables;
 mod world;
 
@@ -43,5 +47,6 @@ pub use name::{Name, Sym};
 pub use number::{Num, Nums};
 pub use operation::{ScalarOp, scalar};
 pub use outcome::{Fault, Input, Outcome, Val};
+pub use receiver::{Form, MARK, receiver_sym};
 pub use tables::{Booleans, Homes, Lengths, Literals};
 pub use world::{Call, CallKey, Calls, World};

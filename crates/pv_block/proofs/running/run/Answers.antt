@@ -19,13 +19,13 @@ begin-requires-clause-sorted c = state_is_sorted c.args.g.now c.args.state c.req
 
 pub unreachable-requires : goal.unreachable-requires
 unreachable-requires c =
-    let w = whole c.args.typed.now.program c.args.typed.now.frames c.requires.inferred c.requires.plain c.args.block.now c.requires.span c.requires.reached in
-    let first = first_held c.args.typed.now.program c.args.typed.now.frames c.requires.inferred c.requires.plain c.args.block.now c.requires.span c.requires.reached c.args.g.now c.args.state c.begin.new.g.nodes c.in_ok-held.held w c.requires.state c.in_ok-held.ensures.holds in
-    let l = last_held c.args.typed.now.program c.args.typed.now.frames c.requires.inferred c.requires.plain c.args.block.now c.requires.span c.requires.reached c.args.g.now c.args.state c.begin.new.g.nodes c.along.new.g.nodes c.in_ok-held.held c.in_ok-held-2.field-0 w first c.in_ok-held-2.ensures.acts in
+    let w = whole c.args.typed.now.program c.args.typed.now.frames c.requires.well_typed c.requires.plain c.args.block.now c.requires.span c.requires.reached in
+    let first = first_held c.args.typed.now.program c.args.typed.now.frames c.requires.well_typed c.requires.plain c.args.block.now c.requires.span c.requires.reached c.args.g.now c.args.state c.begin.new.g.nodes c.in_ok-held.held w c.requires.state c.in_ok-held.ensures.holds in
+    let l = last_held c.args.typed.now.program c.args.typed.now.frames c.requires.well_typed c.requires.plain c.args.block.now c.requires.span c.requires.reached c.args.g.now c.args.state c.begin.new.g.nodes c.along.new.g.nodes c.in_ok-held.held c.in_ok-held-2.field-0 w first c.in_ok-held-2.ensures.acts in
     no_some l.0 (sym c.in_default.is ∙ l.1)
 
 pub unreachable-requires-in_default-get : goal.unreachable-requires-in_default-get
-unreachable-requires-in_default-get c = last_some c.args.typed.now.program c.args.typed.now.frames c.requires.inferred c.requires.plain c.args.block.now c.requires.span c.requires.reached (ap (λ (l : List Action). slice_get l c.args.block.now.last) (sym c.as_slice.ensures) ∙ slice_get_past c.as_slice.result.now c.args.block.now.last c.in_default-get.ensures.lookup.3)
+unreachable-requires-in_default-get c = last_some c.args.typed.now.program c.args.typed.now.frames c.requires.well_typed c.requires.plain c.args.block.now c.requires.span c.requires.reached (ap (λ (l : List Action). slice_get l c.args.block.now.last) (sym c.as_slice.ensures) ∙ slice_get_past c.as_slice.result.now c.args.block.now.last c.in_default-get.ensures.lookup.3)
 
 pub leave-requires-clause-plain : goal.leave-requires-clause-plain
 leave-requires-clause-plain c =
@@ -37,43 +37,43 @@ pub leave-requires-clause-gives : goal.leave-requires-clause-gives
 leave-requires-clause-gives c =
     let look = c.in-Some-get.ensures.lookup in
     let at : IsAt c.args.typed.now.program c.args.block.now.last c.in-Some-get.action.now = ap (λ (l : List Action). slice_get l c.args.block.now.last) (sym c.as_slice.ensures) ∙ slice_get_read c.as_slice.result.now _ c.args.block.now.last c.in-Some-get.action.now refl look.3.0 look.1 in
-    gives_result c.args.typed.now.program c.args.typed.now.frames c.requires.inferred c.requires.plain c.args.block.now c.requires.span c.requires.reached c.in-Some-get.action.now (whole c.args.typed.now.program c.args.typed.now.frames c.requires.inferred c.requires.plain c.args.block.now c.requires.span c.requires.reached) at
+    gives_result c.args.typed.now.program c.args.typed.now.frames c.requires.well_typed c.requires.plain c.args.block.now c.requires.span c.requires.reached c.in-Some-get.action.now (whole c.args.typed.now.program c.args.typed.now.frames c.requires.well_typed c.requires.plain c.args.block.now c.requires.span c.requires.reached) at
 
 pub unreachable-requires-in_default-2 : goal.unreachable-requires-in_default-2
 unreachable-requires-in_default-2 c =
-    let w = whole c.args.typed.now.program c.args.typed.now.frames c.requires.inferred c.requires.plain c.args.block.now c.requires.span c.requires.reached in
-    let first = first_held c.args.typed.now.program c.args.typed.now.frames c.requires.inferred c.requires.plain c.args.block.now c.requires.span c.requires.reached c.args.g.now c.args.state c.begin.new.g.nodes c.in_ok-held.held w c.requires.state c.in_ok-held.ensures.holds in
-    let l = last_held c.args.typed.now.program c.args.typed.now.frames c.requires.inferred c.requires.plain c.args.block.now c.requires.span c.requires.reached c.args.g.now c.args.state c.begin.new.g.nodes c.along.new.g.nodes c.in_ok-held.held c.in_ok-held-2.field-0 w first c.in_ok-held-2.ensures.acts in
+    let w = whole c.args.typed.now.program c.args.typed.now.frames c.requires.well_typed c.requires.plain c.args.block.now c.requires.span c.requires.reached in
+    let first = first_held c.args.typed.now.program c.args.typed.now.frames c.requires.well_typed c.requires.plain c.args.block.now c.requires.span c.requires.reached c.args.g.now c.args.state c.begin.new.g.nodes c.in_ok-held.held w c.requires.state c.in_ok-held.ensures.holds in
+    let l = last_held c.args.typed.now.program c.args.typed.now.frames c.requires.well_typed c.requires.plain c.args.block.now c.requires.span c.requires.reached c.args.g.now c.args.state c.begin.new.g.nodes c.along.new.g.nodes c.in_ok-held.held c.in_ok-held-2.field-0 w first c.in_ok-held-2.ensures.acts in
     let look = c.in-Some-get.ensures.lookup in
     let at : IsAt c.args.typed.now.program c.args.block.now.last c.in-Some-get.action.now = ap (λ (l : List Action). slice_get l c.args.block.now.last) (sym c.as_slice.ensures) ∙ slice_get_read c.as_slice.result.now _ c.args.block.now.last c.in-Some-get.action.now refl look.3.0 look.1 in
     let hold : HoldsFor (entry_of c.args.g.now c.args.state) c.along.new.g.nodes c.in-Some.held w.held = subst (λ (d : Held). HoldsFor (entry_of c.args.g.now c.args.state) c.along.new.g.nodes d w.held) (some_of _ _ (sym l.1 ∙ c.in-Some.is)) l.2 in
-    let r = left c.args.typed.now.program c.args.typed.now.frames c.requires.inferred c.requires.plain c.args.block.now c.requires.span c.requires.reached c.args.g.now c.args.state c.along.new.g.nodes c.leave.new.g.nodes c.in-Some.held c.in-Some-get.action.now c.in_ok-ran.field-0 w at hold c.in_ok-ran.ensures.stands in
+    let r = left c.args.typed.now.program c.args.typed.now.frames c.requires.well_typed c.requires.plain c.args.block.now c.requires.span c.requires.reached c.args.g.now c.args.state c.along.new.g.nodes c.leave.new.g.nodes c.in-Some.held c.in-Some-get.action.now c.in_ok-ran.field-0 w at hold c.in_ok-ran.ensures.stands in
     no_some r.0 (sym c.in_default-2.is ∙ r.1)
 
 pub returns-clause-stands : goal.returns-clause-stands
 returns-clause-stands c =
-    let w = whole c.args.typed.now.program c.args.typed.now.frames c.requires.inferred c.requires.plain c.args.block.now c.requires.span c.requires.reached in
-    let first = first_held c.args.typed.now.program c.args.typed.now.frames c.requires.inferred c.requires.plain c.args.block.now c.requires.span c.requires.reached c.args.g.now c.args.state c.begin.new.g.nodes c.in_ok-held.held w c.requires.state c.in_ok-held.ensures.holds in
-    let l = last_held c.args.typed.now.program c.args.typed.now.frames c.requires.inferred c.requires.plain c.args.block.now c.requires.span c.requires.reached c.args.g.now c.args.state c.begin.new.g.nodes c.along.new.g.nodes c.in_ok-held.held c.in_ok-held-2.field-0 w first c.in_ok-held-2.ensures.acts in
+    let w = whole c.args.typed.now.program c.args.typed.now.frames c.requires.well_typed c.requires.plain c.args.block.now c.requires.span c.requires.reached in
+    let first = first_held c.args.typed.now.program c.args.typed.now.frames c.requires.well_typed c.requires.plain c.args.block.now c.requires.span c.requires.reached c.args.g.now c.args.state c.begin.new.g.nodes c.in_ok-held.held w c.requires.state c.in_ok-held.ensures.holds in
+    let l = last_held c.args.typed.now.program c.args.typed.now.frames c.requires.well_typed c.requires.plain c.args.block.now c.requires.span c.requires.reached c.args.g.now c.args.state c.begin.new.g.nodes c.along.new.g.nodes c.in_ok-held.held c.in_ok-held-2.field-0 w first c.in_ok-held-2.ensures.acts in
     let look = c.in-Some-get.ensures.lookup in
     let at : IsAt c.args.typed.now.program c.args.block.now.last c.in-Some-get.action.now = ap (λ (l : List Action). slice_get l c.args.block.now.last) (sym c.as_slice.ensures) ∙ slice_get_read c.as_slice.result.now _ c.args.block.now.last c.in-Some-get.action.now refl look.3.0 look.1 in
     let hold : HoldsFor (entry_of c.args.g.now c.args.state) c.along.new.g.nodes c.in-Some.held w.held = subst (λ (d : Held). HoldsFor (entry_of c.args.g.now c.args.state) c.along.new.g.nodes d w.held) (some_of _ _ (sym l.1 ∙ c.in-Some.is)) l.2 in
-    let r = left c.args.typed.now.program c.args.typed.now.frames c.requires.inferred c.requires.plain c.args.block.now c.requires.span c.requires.reached c.args.g.now c.args.state c.along.new.g.nodes c.leave.new.g.nodes c.in-Some.held c.in-Some-get.action.now c.in_ok-ran.field-0 w at hold c.in_ok-ran.ensures.stands in
+    let r = left c.args.typed.now.program c.args.typed.now.frames c.requires.well_typed c.requires.plain c.args.block.now c.requires.span c.requires.reached c.args.g.now c.args.state c.along.new.g.nodes c.leave.new.g.nodes c.in-Some.held c.in-Some-get.action.now c.in_ok-ran.field-0 w at hold c.in_ok-ran.ensures.stands in
     let by : LeavesBy (entry_of c.args.g.now c.args.state) c.leave.new.g.nodes (acted c.in-Some-get.action.now w.held) c.in-Some-2.ran w.chain = subst (λ (ran : Ran). LeavesBy (entry_of c.args.g.now c.args.state) c.leave.new.g.nodes (acted c.in-Some-get.action.now w.held) ran w.chain) (some_of _ _ (sym r.1 ∙ c.in-Some-2.is)) r.2 in
-    runs_for c.args.typed.now.program c.args.typed.now.frames c.requires.inferred c.requires.plain c.args.block.now c.requires.span c.requires.reached c.args.g.now c.args.state c.leave.new.g.nodes c.in-Some-get.action.now c.in-Some-2.ran w by
+    runs_for c.args.typed.now.program c.args.typed.now.frames c.requires.well_typed c.requires.plain c.args.block.now c.requires.span c.requires.reached c.args.g.now c.args.state c.leave.new.g.nodes c.in-Some-get.action.now c.in-Some-2.ran w by
 
 pub returns-clause-sorted : goal.returns-clause-sorted
 returns-clause-sorted c =
-    let w = whole c.args.typed.now.program c.args.typed.now.frames c.requires.inferred c.requires.plain c.args.block.now c.requires.span c.requires.reached in
-    let first = first_held c.args.typed.now.program c.args.typed.now.frames c.requires.inferred c.requires.plain c.args.block.now c.requires.span c.requires.reached c.args.g.now c.args.state c.begin.new.g.nodes c.in_ok-held.held w c.requires.state c.in_ok-held.ensures.holds in
-    let l = last_held c.args.typed.now.program c.args.typed.now.frames c.requires.inferred c.requires.plain c.args.block.now c.requires.span c.requires.reached c.args.g.now c.args.state c.begin.new.g.nodes c.along.new.g.nodes c.in_ok-held.held c.in_ok-held-2.field-0 w first c.in_ok-held-2.ensures.acts in
+    let w = whole c.args.typed.now.program c.args.typed.now.frames c.requires.well_typed c.requires.plain c.args.block.now c.requires.span c.requires.reached in
+    let first = first_held c.args.typed.now.program c.args.typed.now.frames c.requires.well_typed c.requires.plain c.args.block.now c.requires.span c.requires.reached c.args.g.now c.args.state c.begin.new.g.nodes c.in_ok-held.held w c.requires.state c.in_ok-held.ensures.holds in
+    let l = last_held c.args.typed.now.program c.args.typed.now.frames c.requires.well_typed c.requires.plain c.args.block.now c.requires.span c.requires.reached c.args.g.now c.args.state c.begin.new.g.nodes c.along.new.g.nodes c.in_ok-held.held c.in_ok-held-2.field-0 w first c.in_ok-held-2.ensures.acts in
     let look = c.in-Some-get.ensures.lookup in
     let at : IsAt c.args.typed.now.program c.args.block.now.last c.in-Some-get.action.now = ap (λ (l : List Action). slice_get l c.args.block.now.last) (sym c.as_slice.ensures) ∙ slice_get_read c.as_slice.result.now _ c.args.block.now.last c.in-Some-get.action.now refl look.3.0 look.1 in
     let hold : HoldsFor (entry_of c.args.g.now c.args.state) c.along.new.g.nodes c.in-Some.held w.held = subst (λ (d : Held). HoldsFor (entry_of c.args.g.now c.args.state) c.along.new.g.nodes d w.held) (some_of _ _ (sym l.1 ∙ c.in-Some.is)) l.2 in
-    let r = left c.args.typed.now.program c.args.typed.now.frames c.requires.inferred c.requires.plain c.args.block.now c.requires.span c.requires.reached c.args.g.now c.args.state c.along.new.g.nodes c.leave.new.g.nodes c.in-Some.held c.in-Some-get.action.now c.in_ok-ran.field-0 w at hold c.in_ok-ran.ensures.stands in
+    let r = left c.args.typed.now.program c.args.typed.now.frames c.requires.well_typed c.requires.plain c.args.block.now c.requires.span c.requires.reached c.args.g.now c.args.state c.along.new.g.nodes c.leave.new.g.nodes c.in-Some.held c.in-Some-get.action.now c.in_ok-ran.field-0 w at hold c.in_ok-ran.ensures.stands in
     let by : LeavesBy (entry_of c.args.g.now c.args.state) c.leave.new.g.nodes (acted c.in-Some-get.action.now w.held) c.in-Some-2.ran w.chain = subst (λ (ran : Ran). LeavesBy (entry_of c.args.g.now c.args.state) c.leave.new.g.nodes (acted c.in-Some-get.action.now w.held) ran w.chain) (some_of _ _ (sym r.1 ∙ c.in-Some-2.is)) r.2 in
     let sorted = rw c.in-Some-2.is at c.in_ok-ran.ensures.sorted in
-    runs_sorted c.args.typed.now.program c.args.typed.now.frames c.requires.inferred c.requires.plain c.args.block.now c.requires.span c.requires.reached c.args.g.now c.args.state c.leave.new.g c.in-Some-get.action.now c.in-Some-2.ran w at by sorted
+    runs_sorted c.args.typed.now.program c.args.typed.now.frames c.requires.well_typed c.requires.plain c.args.block.now c.requires.span c.requires.reached c.args.g.now c.args.state c.leave.new.g c.in-Some-get.action.now c.in-Some-2.ran w at by sorted
 
 pub returns-clause-grows : goal.returns-clause-grows
 returns-clause-grows c = grows_then c.args.g.now c.along.new.g c.leave.new.g (grows_then c.args.g.now c.begin.new.g c.along.new.g c.in_ok-held.ensures.grows c.in_ok-held-2.ensures.grows) c.in_ok-ran.ensures.grows

@@ -7,8 +7,8 @@ use Rattle.pv_build.proofs.Turns.{block_low, next_block, done_same}
 use Rattle.pv_build.proofs.Blocks.{left_stage, left_done}
 use Rattle.pv_build.proofs.building.leave.Goals as goal
 
-pub run-requires-clause-inferred : goal.run-requires-clause-inferred
-run-requires-clause-inferred c = c.requires.method.routine.shaped.inferred
+pub run-requires-clause-well_typed : goal.run-requires-clause-well_typed
+run-requires-clause-well_typed c = c.requires.method.routine.shaped.well_typed
 
 pub run-requires-clause-plain : goal.run-requires-clause-plain
 run-requires-clause-plain c = are_plain c.requires.method.routine.file c.requires.method.routine.method c.args.method.now.typed.now.program c.requires.method.routine.shaped.program

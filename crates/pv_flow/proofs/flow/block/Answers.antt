@@ -6,7 +6,7 @@ use Rattle.pv_flow.proofs.flow.block.Goals as goal
 
 pub last_of-last-requires-clause-ends : goal.last_of-last-requires-clause-ends
 last_of-last-requires-clause-ends c =
-    has_last c.args.typed.now.program c.args.begins.now c.requires.begins c.args.typed.now.frames c.requires.inferred c.args.first c.requires.head
+    has_last c.args.typed.now.program c.args.begins.now c.requires.begins c.args.typed.now.frames c.requires.well_typed c.args.first c.requires.head
 
 pub bounds-as_slice-last : goal.bounds-as_slice-last
 bounds-as_slice-last c =
@@ -23,7 +23,7 @@ exits-requires-clause-within c =
     let within : last < length c.as_slice.result.now = omega (arith, ap length c.as_slice.ensures, last_within p c.args.begins.now c.requires.begins c.args.first last c.last_of-last.ensures) in
     let at = at_read p c.as_slice.result.now last c.index-as_slice-last.result c.as_slice.ensures within c.index-as_slice-last.is in
     goes_below (length c.args.numbers.now) last c.index-as_slice-last.result
-    (last_goes_below p c.args.begins.now c.requires.begins c.args.typed.now.frames c.requires.inferred (length c.args.numbers.now) c.args.first last c.index-as_slice-last.result c.requires.numbers c.requires.head c.last_of-last.ensures at)
+    (last_goes_below p c.args.begins.now c.requires.begins c.args.typed.now.frames c.requires.well_typed (length c.args.numbers.now) c.args.first last c.index-as_slice-last.result c.requires.numbers c.requires.head c.last_of-last.ensures at)
 
 pub returns : goal.returns
 returns c =

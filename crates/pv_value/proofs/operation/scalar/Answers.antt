@@ -1,7 +1,7 @@
 use Rattle.std.proofs.Common.{subst, sym, ◌∙◌, w64}
 use Rattle.std.proofs.lemmas.Int.{to_z-of_z}
 use Rattle.pv_value.specs.Operations.{gives, IsOfWord}
-use Rattle.pv_value.specs.OperationLaws.{scalar_fits}
+use Rattle.pv_value.proofs.OperationLaws.{scalar_fits}
 use Rattle.pv_value.proofs.operation.scalar.Goals as goal
 
 pub returns-clause-range : goal.returns-clause-range

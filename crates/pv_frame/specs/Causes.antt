@@ -18,6 +18,7 @@ use Rattle.pv_insn.specs.declared.fault.CodeFault.{CodeFault}
 use Rattle.pv_insn.specs.declared.fault.CodeFault.TheVariants as fault
 use Rattle.pv_insn.specs.Codes.{IsCode}
 use Rattle.pv_insn.specs.Faults.{IsBad}
+use Rattle.pv_frame.specs.declared.inference.TheConstants.{LONGEST_CODE, MOST_SLOTS}
 use Rattle.pv_frame.specs.declared.used.Use.{Use}
 use Rattle.pv_frame.specs.declared.used.Use.TheVariants as used
 use Rattle.pv_frame.specs.declared.cause.CauseKind.{CauseKind}
@@ -157,8 +158,8 @@ cause k at = record { kind = k; at = at }
 pub data Row (file : ClassFile) (m : Method) (code : Code) : ℕ → Cause → Type 0 where
   handler : code.handlers ≢ 0 → Row file m code 1 (cause kind.Handler 0)
   synchronized : ¬ IsUnsynchronized m.flags → Row file m code 2 (cause kind.Monitor 0)
-  long_code : 8192 < length code.bytes → Row file m code 3 (cause kind.LongCode 0)
-  slots : 64 < code.max_stack + code.max_locals → Row file m code 4 (cause kind.Slots 0)
+  long_code : LONGEST_CODE < length code.bytes → Row file m code 3 (cause kind.LongCode 0)
+  slots : MOST_SLOTS < code.max_stack + code.max_locals → Row file m code 4 (cause kind.Slots 0)
   float : (d : Descriptor) → IsMethodType m.desc d → ¬ IsFloatlessMethod d → Row file m code 5 (cause kind.Float 0)
   bad_code : (f : CodeFault) (at : ℕ) → IsBad code.bytes f → address_of f ≡ Some at → Row file m code 6 (cause kind.Code at)
   instruction : (k : CauseKind) (at : ℕ) → IsFirst file.pool code k at → Row file m code 7 (cause k at)
@@ -177,6 +178,6 @@ pub record IsAccepted (file : ClassFile) (m : Method) (p : Program) : Type 0 whe
   pub of_method : IsProgramOf file m p
   pub code : Code
   pub has : m.code ≡ Some code
-  pub short : length code.bytes ≤ 8192
-  pub few : p.max_stack + p.max_locals ≤ 64
+  pub short : length code.bytes ≤ LONGEST_CODE
+  pub few : p.max_stack + p.max_locals ≤ MOST_SLOTS
   pub typed : HasFrames p

@@ -13,10 +13,9 @@ use crate::report::{Fetched, judge};
 use crate::status::Status;
 use crate::words::{Command, read_words};
 use pv_base::{FileFault, Files, Gate, Sink};
+use pv_class::LONGEST_FILE;
 use std::alloc::Global;
 use std::thread::Threads;
-
-const MAX_CLASS: usize = 4194304;
 
 /// Does what the words of a command line say, and answers how that went.
 ///
@@ -82,7 +81,7 @@ fn fetched<F: Files>(alloc: Global, name: &str, files: &mut F) -> Result<Fetched
     ensures asked { Asks (F.asked files.old) (F.asked files.new) (Fetch name.now) result }
     ensures held { F.held files.new ≡ F.held files.old }
 {
-    match files.fetch(alloc, name, MAX_CLASS) {
+    match files.fetch(alloc, name, LONGEST_FILE) {
         Ok(bytes) => {
             law_bytes(&bytes);
             Ok(Fetched::Bytes(bytes))

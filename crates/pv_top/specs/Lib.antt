@@ -9,7 +9,6 @@ pub mod Commands
 pub mod Judging
 pub mod Run
 pub mod Laws
-
 -- the vocabulary of private functions
 pub mod Fetching
 pub mod Partnering

@@ -13,7 +13,8 @@ use Rattle.pv_top.specs.declared.report.Fetched.TheVariants.{Bytes, TooLong}
 use Rattle.pv_top.specs.declared.status.Status.{Status}
 use Rattle.pv_top.specs.declared.status.Status.TheVariants as status
 use Rattle.pv_top.specs.declared.verdict.Verdict.{Verdict}
-use Rattle.pv_top.specs.Verdicts.{IsLike, IsVerdict, IsVerdictOn}
+use Rattle.pv_top.specs.Verdicts.{IsVerdict, IsVerdictOn}
+use Rattle.pv_top.specs.Partners.{IsLike}
 use Rattle.pv_top.specs.Lines.{line_text}
 use Rattle.pv_top.specs.Report.{lines_of, AreEquivalent, Judged}
 

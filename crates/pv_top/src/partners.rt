@@ -2,7 +2,7 @@
 
 ghost use Rattle.std.specs.Prelude.{◌≡◌, IfOk, MatchOption, length};
 ghost use Rattle.pv_class.specs.declared.file.Method.{Method};
-ghost use Rattle.pv_top.specs.Verdicts.{IsPartner};
+ghost use Rattle.pv_top.specs.Partners.{IsPartner};
 ghost use Rattle.pv_top.specs.Judging.{IsLikeAt};
 ghost use Rattle.pv_top.specs.Partnering.{likeness_of, IsIndexOf};
 

@@ -6,7 +6,8 @@ ghost use Rattle.pv_base.specs.Stored.{AreBytes};
 ghost use Rattle.pv_base.specs.declared.outside.Asked.TheVariants.{Fetch};
 ghost use Rattle.pv_top.specs.Words.{IsValidate, IsNoCommand, texts};
 ghost use Rattle.pv_top.specs.Lines.{bad_words};
-ghost use Rattle.pv_top.specs.Run.{Answered, AskedFor, EachEquivalent, Says};
+ghost use Rattle.pv_top.specs.Run.{Answered, AskedFor, Says};
+ghost use Rattle.pv_top.specs.Promise.{EachEquivalent};
 ghost use Rattle.pv_top.specs.Fetching.{Asks, HoldsFetched, ReadFailed};
 
 use crate::report::{Fetched, judge};

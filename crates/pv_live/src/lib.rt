@@ -1,0 +1,6 @@
+//! Live locals.
+#![tactic(auto)]
+
+mod laws;
+
+pub use laws::law_needed;

@@ -1,2 +1,6 @@
 pub mod Agree
-pub mod Frames
+pub mod ListLaws
+pub mod Rows
+pub mod Tables
+pub mod Kept
+pub mod Examples

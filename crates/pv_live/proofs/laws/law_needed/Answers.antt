@@ -1,4 +1,4 @@
-use Rattle.pv_live.proofs.Frames.{needed_agree, needed_once}
+use Rattle.pv_live.proofs.ListLaws.{needed_agree, needed_once}
 use Rattle.pv_live.proofs.laws.law_needed.Goals as goal
 
 pub returns-clause-agree : goal.returns-clause-agree

@@ -1,9 +1,8 @@
 -- Frames that know the live locals alone agree along every edge.
 use Rattle.std.proofs.Common.{◌≡◌, ℕ, zero, suc, ◌<◌, Bool, true, false, List, [], ◌∷◌, length, Option, Some, None, ◌∙◌, refl, ap, sym, subst, inl, inr, arith}
-use Rattle.std.specs.Prelude.{◌⊎◌, slice_get, option_map, if◌then◌else◌, nat_lt, sum_by, Contains}
-use Rattle.std.specs.List.{AllZip, AllByRecursion}
+use Rattle.std.specs.Prelude.{◌⊎◌, slice_get, option_map, if◌then◌else◌, nat_lt, Contains}
+use Rattle.std.specs.List.{AllZip}
 use Rattle.std.proofs.lemmas.Option.{slice_get_within}
-use Rattle.std.proofs.lemmas.Slice.Zip.{AllZip-long}
 use Rattle.pv_pool.specs.Readers.{◌>>=◌}
 use Rattle.pv_frame.specs.declared.sort.Sort.{Sort}
 use Rattle.pv_frame.specs.declared.sort.Sort.TheVariants as sort
@@ -11,13 +10,13 @@ use Rattle.pv_frame.specs.declared.action.Action.{Action}
 use Rattle.pv_frame.specs.declared.action.Action.TheVariants as act
 use Rattle.pv_frame.specs.declared.program.Program.{Program}
 use Rattle.pv_frame.specs.declared.frame.Frame.{Frame}
-use Rattle.pv_frame.specs.Stacks.{is_wide, width, Taken, popped, moved, has_room, last_local, first_cleared, set_local}
+use Rattle.pv_frame.specs.Stacks.{is_wide, popped, moved, has_room, last_local, first_cleared, set_local}
 use Rattle.pv_frame.specs.Effects.{takes, gives, successors}
 use Rattle.pv_frame.specs.Programs.{IsAt}
-use Rattle.pv_frame.specs.Frames.{same, holds, pushed, frame_done, frame_after, entry_frame, Flows, IsFrameAt, LeadsTo, Leaves, GoesOn, IsTyped, Agrees, AreFrames}
-use Rattle.pv_frame.proofs.FrameLaws.{Less, some_of, no_some, if_some, framed, flows_flows}
-use Rattle.pv_live.specs.Live.{Reads, Writes, Live, read, later}
-use Rattle.pv_live.specs.Needed.{IsNeededSort, IsNeededFrame, IsNeededAt, AreNeeded}
+use Rattle.pv_frame.specs.Frames.{same, holds, pushed, frame_done, frame_after}
+use Rattle.pv_frame.proofs.FrameLaws.{Less, some_of, no_some, if_some, framed}
+use Rattle.pv_live.specs.Live.{Writes, Live, read, later}
+use Rattle.pv_live.specs.Needed.{IsNeededSort}
 
 -- ---- sorts
 

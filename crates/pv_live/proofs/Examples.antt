@@ -1,18 +1,16 @@
 -- A worked example: iload_0, istore_1, iload_1, ireturn.
-use Rattle.std.proofs.Common.{◌≡◌, ℕ, zero, suc, false, List, [], ◌∷◌, Some, None, refl, sym, ap, ◌∙◌, subst, inl, inr, arith, lit<}
-use Rattle.std.specs.Prelude.{◌⊎◌, slice_get, Contains}
+use Rattle.std.proofs.Common.{◌≡◌, ℕ, zero, suc, false, [], ◌∷◌, Some, refl, sym, ◌∙◌, subst, inl, inr}
+use Rattle.std.specs.Prelude.{slice_get, Contains}
 use Rattle.pv_value.specs.declared.descriptor.JType.TheVariants.{I}
-use Rattle.pv_value.specs.declared.descriptor.Descriptor.{Descriptor}
 use Rattle.pv_frame.specs.declared.sort.Sort.{Sort}
 use Rattle.pv_frame.specs.declared.sort.Sort.TheVariants as sort
 use Rattle.pv_frame.specs.declared.action.Action.{Action}
 use Rattle.pv_frame.specs.declared.action.Action.TheVariants as act
 use Rattle.pv_frame.specs.declared.program.Program.{Program}
-use Rattle.pv_frame.specs.declared.frame.Frame.{Frame}
 use Rattle.pv_frame.specs.Effects.{successors}
 use Rattle.pv_frame.specs.Programs.{IsAt}
 use Rattle.pv_frame.proofs.FrameLaws.{some_of, no_some}
-use Rattle.pv_frame.proofs.Lists.{contains_first, contains_none, contains_cases}
+use Rattle.pv_frame.proofs.Lists.{contains_none, contains_cases}
 use Rattle.pv_live.specs.Live.{Reads, Writes, Live, read, later}
 use Rattle.pv_live.specs.Needed.{IsNeededSort, IsNeededFrame}
 

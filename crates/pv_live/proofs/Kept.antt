@@ -1,7 +1,6 @@
 -- Frames with the locals that are marked, and that they are what is needed.
-use Rattle.std.proofs.Common.{◌≡◌, ℕ, zero, suc, ◌+◌, ◌-◌, ◌≤◌, ◌<◌, Bool, true, false, List, [], ◌∷◌, ◌++◌, length, get_or, replicate, Option, Some, None, refl, sym, ap, ◌∙◌, subst, inl, inr, arith, length-append}
-use Rattle.std.specs.Prelude.{◌⊎◌, slice_get, option_map, if◌then◌else◌, Contains}
-use Rattle.std.specs.List.{AllZip, AllByRecursion}
+use Rattle.std.proofs.Common.{◌≡◌, ℕ, zero, suc, ◌-◌, ◌≤◌, ◌<◌, Bool, true, false, List, [], ◌∷◌, ◌++◌, length, get_or, replicate, Option, Some, None, refl, sym, ap, ◌∙◌, subst, inl, inr, arith, length-append}
+use Rattle.std.specs.Prelude.{slice_get, option_map, if◌then◌else◌, Contains}
 use Rattle.std.proofs.lemmas.List.{length-replicate}
 use Rattle.std.proofs.lemmas.Option.{slice_get_within, slice_get-get_or, get_or_from_slice_get, slice_get_read}
 use Rattle.std.proofs.lemmas.Slice.Zip.{AllZip-long}
@@ -14,14 +13,12 @@ use Rattle.pv_frame.specs.declared.program.Program.{Program}
 use Rattle.pv_frame.specs.declared.frame.Frame.{Frame}
 use Rattle.pv_frame.specs.Stacks.{is_wide, popped, moved, has_room, first_cleared, set_local}
 use Rattle.pv_frame.specs.Effects.{takes, gives, successors}
-use Rattle.pv_frame.specs.Programs.{IsAt}
-use Rattle.pv_frame.specs.Frames.{same, holds, pushed, padded_sorts, passed_to, entry_frame, frame_done, frame_after, Flows, IsFrameAt, LeadsTo, Leaves, GoesOn, IsTyped, Agrees, Reached, first, next, IsInferred}
+use Rattle.pv_frame.specs.Frames.{same, holds, pushed, padded_sorts, passed_to, entry_frame, frame_done, frame_after, IsFrameAt, LeadsTo, Agrees, Reached, first, next, IsInferred}
 use Rattle.pv_frame.proofs.FrameLaws.{Less, some_of, no_some, if_some, framed}
 use Rattle.pv_frame.proofs.Inferred.{all_contains, typed_goes, leads_nowhere, reached_frame}
 use Rattle.pv_frame.proofs.Lists.{contains_none}
-use Rattle.pv_live.specs.Live.{Live}
-use Rattle.pv_live.specs.Needed.{IsNeededSort, IsNeededFrame, IsNeededAt, AreNeeded}
-use Rattle.pv_live.specs.Marks.{IsMarked, MarkedAt, IsTable, KnowLive, AreKept, IsKeptFrame, IsKeptOption, AreKeptFrames, HasLocals, Match}
+use Rattle.pv_live.specs.Needed.{IsNeededAt, AreNeeded}
+use Rattle.pv_live.specs.Marks.{IsMarked, KnowLive, AreKept, IsKeptOption, AreKeptFrames, HasLocals, Match}
 use Rattle.pv_live.proofs.Agree.{slice_some}
 use Rattle.pv_live.proofs.Rows.{each_push}
 
@@ -82,8 +79,8 @@ have_locals p frames agrees k (next i j a reached is among) f at =
     elim (typed_goes p frames i source.0 a is (agrees.each i source.0 source.1)) [
       | inl leaves ↦ absurd (not_in_none (successors i a) j (leads_nowhere p i a leaves.0) among)
       | inr on ↦
-        let edge = all_contains (LeadsTo frames on.after) (successors i a) j on.edges among.0 among.1 among.2 in
-        led_locals frames on.after j f edge at ∙ after_locals a source.0 on.after on.is ∙ have_locals p frames agrees i reached source.0 source.1
+          let edge = all_contains (LeadsTo frames on.after) (successors i a) j on.edges among.0 among.1 among.2 in
+          led_locals frames on.after j f edge at ∙ after_locals a source.0 on.after on.is ∙ have_locals p frames agrees i reached source.0 source.1
     ]
 
 pub rows_match : (p : Program) (rows seen : List (List Bool)) (frames held : List (Option Frame)) → seen ≡ rows → held ≡ frames → KnowLive p rows → IsInferred p frames → Match seen held
@@ -107,9 +104,9 @@ AreKeptTo row locals kept = (x : ℕ) (t : Sort) → slice_get kept x ≡ Some t
 
 pub kept_more : (row : List Bool) (locals kept : List Sort) (n : ℕ) (d t : Sort) → length kept ≡ n → n < length row → n < length locals → AreKeptTo row locals kept → (get_or row n false ≡ true → t ≡ get_or locals n d) → (get_or row n false ≡ false → t ≡ sort.Unknown) → AreKeptTo row locals (kept ++ t ∷ [])
 kept_more row locals kept n d t size low there so marked others = each_push (IsKept row locals) kept t so (subst (λ (k : ℕ). IsKept row locals k t) (sym size) (λ s at. (
-    (λ m. marked (get_or_from_slice_get row n true false m) ∙ get_or_from_slice_get locals n s d at),
-    (λ un. others (unmarked (get_or row n false) refl un)),
-  )))
+  (λ m. marked (get_or_from_slice_get row n true false m) ∙ get_or_from_slice_get locals n s d at),
+  (λ un. others (unmarked (get_or row n false) refl un)),
+)))
   where
     unmarked : (b : Bool) → get_or row n false ≡ b → (IsMarked row n → ⊥) → get_or row n false ≡ false
     unmarked true e un = absurd (un (slice_get-get_or row n false low ∙ ap Some e))
@@ -148,9 +145,9 @@ are_needed p rows seen frames held kept e d know is others = record {
   is = is;
   long = all.long;
   each = λ k f g here there.
-    let within = slice_get_within frames k f here in
-    let row = slice_some rows k (omega (arith, within, know.table.long, is.well_typed.one_each)) in
-    at k f g row.0 row.1 here (all.each k row.0 f g row.1 here there);
+      let within = slice_get_within frames k f here in
+      let row = slice_some rows k (omega (arith, within, know.table.long, is.well_typed.one_each)) in
+      at k f g row.0 row.1 here (all.each k row.0 f g row.1 here there);
 }
   where
     all : AreKeptFrames rows frames kept
@@ -167,9 +164,9 @@ are_needed p rows seen frames held kept e d know is others = record {
           long = kept.locals.long;
           locals = λ x s t was now. record {
             live = λ l.
-              let within = slice_get_within f.locals x s was in
-              let m = know.complete k x (omega (arith, within, long)) l in
-              kept.locals.marked x s t was now (subst (λ (r : List Bool). IsMarked r x) (some_of _ _ (sym m.there ∙ there)) m.marked);
+                let within = slice_get_within f.locals x s was in
+                let m = know.complete k x (omega (arith, within, long)) l in
+                kept.locals.marked x s t was now (subst (λ (r : List Bool). IsMarked r x) (some_of _ _ (sym m.there ∙ there)) m.marked);
             dead = λ d. kept.locals.others x s t was now (λ m. d (know.table.sound k x (record { row = row; there = there; marked = m })));
           };
         }

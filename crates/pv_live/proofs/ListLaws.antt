@@ -1,23 +1,22 @@
 -- Lists of needed frames: they agree, and there is one.
-use Rattle.std.proofs.Common.{◌≡◌, ℕ, zero, suc, ◌<◌, List, [], ◌∷◌, length, Option, Some, None, ◌∙◌, refl, ap, sym, subst, inl, inr, arith}
-use Rattle.std.specs.Prelude.{◌⊎◌, slice_get, sum_by, Contains}
-use Rattle.std.specs.List.{AllZip, AllByRecursion}
+use Rattle.std.proofs.Common.{◌≡◌, ℕ, suc, List, [], ◌∷◌, length, Option, Some, None, ◌∙◌, refl, ap, sym, subst, inl, inr, arith}
+use Rattle.std.specs.Prelude.{slice_get, sum_by, Contains}
+use Rattle.std.specs.List.{AllByRecursion}
 use Rattle.std.proofs.lemmas.Option.{slice_get_within}
 use Rattle.std.proofs.lemmas.Slice.Zip.{AllZip-long}
 use Rattle.pv_frame.specs.declared.sort.Sort.{Sort}
-use Rattle.pv_frame.specs.declared.sort.Sort.TheVariants as sort
 use Rattle.pv_frame.specs.declared.action.Action.{Action}
 use Rattle.pv_frame.specs.declared.program.Program.{Program}
 use Rattle.pv_frame.specs.declared.frame.Frame.{Frame}
 use Rattle.pv_frame.specs.Stacks.{width}
 use Rattle.pv_frame.specs.Effects.{takes, successors}
 use Rattle.pv_frame.specs.Programs.{IsAt}
-use Rattle.pv_frame.specs.Frames.{entry_frame, frame_after, Flows, Finds, IsFrameAt, LeadsTo, Leaves, GoesOn, IsTyped, Agrees, AreFrames, IsInferred}
+use Rattle.pv_frame.specs.Frames.{entry_frame, frame_after, Flows, Finds, IsFrameAt, LeadsTo, Leaves, GoesOn, IsTyped, Agrees, AreFrames}
 use Rattle.pv_frame.proofs.FrameLaws.{Less, some_of, no_some}
 use Rattle.pv_frame.proofs.Inferred.{inferred_once}
 use Rattle.pv_frame.proofs.Lists.{contains_first, contains_more}
 use Rattle.pv_live.specs.Live.{Live}
-use Rattle.pv_live.specs.Needed.{IsNeededSort, IsNeededFrame, IsNeededAt, AreNeeded}
+use Rattle.pv_live.specs.Needed.{IsNeededFrame, IsNeededAt, AreNeeded}
 use Rattle.pv_live.proofs.Agree.{less_way, either_way, slice_some, all_less, less_at, after_needed}
 
 all_among : {A : Type 0} (P Q : A → Type 0) (xs : List A) → ((x : A) → Contains xs x → P x → Q x) → AllByRecursion P xs → AllByRecursion Q xs

@@ -1,6 +1,6 @@
 -- Tables of marks, as the sweeps find them.
-use Rattle.std.proofs.Common.{◌≡◌, ◌≢◌, ℕ, zero, suc, ◌+◌, ◌<◌, ◌≤◌, Bool, true, false, List, [], ◌∷◌, ◌++◌, length, get_or, set, replicate, Some, None, refl, sym, ap, ◌∙◌, subst, inl, inr, arith}
-use Rattle.std.specs.Prelude.{◌⊎◌, slice_get, Contains}
+use Rattle.std.proofs.Common.{◌≡◌, ℕ, zero, suc, ◌+◌, ◌<◌, ◌≤◌, Bool, true, false, List, [], ◌∷◌, length, get_or, set, replicate, Some, refl, sym, ap, ◌∙◌, subst, inl, inr, arith}
+use Rattle.std.specs.Prelude.{slice_get}
 use Rattle.std.proofs.lemmas.List.{length-replicate}
 use Rattle.std.proofs.lemmas.Option.{slice_get_within, slice_get_read}
 use Rattle.std.proofs.Math.ListN.{length-set}
@@ -10,7 +10,7 @@ use Rattle.pv_frame.specs.Effects.{successors}
 use Rattle.pv_frame.specs.Programs.{IsAt}
 use Rattle.pv_frame.proofs.FrameLaws.{some_of, no_some}
 use Rattle.pv_frame.proofs.Lists.{equal_or_not, get_set, get_set_other}
-use Rattle.pv_live.specs.Live.{Reads, Writes, Live, read, later}
+use Rattle.pv_live.specs.Live.{Live, read, later}
 use Rattle.pv_live.specs.Marks.{IsMarked, Marks, MarkedAt, MarkedAtOne, IsLiveBefore, IsLiveBy, IsTable, IsDoneAt, IsDone, unmarked, unmarked_in, Visited, Swept, KnowLive}
 
 -- ---- how much there is still to mark
@@ -69,9 +69,12 @@ module _ (p : Program) (rows : List (List Bool)) (table : IsTable p rows) (k : �
 
   -- nothing new is marked
   pub visited_same : row ≡ before → Visited p k rows rows false
-  visited_same same = (refl, λ b there x low live.
-      let one : b ≡ a = some_of _ _ (sym there ∙ known.at) in
-      record { row = before; there = known.here; marked = subst (λ (r : List Bool). IsMarked r x) same (known.marks.added x (omega (arith, low, wide)) (by_marks x low (subst (λ (b : Action). IsLiveBy rows k b x) one live))) })
+  visited_same same = (
+    refl,
+    λ b there x low live.
+        let one : b ≡ a = some_of _ _ (sym there ∙ known.at) in
+        record { row = before; there = known.here; marked = subst (λ (r : List Bool). IsMarked r x) same (known.marks.added x (omega (arith, low, wide)) (by_marks x low (subst (λ (b : Action). IsLiveBy rows k b x) one live))) },
+  )
     where
       by_marks : (x : ℕ) → x < p.max_locals → IsLiveBy rows k a x → IsLiveBefore a after x
       by_marks x low (inl r) = inl r

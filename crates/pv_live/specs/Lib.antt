@@ -2,6 +2,5 @@
 pub mod Live
 pub mod Needed
 pub mod Laws
-
 -- the vocabulary of private functions
 pub mod Marks

@@ -51,11 +51,7 @@ fn mark_at(
 }
 
 /// Goes over all places, from the last to the first, and says whether it marked anything new.
-fn sweep(
-    alloc: Global,
-    program: &Program,
-    rows: &mut Vec<Items<bool>>,
-) -> Result<bool, AllocError>
+fn sweep(alloc: Global, program: &Program, rows: &mut Vec<Items<bool>>) -> Result<bool, AllocError>
     requires { IsTable program.now rows.old.items }
     ensures table { IfOk result (λ _. IsTable program.now rows.new.items) }
     ensures swept { IfOk result
@@ -73,10 +69,7 @@ fn sweep(
 }
 
 /// The locals that are live at each place. It sweeps until nothing new is marked.
-pub(crate) fn live_locals(
-    alloc: Global,
-    program: &Program,
-) -> Result<Vec<Items<bool>>, AllocError>
+pub(crate) fn live_locals(alloc: Global, program: &Program) -> Result<Vec<Items<bool>>, AllocError>
     ensures { IfOk result (λ rows. KnowLive program.now rows.items) }
 {
     let places = program.actions.as_slice().len();

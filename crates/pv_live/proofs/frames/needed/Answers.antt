@@ -1,5 +1,4 @@
-use Rattle.std.proofs.Common.{◌≡◌, List, Option, sym, subst}
-use Rattle.pv_frame.specs.declared.frame.Frame.{Frame}
+use Rattle.std.proofs.Common.{sym, subst}
 use Rattle.pv_live.specs.Needed.{AreNeeded}
 use Rattle.pv_live.proofs.Kept.{rows_match, are_needed}
 use Rattle.pv_live.proofs.frames.needed.Goals as goal

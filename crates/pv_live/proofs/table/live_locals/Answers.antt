@@ -1,4 +1,4 @@
-use Rattle.std.proofs.Common.{Bool, false, subst}
+use Rattle.std.proofs.Common.{subst}
 use Rattle.pv_live.specs.Marks.{Swept}
 use Rattle.pv_live.proofs.Tables.{know_live}
 use Rattle.pv_live.proofs.table.live_locals.Goals as goal

@@ -1,5 +1,4 @@
-use Rattle.std.proofs.Common.{◌≡◌, Bool, true, List, set, sym, ap, ◌∙◌, subst}
-use Rattle.std.specs.Prelude.{IsTrue}
+use Rattle.std.proofs.Common.{Bool, true, List, set, sym, ◌∙◌, subst}
 use Rattle.pv_live.specs.Marks.{IsTable, Visited}
 use Rattle.pv_live.proofs.Tables.{known, visited_same, visited_new, still_table}
 use Rattle.pv_live.proofs.table.mark_at.Goals as goal

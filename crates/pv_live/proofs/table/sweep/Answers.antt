@@ -1,4 +1,4 @@
-use Rattle.std.proofs.Common.{◌≡◌, ◌-◌, suc, Bool, false, sym, ap, subst, arith}
+use Rattle.std.proofs.Common.{◌≡◌, ◌-◌, suc, false, subst, arith}
 use Rattle.pv_live.specs.Marks.{IsDone, Visited}
 use Rattle.pv_live.proofs.Tables.{done_more, fewer_more, swept}
 use Rattle.pv_live.proofs.table.sweep.Goals as goal

@@ -1,0 +1,116 @@
+#!/usr/bin/env python3
+"""Looks for every name that the pages give, in the tree.
+
+It reads README.md and docs/*.md. A word in backquotes that is a path, a crate, a file of specs/, a function, a type, a
+clause or a definition must be found, and so must each path of this repository in a block of commands. It prints each
+name that isn't found, with its page and line, and then how many it looked for.
+
+    tests/names.py
+
+In a path a word in capitals stands for any name: `crates/NAME/must-fail/WHAT.edit`. What isn't of this tree stands in
+the list below.
+"""
+
+import glob
+import os
+import re
+import sys
+
+TOP = os.path.dirname(os.path.dirname(os.path.abspath(__file__)))
+CRATES = sorted(os.listdir(os.path.join(TOP, "crates")))
+TOPS = ("crates/", "docs/", "tests/", "tools/", "examples/")
+
+# Words of Java, of class files and of other programs.
+OTHERS = set(
+    """
+    byteorder indexmap thiserror hex percent_encoding antt rattle rt javac jar javap unzip jimage java mvn proguard sh diff
+    META-INF META-INF/versions META-INF/versions/N lib/modules module-info.class package-info.class A$B.class
+    ACC_STATIC ACC_SYNCHRONIZED Code StackMapTable LineNumberTable null this max_stack max_locals code_length
+    true false BigEndian Option Result Debug Vec String match requires ensures unwrap to_be_bytes TheConstants
+    PUNTHIZHA PATH public native final private static class
+    """.split()
+)
+
+
+def text_of(path):
+    with open(path, encoding="utf-8") as file:
+        return file.read()
+
+
+def given_names():
+    """Every name that some file of the tree declares."""
+    names = set(CRATES)
+    for path in glob.glob(os.path.join(TOP, "crates", "**", "*.*"), recursive=True):
+        if "/out/" in path or not path.endswith((".rt", ".antt", ".edit")):
+            continue
+        names.add(os.path.basename(path).rsplit(".", 1)[0])
+        text = text_of(path)
+        if path.endswith(".rt"):
+            names.update(re.findall(r"\b(?:fn|struct|enum|trait|type|const|mod|ghost) (\w+)", text))
+            names.update(re.findall(r"\bensures (\w+) \{", text))
+            # variants and fields, and the words and keys that the program reads or prints
+            names.update(re.findall(r"(?m)^\s+(?:pub )?(\w+)(?:\(.*\)|:.*|\s*\{.*)?,?$", text))
+            names.update(word for said in re.findall(r'"([^"\n]*)"', text) for word in re.findall(r"[\w-]+", said))
+        elif path.endswith(".antt"):
+            names.update(re.findall(r"(?m)^\s*(?:(?:abbrev|unfoldable|pub|record|data)\s+)*([\w'◌-]+) :", text))
+            names.update(re.findall(r"(?m)^\s*(?:pub )?(?:record|data) (\w+)", text))
+            names.update(word for said in re.findall(r'codes "([^"]*)"', text) for word in re.findall(r"[\w-]+", said))
+            if re.search(r"specs/(Opcodes|Actions|Causes)\.antt$", path):
+                names.update(word for line in re.findall(r"--(.*)", text) for word in re.findall(r"\w+", line))
+    return names
+
+
+def is_path(word):
+    """Whether a file or a folder of the tree is meant: from the top, from crates/, or in some crate."""
+    pattern = re.sub(r"\b[A-Z]{2,}\b|\bN\b", "*", word.rstrip("/"))
+    for front in ("", "crates/", "crates/*/", "crates/*/specs/", "crates/*/src/", "crates/*/proofs/"):
+        for end in ("", ".antt", ".rt", ".py", ".sh", "/*"):
+            if glob.glob(os.path.join(TOP, front + pattern + end)):
+                return True
+    return False
+
+
+def found(word, names):
+    if word in OTHERS or word in names:
+        return True
+    if "/" in word or re.search(r"\.(rt|antt|py|sh|md|txt|edit|java|pro)$", word):
+        return is_path(word)
+    if re.fullmatch(r"[\w']+((::|\.)[\w']+)+", word):
+        return all(part in names or part in OTHERS for part in re.split(r"::|\.", word))
+    if re.fullmatch(r"[A-Z]{2,}|[A-Z]", word):
+        return True  # a word that stands for others
+    return is_path(word)
+
+
+def words_of(line, fenced):
+    """The words of a line that must be found."""
+    if fenced:
+        return [word for word in re.findall(r"[\w./$-]+", line) if word.startswith(TOPS)]
+    words = []
+    for span in re.findall(r"`([^`]+)`", line):
+        parts = span.split(" ")
+        if len(parts) == 1 and re.fullmatch(r"[A-Za-z_][\w:./'-]*\w/?", span) and not re.fullmatch(r"java/.*", span):
+            words.append(span)
+        elif len(parts) > 1:
+            words += [word for word in re.findall(r"[\w./$:-]+", span) if word.startswith(TOPS) or word.startswith("pv_")]
+    return words
+
+
+def main():
+    names, missing, looked = given_names(), 0, 0
+    for page in [os.path.join(TOP, "README.md"), *sorted(glob.glob(os.path.join(TOP, "docs", "*.md")))]:
+        fenced = False
+        for number, line in enumerate(text_of(page).splitlines(), 1):
+            if line.lstrip().startswith("```"):
+                fenced = not fenced
+                continue
+            for word in words_of(line, fenced):
+                looked += 1
+                if not found(word, names):
+                    missing += 1
+                    print(f"{os.path.relpath(page, TOP)}:{number}: no {word}")
+    print(f"{looked} names, {missing} not found")
+    sys.exit(1 if missing else 0)
+
+
+main()

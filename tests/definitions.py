@@ -54,7 +54,7 @@ def definitions(path):
         if not line.strip() or re.match(r"\s*(use|pub mod)\b", line):
             continue
         head = re.match(r"\s*((?:(?:abbrev|unfoldable|pub|record|data)\s+)*)(\S+)", line)
-        if line.rstrip() == "mutual":
+        if not line[0].isspace() and line.split()[-1] == "mutual":
             current = f"mutual {number}"
         elif not line[0].isspace():
             current = names.setdefault(head[2], head[2])

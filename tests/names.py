@@ -27,7 +27,7 @@ OTHERS = set(
     META-INF META-INF/versions META-INF/versions/N lib/modules module-info.class package-info.class A$B.class
     ACC_STATIC ACC_SYNCHRONIZED Code StackMapTable LineNumberTable null this max_stack max_locals code_length
     true false BigEndian Option Result Debug Vec String match requires ensures unwrap to_be_bytes TheConstants
-    PUNTHIZHA PATH public native final private static class
+    PUNTHIZHA PATH bin/rt proves u8 u16 u32 u64 i32 i64 usize public native final private static class
     """.split()
 )
 
@@ -57,11 +57,16 @@ def given_names():
             names.update(word for said in re.findall(r'codes "([^"]*)"', text) for word in re.findall(r"[\w-]+", said))
             if re.search(r"specs/(Opcodes|Actions|Causes)\.antt$", path):
                 names.update(word for line in re.findall(r"--(.*)", text) for word in re.findall(r"\w+", line))
+    for path in glob.glob(os.path.join(TOP, "examples", "*.java")):
+        names.update(re.findall(r"\b(\w+)\(", text_of(path)))
     return names
 
 
 def is_path(word):
     """Whether a file or a folder of the tree is meant: from the top, from crates/, or in some crate."""
+    built = re.fullmatch(r"crates/(\w+)/out(/\1)?", word)
+    if built:
+        return built[1] in CRATES  # what a build leaves
     pattern = re.sub(r"\b[A-Z]{2,}\b|\bN\b", "*", word.rstrip("/"))
     for front in ("", "crates/", "crates/*/", "crates/*/specs/", "crates/*/src/", "crates/*/proofs/"):
         for end in ("", ".antt", ".rt", ".py", ".sh", "/*"):

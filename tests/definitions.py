@@ -4,7 +4,7 @@
 It begins with the names in the clauses of `run` in crates/pv_top/src/top.rt, and follows each name to the definition
 that it stands for, and so on: a name of a file of specs/ by the imports of that file, a type under `specs.declared` to
 the .rt file that declares it, with the types of its fields and what its values are (`ghost Value`). A file is listed
-where some definition of it is met. Each file stands before those whose words it uses.
+where some definition of it is met, with the lines of these definitions. Each file stands before those whose words it uses.
 
     tests/definitions.py            fails where the page misses a file, names one that isn't met, or gives a wrong count
     tests/definitions.py --write    writes both lists into the page
@@ -35,7 +35,7 @@ def without_comments(text):
 def imports(text):
     """What each imported name, or name of a module, stands for: its module, and its name there."""
     names, modules = {}, {}
-    for module, listed, alias in re.findall(r"(?m)^\s*(?:ghost )?use Rattle\.([\w.]+?)(?:\.\{([^}]*)\})?(?: as (\w+))?;?\s*$", text):
+    for module, listed, alias in re.findall(r"(?m)^\s*(?:ghost |pub )?use Rattle\.([\w.]+?)(?:\.\{([^}]*)\})?(?: as (\w+))?;?\s*$", text):
         if alias:
             modules[alias] = module
         for name in listed.split(","):
@@ -51,7 +51,7 @@ def definitions(path):
     text = without_comments(read(path))
     parts, names, current = {}, {}, None
     for number, line in enumerate(text.splitlines()):
-        if not line.strip() or re.match(r"\s*(use|pub mod)\b", line):
+        if not line.strip() or re.match(r"\s*(use|pub use|pub mod)\b", line):
             continue
         head = re.match(r"\s*((?:(?:abbrev|unfoldable|pub|record|data)\s+)*)(\S+)", line)
         if not line[0].isspace() and line.split()[-1] == "mutual":
@@ -158,7 +158,11 @@ def resolve(text, names, modules, local=None, path=None):
 def target(module, name):
     path, about = file_of(module)
     if path and path.endswith(".antt"):
-        yield path, definitions(path)[1].get(name, name)
+        _, local, (names, _) = definitions(path)
+        if name not in local and name in names:
+            yield from target(*names[name])  # it hands on what another file defines
+        else:
+            yield path, local.get(name, name)
     elif path:
         yield path, about or name
 
@@ -245,14 +249,18 @@ def shown(path):
     return path.removesuffix(".antt")
 
 
-def table(paths):
+def table(paths, needed):
+    """The list of these files, and what of each is needed: the lines of those definitions, of the lines of the file."""
     specs = [path for path in paths if path.endswith(".antt")]
     types = sorted(set(paths) - set(specs))
     rows = ["| File | Lines | Holds | JVMS |", "|---|---|---|---|"]
+    total = 0
     for path in specs:
-        rows.append(f"| `{shown(path)}` | {lines_of(path)} | {head_comment(path)} | {sections(path)} |")
-    total = sum(lines_of(path) for path in specs)
-    rows += ["", f"{len(specs)} files with {total} lines. The types that they speak of are declared in", ""]
+        parts = definitions(path)[0]
+        lines = sum(len(parts[name].splitlines()) for at, name in needed if at == path)
+        total += lines
+        rows.append(f"| `{shown(path)}` | {lines} of {lines_of(path)} | {head_comment(path)} | {sections(path)} |")
+    rows += ["", f"{total} lines in {len(specs)} files. The types that they speak of are declared in", ""]
     rows += [f"- `{crate}/src`: " + ", ".join(f"`{path.split('/')[-1]}`" for path in types if path.startswith(crate + "/"))
              for crate in dict.fromkeys(path.split("/")[0] for path in types)]
     return "\n".join(rows)
@@ -271,9 +279,12 @@ def listed_in(inside):
 
 
 def lists():
-    """The files of both lists: those of the promise, and those of all clauses that the promise doesn't need."""
-    promise = in_order(met(["equivalent"]))
-    return [("equivalent", promise), ("report", [path for path in in_order(met(None)) if path not in promise])]
+    """Both lists, each with its files and the definitions of them that it needs: those of the promise, and those of all
+    clauses that the promise doesn't need."""
+    promise, every = met(["equivalent"]), met(None)
+    rest = set(every) - set(promise)
+    files = {path for path, _ in rest}
+    return [("equivalent", in_order(promise), set(promise)), ("report", [path for path in in_order(every) if path in files], rest)]
 
 
 def why(wanted, path):
@@ -296,11 +307,11 @@ def main():
     with open(PAGE) as file:
         page = file.read()
     failed = False
-    for name, paths in lists():
+    for name, paths, needs in lists():
         begin, end = f"<!-- list {name} -->\n", f"\n<!-- end {name} -->"
         at = page.index(begin) + len(begin)
         inside = page[at : page.index(end, at - 1)]
-        wants, listed, needed = table(paths), listed_in(inside), {shown(path) for path in paths}
+        wants, listed, needed = table(paths, needs), listed_in(inside), {shown(path) for path in paths}
         for path in sorted(needed - listed):
             print(f"{name}: the page misses {path}")
         for path in sorted(listed - needed):

@@ -27,7 +27,7 @@ OTHERS = set(
     META-INF META-INF/versions META-INF/versions/N lib/modules module-info.class package-info.class A$B.class
     ACC_STATIC ACC_SYNCHRONIZED Code StackMapTable LineNumberTable null this max_stack max_locals code_length
     true false BigEndian Option Result Debug Vec String match requires ensures unwrap to_be_bytes TheConstants
-    only-first only-second java8.jar verify tee Allocation record data abbrev
+    only-first only-second java8.jar verify tee Allocation record data abbrev unfoldable CALLEE-requires overflow_add-x
     PUNTHIZHA PATH bin/rt proves u8 u16 u32 u64 i32 i64 usize public native final private static class
     """.split()
 )

@@ -13,13 +13,10 @@ use crate::classes;
 use crate::spelling::spelled;
 use crate::values::escaped;
 use pv_base::{Files, HostFiles};
-use pv_class::{Method, read_class};
+use pv_class::{LONGEST_FILE, Method, read_class};
 use pv_insn::{Placed, decode};
 use std::alloc::Global;
 use std::rt;
-
-/// The bytes of the longest file that is read.
-const LONGEST_FILE: usize = 4194304;
 
 /// `decode CODE`
 pub fn decoding(bench: &Bench, rest: &str) -> Answer {

@@ -4,7 +4,6 @@ pub mod Renumbered
 pub mod Least
 pub mod Algorithm
 pub mod Laws
-
 -- the vocabulary of private functions
 pub mod BottomUp
 pub mod Keys

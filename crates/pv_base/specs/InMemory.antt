@@ -58,7 +58,7 @@ Answers view (Err e) wanted = wanted ≡ Err e
 abbrev pub noted : MemoryStore → Asked → MemoryStore
 noted store call = record store { asked = store.asked ++ call ∷ [] }
 
--- the store after a call that was answered so: want of memory changes nothing, and a failure counts
+-- the store after a call that was answered so: out of memory changes nothing, and a failure counts
 abbrev pub after_call : {T : Type 0} → MemoryStore → Asked → Result T FileFault → MemoryStore
 after_call store call (Err file.Memory) = store
 after_call store call (Err file.Failed) = record (noted store call) { faults = count_up store.faults }

@@ -3,6 +3,7 @@ use Rattle.std.proofs.Common.{◌≡◌, ℕ, ◌+◌, ◌≤◌, List, [], ◌+
 use Rattle.std.proofs.lemmas.List.{length-append, append-nil, drop_at}
 use Rattle.pv_pool.specs.Pools.{IsPoolText, IsPoolAt}
 use Rattle.pv_pool.proofs.Formats.{IsBytes, bytes_behind}
+use Rattle.pv_class.specs.declared.class.TheConstants.{LONGEST_FILE}
 use Rattle.pv_class.specs.declared.file.ClassFile.{ClassFile}
 use Rattle.pv_class.specs.Grammars.{Takes}
 use Rattle.pv_class.specs.ClassGrammar.{head, tail}
@@ -113,7 +114,7 @@ parts_after : (bytes front text later : List ℕ) (after : ℕ) → bytes ≡ fr
 parts_after bytes front text later after e len at =
     ap (λ (u : List ℕ). drop after u) (e ∙ sym (append_assoc front text later)) ∙ drop_at (front ++ text) later after (length-append front text ∙ omega arith)
 
-pub class_taken : (bytes : List ℕ) (file : ClassFile) → IsBytes bytes → length bytes ≤ 4194304 → TakesAll bytes file → IsClass bytes file
+pub class_taken : (bytes : List ℕ) (file : ClassFile) → IsBytes bytes → length bytes ≤ LONGEST_FILE → TakesAll bytes file → IsClass bytes file
 class_taken bytes file fits small t =
     let p = head_texts.takes bytes tt t.rest fits t.head_is in
     let h = p.2 in

@@ -8,6 +8,7 @@ use Rattle.pv_pool.specs.Pools.{IsPoolAt}
 use Rattle.pv_pool.specs.Faults as pool
 use Rattle.pv_pool.proofs.Formats.{IsBytes}
 use Rattle.pv_pool.proofs.Once.{one_answer, one_pool}
+use Rattle.pv_class.specs.declared.class.TheConstants.{LONGEST_FILE}
 use Rattle.pv_class.specs.declared.file.Method.{Method}
 use Rattle.pv_class.specs.declared.file.ClassFile.{ClassFile}
 use Rattle.pv_class.specs.declared.fault.PoolWord.TheVariants as word
@@ -34,11 +35,11 @@ file_of entries ms = record { pool = entries; methods = ms }
 
 -- how far reading comes, and to what
 pub data Comes (bytes : List ℕ) (answer : Result ClassFile ClassFault) : Type 0 where
-  nowhere : 4194304 < length bytes → answer ≡ Err (class.TooLong 4194304) → Comes bytes answer
-  to_head : length bytes ≤ 4194304 → (e : Failure) → read head bytes ≡ Err e → answer ≡ Err (fault_of bytes e) → Comes bytes answer
-  to_pool : length bytes ≤ 4194304 → HeadRead bytes → (e : PoolFault) (b : ClassFault) → pool.HasFault bytes 8 e → IsOfPool e b → answer ≡ Err b → Comes bytes answer
-  to_tail : length bytes ≤ 4194304 → HeadRead bytes → (entries : List Entry) (after : ℕ) → IsPoolAt bytes 8 entries after → (e : Failure) → read (tail entries) (drop after bytes) ≡ Err e → answer ≡ Err (fault_of bytes e) → Comes bytes answer
-  to_end : length bytes ≤ 4194304 → HeadRead bytes → (entries : List Entry) (after : ℕ) → IsPoolAt bytes 8 entries after → (ms : List Method) → read (tail entries) (drop after bytes) ≡ Ok (ms, []) → answer ≡ Ok (file_of entries ms) → Comes bytes answer
+  nowhere : LONGEST_FILE < length bytes → answer ≡ Err (class.TooLong LONGEST_FILE) → Comes bytes answer
+  to_head : length bytes ≤ LONGEST_FILE → (e : Failure) → read head bytes ≡ Err e → answer ≡ Err (fault_of bytes e) → Comes bytes answer
+  to_pool : length bytes ≤ LONGEST_FILE → HeadRead bytes → (e : PoolFault) (b : ClassFault) → pool.HasFault bytes 8 e → IsOfPool e b → answer ≡ Err b → Comes bytes answer
+  to_tail : length bytes ≤ LONGEST_FILE → HeadRead bytes → (entries : List Entry) (after : ℕ) → IsPoolAt bytes 8 entries after → (e : Failure) → read (tail entries) (drop after bytes) ≡ Err e → answer ≡ Err (fault_of bytes e) → Comes bytes answer
+  to_end : length bytes ≤ LONGEST_FILE → HeadRead bytes → (entries : List Entry) (after : ℕ) → IsPoolAt bytes 8 entries after → (ms : List Method) → read (tail entries) (drop after bytes) ≡ Ok (ms, []) → answer ≡ Ok (file_of entries ms) → Comes bytes answer
 
 has_head : (bytes : List ℕ) → HeadRead bytes → HasHead bytes
 has_head bytes h = (h.0, read_takes head bytes tt h.0 h.1)
@@ -182,11 +183,11 @@ both_memory bytes = (tt, λ answer is. tt)
 both : (bytes : List ℕ) (r : Result ClassFile ClassFault) → IsBytes bytes → Comes bytes r → Both bytes r
 both bytes r fits comes = (unless_memory (IsAnswer bytes r) r (comes_is bytes r fits comes), λ answer is. unless_memory (r ≡ answer) r (comes_once bytes r answer fits comes (is_comes bytes answer is)))
 
-pub both_head : (bytes : List ℕ) (s : Stop) → IsBytes bytes → length bytes ≤ 4194304 → Fails s (read head bytes) → Both bytes (Err (fault_in (length bytes) s))
+pub both_head : (bytes : List ℕ) (s : Stop) → IsBytes bytes → length bytes ≤ LONGEST_FILE → Fails s (read head bytes) → Both bytes (Err (fault_in (length bytes) s))
 both_head bytes (Failed e) fits le h = both bytes (Err (fault_of bytes e)) fits (to_head le e h refl)
 both_head bytes Memory fits le h = both_memory bytes
 
-pub both_pool : (bytes : List ℕ) (e : PoolFault) → IsBytes bytes → length bytes ≤ 4194304 → HeadRead bytes → Answers bytes 8 (Err e) → Both bytes (Err (of_pool e))
+pub both_pool : (bytes : List ℕ) (e : PoolFault) → IsBytes bytes → length bytes ≤ LONGEST_FILE → HeadRead bytes → Answers bytes 8 (Err e) → Both bytes (Err (of_pool e))
 both_pool bytes (fault.Truncated at) fits le first h = both bytes (Err (class.Truncated at)) fits (to_pool le first (fault.Truncated at) (class.Truncated at) h refl refl)
 both_pool bytes (fault.Tag at) fits le first h = both bytes (Err (class.Pool word.Tag at)) fits (to_pool le first (fault.Tag at) (class.Pool word.Tag at) h refl refl)
 both_pool bytes (fault.Utf8 at) fits le first h = both bytes (Err (class.Pool word.Utf8 at)) fits (to_pool le first (fault.Utf8 at) (class.Pool word.Utf8 at) h refl refl)
@@ -196,13 +197,13 @@ both_pool bytes fault.Memory fits le first h = both_memory bytes
 rest_from : (xs : List ℕ) (k : ℕ) → take (length xs - k) (drop k xs) ≡ drop k xs
 rest_from xs k = let e = length-drop k xs in take_all (length xs - k) (drop k xs) (omega arith)
 
-pub both_tail : (bytes : List ℕ) (entries : List Entry) (after : ℕ) (s : Stop) → IsBytes bytes → length bytes ≤ 4194304 → HeadRead bytes → IsPoolAt bytes 8 entries after → Fails s (read (tail entries) (take (length bytes - after) (drop after bytes))) → Both bytes (Err (fault_in (length bytes) s))
+pub both_tail : (bytes : List ℕ) (entries : List Entry) (after : ℕ) (s : Stop) → IsBytes bytes → length bytes ≤ LONGEST_FILE → HeadRead bytes → IsPoolAt bytes 8 entries after → Fails s (read (tail entries) (take (length bytes - after) (drop after bytes))) → Both bytes (Err (fault_in (length bytes) s))
 both_tail bytes entries after (Failed e) fits le first at h =
     let stops = subst (λ (x : List ℕ). read (tail entries) x ≡ Err e) (rest_from bytes after) h in
     both bytes (Err (fault_of bytes e)) fits (to_tail le first entries after at e stops refl)
 both_tail bytes entries after Memory fits le first at h = both_memory bytes
 
-pub both_end : (bytes : List ℕ) (entries : List Entry) (after : ℕ) (ms : List Method) (rest : List ℕ) → IsBytes bytes → length bytes ≤ 4194304 → HeadRead bytes → IsPoolAt bytes 8 entries after → read (tail entries) (take (length bytes - after) (drop after bytes)) ≡ Ok (ms, rest) → rest ≡ [] → Both bytes (Ok (file_of entries ms))
+pub both_end : (bytes : List ℕ) (entries : List Entry) (after : ℕ) (ms : List Method) (rest : List ℕ) → IsBytes bytes → length bytes ≤ LONGEST_FILE → HeadRead bytes → IsPoolAt bytes 8 entries after → read (tail entries) (take (length bytes - after) (drop after bytes)) ≡ Ok (ms, rest) → rest ≡ [] → Both bytes (Ok (file_of entries ms))
 both_end bytes entries after ms rest fits le first at r e =
     let all = subst (λ (x : List ℕ). read (tail entries) x ≡ Ok (ms, rest)) (rest_from bytes after) r in
     both bytes (Ok (file_of entries ms)) fits (to_end le first entries after at ms (subst (λ (x : List ℕ). read (tail entries) (drop after bytes) ≡ Ok (ms, x)) e all) refl)

@@ -5,6 +5,7 @@ use Rattle.pv_pool.specs.declared.fault.PoolFault.{PoolFault}
 use Rattle.pv_pool.specs.declared.fault.PoolFault.TheVariants as pool
 use Rattle.pv_pool.specs.Pools.{IsPoolAt}
 use Rattle.pv_pool.specs.Faults.{HasFault}
+use Rattle.pv_class.specs.declared.class.TheConstants.{LONGEST_FILE}
 use Rattle.pv_class.specs.declared.fault.Cause.{Cause}
 use Rattle.pv_class.specs.declared.fault.Cause.TheVariants as cause
 use Rattle.pv_class.specs.declared.fault.PoolWord.TheVariants as word
@@ -43,7 +44,7 @@ HasHead file = (rest : List ℕ) × Takes head file tt rest
 
 -- the first part that fails: the head, the pool, or what stands after it
 pub data IsBad (file : List ℕ) (f : ClassFault) : Type 0 where
-  too_long : 4194304 < length file → f ≡ fault.TooLong 4194304 → IsBad file f
-  in_head : length file ≤ 4194304 → (e : Failure) → Stops head file e → f ≡ fault_of file e → IsBad file f
-  in_pool : length file ≤ 4194304 → HasHead file → (e : PoolFault) → HasFault file 8 e → IsOfPool e f → IsBad file f
-  in_tail : length file ≤ 4194304 → HasHead file → (pool : List Entry) (after : ℕ) → IsPoolAt file 8 pool after → (e : Failure) → Stops (tail pool) (drop after file) e → f ≡ fault_of file e → IsBad file f
+  too_long : LONGEST_FILE < length file → f ≡ fault.TooLong LONGEST_FILE → IsBad file f
+  in_head : length file ≤ LONGEST_FILE → (e : Failure) → Stops head file e → f ≡ fault_of file e → IsBad file f
+  in_pool : length file ≤ LONGEST_FILE → HasHead file → (e : PoolFault) → HasFault file 8 e → IsOfPool e f → IsBad file f
+  in_tail : length file ≤ LONGEST_FILE → HasHead file → (pool : List Entry) (after : ℕ) → IsPoolAt file 8 pool after → (e : Failure) → Stops (tail pool) (drop after file) e → f ≡ fault_of file e → IsBad file f

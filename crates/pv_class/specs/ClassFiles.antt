@@ -7,6 +7,7 @@ use Rattle.pv_value.specs.Descriptors.{IsFieldType, IsMethodType}
 use Rattle.pv_pool.specs.declared.entry.Entry.{Entry}
 use Rattle.pv_pool.specs.Pools.{HasText, HasClass, IsPoolText}
 use Rattle.pv_pool.specs.Readers.{text_under}
+use Rattle.pv_class.specs.declared.class.TheConstants.{LONGEST_FILE}
 use Rattle.pv_class.specs.declared.file.Code.{Code}
 use Rattle.pv_class.specs.declared.file.Method.{Method}
 use Rattle.pv_class.specs.declared.file.ClassFile.{ClassFile}
@@ -84,5 +85,5 @@ pub record Describes (i : Items) (file : ClassFile) : Type 0 where
 pub record IsClass (bytes : List ℕ) (file : ClassFile) : Type 0 where
   pub items : Items
   pub spelled : bytes ≡ file_text items
-  pub small : length bytes ≤ 4194304
+  pub small : length bytes ≤ LONGEST_FILE
   pub describes : Describes items file

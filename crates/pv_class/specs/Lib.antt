@@ -6,7 +6,6 @@ pub mod ClassFaults
 pub mod Answers
 pub mod Items
 pub mod ClassFiles
-
 -- the vocabulary of private functions
 pub mod Deciding
 pub mod Reading

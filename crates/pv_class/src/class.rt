@@ -16,7 +16,7 @@ use pv_pool::{Pool, PoolFault, read_pool};
 use std::alloc::Global;
 
 /// The bytes of the longest file that is read.
-const LONGEST_FILE: usize = 4194304;
+pub const LONGEST_FILE: usize = 4194304;
 
 /// The number that begins each class file.
 const MAGIC: u32 = 0xCAFE_BABE;
@@ -131,7 +131,7 @@ fn tail_at<'a>(alloc: Global, pool: &Pool, bytes: &'a [u8]) -> Result<(Methods, 
     class_end_at(alloc, pool, rest)
 }
 
-/// Reads a class file (JVMS 4.1, 4.5 to 4.7.3) of major version 45 to 69 and at most 4194304 bytes,
+/// Reads a class file (JVMS 4.1, 4.5 to 4.7.3) of major version 45 to 69 and at most `LONGEST_FILE` bytes,
 /// front to back. Any minor version is accepted, attributes other than a method's Code are skipped.
 ///
 /// The fault is that of the first item that fails, with its place; references within the constant

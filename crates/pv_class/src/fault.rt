@@ -47,7 +47,7 @@ pub enum ClassFault {
     /// Bytes stand after the class file: where they begin.
     #[error("trailing bytes at {0}")]
     Trailing(usize),
-    /// The file has more than 4194304 bytes: 4194304.
+    /// The file has more than `LONGEST_FILE` bytes: that number.
     #[error("more than {0} bytes")]
     TooLong(usize),
     /// There is no memory; this says nothing of the file.

@@ -28,7 +28,7 @@ mod seen;
 mod signature;
 mod table;
 
-pub use class::read_class;
+pub use class::{LONGEST_FILE, read_class};
 pub use fault::{ClassFault, PoolWord};
-pub use file::{Bytes, ClassFile, Code, Method, Methods};
+pub use file::{ACC_STATIC, ACC_SYNCHRONIZED, Bytes, ClassFile, Code, Method, Methods};
 pub use pv_pool::{Entry, Pool};

@@ -6,6 +6,5 @@ pub mod Walks
 pub mod Placing
 pub mod Reaching
 pub mod Trees
-
 -- the vocabulary of private functions
 pub mod Landings

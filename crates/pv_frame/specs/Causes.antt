@@ -4,6 +4,7 @@ use Rattle.std.specs.List.{AllByRecursion}
 use Rattle.pv_value.specs.declared.descriptor.JType.{JType}
 use Rattle.pv_value.specs.declared.descriptor.Descriptor.{Descriptor}
 use Rattle.pv_value.specs.Descriptors.{IsFieldType, IsMethodType}
+use Rattle.pv_value.specs.declared.receiver.Form.{Form}
 use Rattle.pv_pool.specs.declared.entry.Entry.{Entry}
 use Rattle.pv_pool.specs.declared.constant.Constant.{Constant}
 use Rattle.pv_pool.specs.declared.constant.Constant.TheVariants as constant
@@ -18,13 +19,14 @@ use Rattle.pv_insn.specs.declared.fault.CodeFault.{CodeFault}
 use Rattle.pv_insn.specs.declared.fault.CodeFault.TheVariants as fault
 use Rattle.pv_insn.specs.Codes.{IsCode}
 use Rattle.pv_insn.specs.Faults.{IsBad}
+use Rattle.pv_frame.specs.declared.inference.TheConstants.{LONGEST_CODE, MOST_SLOTS}
 use Rattle.pv_frame.specs.declared.used.Use.{Use}
 use Rattle.pv_frame.specs.declared.used.Use.TheVariants as used
 use Rattle.pv_frame.specs.declared.cause.CauseKind.{CauseKind}
 use Rattle.pv_frame.specs.declared.cause.CauseKind.TheVariants as kind
 use Rattle.pv_frame.specs.declared.cause.Cause.{Cause}
 use Rattle.pv_frame.specs.declared.program.Program.{Program}
-use Rattle.pv_frame.specs.Actions.{loads_narrow, loads_wide, use_of, IsFloatless, IsFloatlessMethod}
+use Rattle.pv_frame.specs.Actions.{form_rows, row_of, loads_narrow, loads_wide, use_of, IsFloatless, IsFloatlessMethod, MayName}
 use Rattle.pv_frame.specs.Programs.{IsUnsynchronized, IsProgramOf}
 use Rattle.pv_frame.specs.Frames.{HasFrames}
 
@@ -52,8 +54,6 @@ refused_rows =
     ∷ (174, 175, kind.Float)  -- freturn, dreturn
     ∷ (168, 169, kind.Subroutine)  -- jsr, and ret, also after wide
     ∷ (201, 201, kind.Subroutine)  -- jsr_w
-    ∷ (182, 183, kind.ReceiverCall)  -- invokevirtual, invokespecial
-    ∷ (185, 185, kind.ReceiverCall)  -- invokeinterface
     ∷ (186, 186, kind.Dynamic)  -- invokedynamic
     ∷ (187, 189, kind.Allocation)  -- new, newarray, anewarray
     ∷ (197, 197, kind.Allocation)  -- multianewarray
@@ -88,7 +88,11 @@ IsField m = (m.kind ≡ 9) × ((t : JType) × IsFieldType m.sym.desc t)
 abbrev pub IsStatic : Member → Type 0
 IsStatic m = ((m.kind ≡ 10) ⊎ (m.kind ≡ 11)) × ((d : Descriptor) × IsMethodType m.sym.desc d)
 
--- getstatic to putfield; invokestatic
+-- what a call of this form may name, with a method descriptor
+abbrev pub IsCalledBy : Form → Member → Type 0
+IsCalledBy form m = MayName form m.kind × ((d : Descriptor) × IsMethodType m.sym.desc d)
+
+-- getstatic to putfield
 abbrev pub AccessesFields : ℕ → Type 0
 AccessesFields opcode = (178 ≤ opcode) × (opcode ≤ 181)
 
@@ -101,10 +105,16 @@ NamesConstant opcode (constant.Long n) = IsTrue (loads_wide opcode)
 NamesConstant opcode constant.Double = IsTrue (loads_wide opcode)
 NamesConstant opcode (constant.Other tag) = IsTrue (loads_narrow opcode) ⊎ (IsTrue (loads_wide opcode) × (tag ≡ 17))
 
+-- invokevirtual, invokespecial or invokeinterface with a method that it may name
+pub record NamesReceiverMethod (opcode : ℕ) (m : Member) : Type 0 where
+  pub form : Form
+  pub row : row_of form_rows opcode ≡ Some form
+  pub method : IsCalledBy form m
+
 -- the index names what the instruction asks for
 abbrev pub NamesWell : ℕ → Use → Type 0
 NamesWell opcode (used.Constant c) = NamesConstant opcode c
-NamesWell opcode (used.Member m) = (AccessesFields opcode × IsField m) ⊎ ((opcode ≡ 184) × IsStatic m)
+NamesWell opcode (used.Member m) = (AccessesFields opcode × IsField m) ⊎ ((opcode ≡ 184) × IsStatic m) ⊎ NamesReceiverMethod opcode m
 NamesWell opcode used.None = ⊥
 
 -- a Class, MethodHandle, MethodType or Dynamic
@@ -157,8 +167,8 @@ cause k at = record { kind = k; at = at }
 pub data Row (file : ClassFile) (m : Method) (code : Code) : ℕ → Cause → Type 0 where
   handler : code.handlers ≢ 0 → Row file m code 1 (cause kind.Handler 0)
   synchronized : ¬ IsUnsynchronized m.flags → Row file m code 2 (cause kind.Monitor 0)
-  long_code : 8192 < length code.bytes → Row file m code 3 (cause kind.LongCode 0)
-  slots : 64 < code.max_stack + code.max_locals → Row file m code 4 (cause kind.Slots 0)
+  long_code : LONGEST_CODE < length code.bytes → Row file m code 3 (cause kind.LongCode 0)
+  slots : MOST_SLOTS < code.max_stack + code.max_locals → Row file m code 4 (cause kind.Slots 0)
   float : (d : Descriptor) → IsMethodType m.desc d → ¬ IsFloatlessMethod d → Row file m code 5 (cause kind.Float 0)
   bad_code : (f : CodeFault) (at : ℕ) → IsBad code.bytes f → address_of f ≡ Some at → Row file m code 6 (cause kind.Code at)
   instruction : (k : CauseKind) (at : ℕ) → IsFirst file.pool code k at → Row file m code 7 (cause k at)
@@ -177,6 +187,6 @@ pub record IsAccepted (file : ClassFile) (m : Method) (p : Program) : Type 0 whe
   pub of_method : IsProgramOf file m p
   pub code : Code
   pub has : m.code ≡ Some code
-  pub short : length code.bytes ≤ 8192
-  pub few : p.max_stack + p.max_locals ≤ 64
+  pub short : length code.bytes ≤ LONGEST_CODE
+  pub few : p.max_stack + p.max_locals ≤ MOST_SLOTS
   pub typed : HasFrames p

@@ -7,6 +7,7 @@ use Rattle.pv_class.specs.declared.file.ClassFile.{ClassFile}
 use Rattle.pv_class.specs.declared.file.Method.{Method}
 use Rattle.pv_class.specs.declared.file.Code.{Code}
 use Rattle.pv_insn.specs.declared.insn.Placed.{Placed}
+use Rattle.pv_class.specs.declared.file.TheConstants.{ACC_STATIC, ACC_SYNCHRONIZED}
 use Rattle.pv_insn.specs.Codes.{IsCode}
 use Rattle.pv_frame.specs.declared.used.Use.{Use}
 use Rattle.pv_frame.specs.declared.action.Action.{Action}
@@ -17,13 +18,13 @@ use Rattle.pv_frame.specs.Actions.{IsUse, Acts, IsFloatlessMethod}
 abbrev pub IsAt : Program → ℕ → Action → Type 0
 IsAt p k a = slice_get p.actions k ≡ Some a
 
--- ACC_STATIC (JVMS 4.6) is not set
+-- not static (JVMS 4.6)
 abbrev pub is_instance : ℕ → Bool
-is_instance flags = bit_and flags 0x0008 == 0
+is_instance flags = bit_and flags ACC_STATIC == 0
 
--- ACC_SYNCHRONIZED (JVMS 4.6) is not set
+-- not synchronized (JVMS 4.6)
 abbrev pub IsUnsynchronized : ℕ → Type 0
-IsUnsynchronized flags = bit_and flags 0x0020 ≡ 0
+IsUnsynchronized flags = bit_and flags ACC_SYNCHRONIZED ≡ 0
 
 abbrev pub ActsUsing : List Entry → Placed → Use → Action → Type 0
 ActsUsing pool placed u a = IsUse pool placed.insn u × Acts pool placed.insn u a

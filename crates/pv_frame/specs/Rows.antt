@@ -9,6 +9,7 @@ use Rattle.pv_class.specs.declared.file.Method.{Method}
 use Rattle.pv_class.specs.declared.file.Code.{Code}
 use Rattle.pv_insn.specs.declared.fault.CodeFault.{CodeFault}
 use Rattle.pv_insn.specs.declared.fault.CodeFault.TheVariants as fault
+use Rattle.pv_frame.specs.declared.inference.TheConstants.{LONGEST_CODE, MOST_SLOTS}
 use Rattle.pv_frame.specs.declared.cause.CauseKind.{CauseKind}
 use Rattle.pv_frame.specs.declared.cause.CauseKind.TheVariants as kind
 use Rattle.pv_frame.specs.declared.cause.Refused.{Refused}
@@ -21,17 +22,17 @@ use Rattle.pv_frame.specs.Causes.{cause}
 pub record IsPlain (m : Method) (code : Code) (d : Descriptor) : Type 0 where
   pub handlers : code.handlers ≡ 0
   pub unsynchronized : IsUnsynchronized m.flags
-  pub short : length code.bytes ≤ 8192
-  pub few : code.max_stack + code.max_locals ≤ 64
+  pub short : length code.bytes ≤ LONGEST_CODE
+  pub few : code.max_stack + code.max_locals ≤ MOST_SLOTS
   pub floatless : IsFloatlessMethod d
 
 -- the first of them that holds
 abbrev pub IsEarly : Method → Code → Descriptor → CauseKind → Type 0
 IsEarly m code d kind.Handler = code.handlers ≢ 0
 IsEarly m code d kind.Monitor = (code.handlers ≡ 0) × ¬ IsUnsynchronized m.flags
-IsEarly m code d kind.LongCode = (code.handlers ≡ 0) × IsUnsynchronized m.flags × (8192 < length code.bytes)
-IsEarly m code d kind.Slots = (code.handlers ≡ 0) × IsUnsynchronized m.flags × (length code.bytes ≤ 8192) × (64 < code.max_stack + code.max_locals)
-IsEarly m code d kind.Float = (code.handlers ≡ 0) × IsUnsynchronized m.flags × (length code.bytes ≤ 8192) × (code.max_stack + code.max_locals ≤ 64) × ¬ IsFloatlessMethod d
+IsEarly m code d kind.LongCode = (code.handlers ≡ 0) × IsUnsynchronized m.flags × (LONGEST_CODE < length code.bytes)
+IsEarly m code d kind.Slots = (code.handlers ≡ 0) × IsUnsynchronized m.flags × (length code.bytes ≤ LONGEST_CODE) × (MOST_SLOTS < code.max_stack + code.max_locals)
+IsEarly m code d kind.Float = (code.handlers ≡ 0) × IsUnsynchronized m.flags × (length code.bytes ≤ LONGEST_CODE) × (code.max_stack + code.max_locals ≤ MOST_SLOTS) × ¬ IsFloatlessMethod d
 IsEarly m code d _ = ⊥
 
 -- what a fault of a code says of its method

@@ -10,20 +10,16 @@ use crate::program::Program;
 use crate::spreading::frames_of;
 use crate::stop::Untyped;
 use crate::typed::Typed;
-use pv_class::{ClassFile, Code, Method};
+use pv_class::{ACC_STATIC, ACC_SYNCHRONIZED, ClassFile, Code, Method};
 use pv_insn::{CodeFault, decode};
 use pv_value::{Descriptor, read_descriptor};
 use std::alloc::Global;
 
-/// The access flags of methods (JVMS table 4.6-A).
-const ACC_STATIC: u16 = 0x0008;
+/// The most bytes of a code that is accepted.
+pub const LONGEST_CODE: usize = 8192;
 
-const ACC_SYNCHRONIZED: u16 = 0x0020;
-
-/// The most bytes of a code, and the most places of its operand stack and locals together.
-const LONGEST_CODE: usize = 8192;
-
-const MOST_SLOTS: u32 = 64;
+/// The most places that its operand stack and its locals take together.
+pub const MOST_SLOTS: u32 = 64;
 
 /// The first cause that needs no look at the instructions.
 fn early_cause(method: &Method, code: &Code, desc: &Descriptor) -> Option<CauseKind>

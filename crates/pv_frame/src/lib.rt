@@ -35,7 +35,7 @@ mod used;
 pub use action::{Action, Comparison, Move, Test};
 pub use cause::{Cause, CauseKind, Refused};
 pub use frame::Frame;
-pub use inference::infer;
+pub use inference::{LONGEST_CODE, MOST_SLOTS, infer};
 pub use items::Items;
 pub use program::Program;
 pub use sort::Sort;

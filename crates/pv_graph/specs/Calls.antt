@@ -1,5 +1,5 @@
 -- What the calls of a graph require and ensure. Above each group stands the Rust signature with its
--- clauses; want of memory is the one answer that no clause ties to a cause.
+-- clauses; out of memory is the one answer that no clause ties to a cause.
 use Rattle.std.specs.Prelude.{◌≡◌, ◌≢◌, ◌⊎◌, ℕ, ◌+◌, ◌<◌, Bool, true, false, List, [], ◌∷◌, ◌++◌, length, Some, slice_get, slice_set, if◌then◌else◌}
 use Rattle.std.specs.List.{AllByRecursion}
 use Rattle.pv_graph.specs.declared.node.Op.{Op}

@@ -13,6 +13,5 @@ pub mod SortCode
 pub mod Index
 pub mod Kept
 pub mod Reach
-
 -- the vocabulary of private functions
 pub mod Base

@@ -11,7 +11,7 @@ use Rattle.pv_graph.specs.Ops.{may_not_end}
 use Rattle.pv_graph.specs.SortCode.{is_source}
 use Rattle.pv_graph.specs.Walks.{In}
 
--- a node with the operation is one to be reached; for a sort these are told apart
+-- a node with the operation is one to be reached; for a sort these differ
 abbrev pub begins : Look → Op → Bool
 begins (look.Free d) (op.Theta e) = e == d
 begins (look.Free d) o = false

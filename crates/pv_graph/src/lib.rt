@@ -7,7 +7,7 @@
 //! `specs/` says which sorts fit an operation (`Ops`, `sort_over`), what a graph is (`Graphs`,
 //! `IsGraph`, an invariant of `Graph`), what is free, settled and on a spine, and the rule on cycles
 //! (`Walks`), what a node unfolds to (`Unfold`), and what each call requires and ensures (`Calls`).
-//! What a node means is told in the crate above.
+//! What a node means is defined in the crate above.
 //!
 //! The layers above use the clauses of `Graph`: `add` gives the least number of a node (`Added`),
 //! `theta`, `tie` and `seal` say exactly what they change (`Begun`, `Tied`, `Sealed`), an error leaves

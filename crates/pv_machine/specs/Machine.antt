@@ -1,12 +1,11 @@
--- The machine (JVMS 2.6, 2.10, 6.5): what an instruction does to a state, how a method ends, and when two methods have the same meaning.
-use Rattle.std.specs.Prelude.{◌≡◌, ◌↔◌, ℕ, ℤ, pos, zero, suc, ◌+ℤ◌, ◌-◌, Bool, true, false, not, if◌then◌else◌, int_lt, List, [], ◌∷◌, ◌++◌, length, Option, Some, None, option_map, unwrap_or, slice_get, slice_set, replicate, nat_eq}
+-- The machine (JVMS 2.6, 2.10, 6.5): what an instruction does to a state, and how a method ends.
+use Rattle.std.specs.Prelude.{◌≡◌, ℕ, ℤ, pos, zero, suc, ◌+ℤ◌, ◌-◌, Bool, true, false, not, if◌then◌else◌, int_lt, List, [], ◌∷◌, ◌++◌, length, Option, Some, None, option_map, unwrap_or, slice_get, slice_set, replicate, nat_eq}
 use Rattle.std.specs.List.{flat_map}
 use Rattle.std.specs.Int.{w32, int_wrap}
 use Rattle.std.specs.Ordering.{int_eq}
 use Rattle.pv_value.specs.declared.number.Num.{Num}
 use Rattle.pv_value.specs.declared.number.Num.TheVariants as num
 use Rattle.pv_value.specs.declared.descriptor.JType.{JType}
-use Rattle.pv_value.specs.declared.descriptor.Descriptor.{Descriptor}
 use Rattle.pv_value.specs.declared.world.World.{World}
 use Rattle.pv_value.specs.declared.outcome.Input.{Input}
 use Rattle.pv_value.specs.declared.outcome.Outcome.{Outcome}
@@ -19,9 +18,7 @@ use Rattle.pv_value.specs.declared.heap.Loc.TheVariants.{Elem}
 use Rattle.pv_value.specs.declared.operation.ScalarOp.{ScalarOp}
 use Rattle.pv_value.specs.Operations as operation
 use Rattle.pv_value.specs.Heaps.{read, written}
-use Rattle.pv_value.specs.Descriptors.{IsMethodType}
-use Rattle.pv_value.specs.Inputs.{Fits}
-use Rattle.pv_value.specs.Worlds.{IsWorld, length_of, literal_of, reply}
+use Rattle.pv_value.specs.Worlds.{length_of, literal_of, reply}
 use Rattle.pv_value.specs.Narrowing.{as_type, kept, shown, element_type, static_place, field_place}
 use Rattle.pv_pool.specs.Readers.{◌>>=◌}
 use Rattle.pv_class.specs.declared.file.ClassFile.{ClassFile}
@@ -228,6 +225,8 @@ done p w s (act.StoreElement k) (num.Ref r ∷ num.Int i ∷ n ∷ []) = unless 
 done p w s act.Length (num.Ref zero ∷ []) = Some (throws s fault.Null)
 done p w s act.Length (num.Ref (suc r) ∷ []) = Some (pushes s (num.Int (length_of w (suc r))))
 done p w s (act.Call d f) args = option_map (called s) (reply w f s.heap args)
+done p w s (act.CallOn d f) (num.Ref zero ∷ args) = Some (throws s fault.Null)
+done p w s (act.CallOn d f) (num.Ref (suc r) ∷ args) = option_map (called s) (reply w f s.heap (num.Ref (suc r) ∷ args))
 done p w s _ _ = None
 
 -- what an action does: it takes its operands from the stack
@@ -272,17 +271,3 @@ pub record Ends (file : ClassFile) (m : Method) (w : World) (input : Input) (o :
   pub program : Program
   pub is : IsProgram file m program
   pub run : RunEnds program w input o
-
--- in every world, and for every input that fits, one ends with an outcome exactly where the other does
-abbrev pub HaveSameMeaning : ClassFile → Method → ClassFile → Method → Type 0
-HaveSameMeaning file m file' m' =
-    (d : Descriptor) → IsMethodType m.desc d → (w : World) → IsWorld w → (input : Input) → Fits d input → (o : Outcome) → Ends file m w input o ↔ Ends file' m' w input o
-
-abbrev pub HasProgram : ClassFile → Method → Type 0
-HasProgram file m = (p : Program) × IsProgram file m p
-
--- the same meaning, where both have a program: without one a method never ends
-pub record AreEquivalentMethods (file : ClassFile) (m : Method) (file' : ClassFile) (m' : Method) : Type 0 where
-  pub first : HasProgram file m
-  pub second : HasProgram file' m'
-  pub same : HaveSameMeaning file m file' m'

@@ -31,7 +31,8 @@ use Rattle.pv_class.proofs.ClassLaws.{memory_no_fault}
 use Rattle.pv_top.specs.Lines.{bad_class, fault_text, pool_word, word_at, line_of, line_text, side_word}
 use Rattle.pv_top.specs.Report.{IsReport, Judged}
 use Rattle.pv_top.specs.Judging.{JudgesFetched}
-use Rattle.pv_top.specs.Run.{Holds, Puts, Says, SaidOf, Answered, IsThere, AskedFor, IsLineOf, EndsWith, HaveOneMeaning, EachEquivalent}
+use Rattle.pv_top.specs.Run.{Puts, Says, SaidOf, Answered, IsThere, AskedFor}
+use Rattle.pv_top.specs.Promise.{Holds, IsLineOf, EndsWith, HaveOneMeaning, EachEquivalent}
 use Rattle.pv_top.specs.Fetching.{HoldsFetched, Asks, ReadFailed}
 use Rattle.pv_top.proofs.Places.{all_at, by_index}
 use Rattle.pv_top.proofs.SameMeanings.{same_meaning}

@@ -12,7 +12,8 @@ use Rattle.pv_value.specs.declared.memory.Memory.{Memory}
 use Rattle.pv_class.specs.declared.file.ClassFile.{ClassFile}
 use Rattle.pv_top.specs.declared.verdict.Verdict.{Verdict}
 use Rattle.pv_top.specs.declared.verdict.Verdict.TheVariants.{Missing, NoCode, Refused, Equivalent, Apart}
-use Rattle.pv_top.specs.Verdicts.{IsPartner, IsVerdict, IsVerdictOn}
+use Rattle.pv_top.specs.Verdicts.{IsVerdict, IsVerdictOn}
+use Rattle.pv_top.specs.Partners.{IsPartner}
 use Rattle.pv_top.specs.Judging.{IsVerdictAt, IsVerdictOnPlaces, IsLikeAt}
 use Rattle.pv_top.specs.declared.partners.Likeness.{Likeness}
 use Rattle.pv_top.specs.contracts.partners.LikenessPartialEq.TheImpl as likeness

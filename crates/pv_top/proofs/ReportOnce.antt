@@ -26,7 +26,8 @@ use Rattle.pv_build.specs.Structure.{IsStructured, MeetsShape}
 use Rattle.pv_build.specs.Conversion.{Meets, Form}
 use Rattle.pv_build.proofs.Structures.{one_shape_cause, not_structured}
 use Rattle.pv_top.specs.Roots.{HaveRoots, Alike}
-use Rattle.pv_top.specs.Verdicts.{HasCode, IsPartner, IsVerdict, IsVerdictOn}
+use Rattle.pv_top.specs.Verdicts.{HasCode, IsVerdict, IsVerdictOn}
+use Rattle.pv_top.specs.Partners.{IsPartner}
 use Rattle.pv_top.specs.Lines.{line_text, bad_class}
 use Rattle.pv_top.specs.Report.{IsReport, IsBadText, Judged, AreEquivalent, lines_of}
 use Rattle.pv_top.proofs.Places.{all_at, here_again}

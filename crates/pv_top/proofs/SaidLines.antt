@@ -17,7 +17,7 @@ use Rattle.pv_top.specs.declared.verdict.Verdict.TheVariants as verdict
 use Rattle.pv_top.specs.Verdicts.{IsVerdict}
 use Rattle.pv_top.specs.Lines.{shown, kind_word, cause_text, side_word, verdict_text, line_of, line_text}
 use Rattle.pv_top.specs.Report.{lines_of}
-use Rattle.pv_top.specs.Run.{IsLineOf, EndsWith}
+use Rattle.pv_top.specs.Promise.{IsLineOf, EndsWith}
 use Rattle.pv_top.proofs.WholeLines.{IsWhole, no_line_of_nothing, first_or_later}
 use Rattle.pv_top.proofs.Decimals.{last_digit, whole_decimal}
 use Rattle.pv_top.proofs.Naming.{lacks_append, shown_lacks}

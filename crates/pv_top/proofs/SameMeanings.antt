@@ -14,7 +14,8 @@ use Rattle.pv_class.specs.declared.file.ClassFile.{ClassFile}
 use Rattle.pv_class.specs.declared.file.Method.{Method}
 use Rattle.pv_pool.proofs.Formats.{IsBytes}
 use Rattle.pv_class.proofs.CodeBytes.{HasBytes}
-use Rattle.pv_machine.specs.Machine.{IsProgram, Ends, AreEquivalentMethods}
+use Rattle.pv_machine.specs.Machine.{IsProgram, Ends}
+use Rattle.pv_machine.specs.SameMeaning.{AreEquivalentMethods}
 use Rattle.pv_graph.specs.Graphs.{Graph, form_at}
 use Rattle.pv_denote.specs.Denote.{outside}
 use Rattle.pv_denote.specs.Meaning.{Value}

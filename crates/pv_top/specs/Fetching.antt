@@ -7,7 +7,7 @@ use Rattle.pv_top.specs.declared.report.Fetched.{Fetched}
 use Rattle.pv_top.specs.declared.status.Status.{Status}
 use Rattle.pv_top.specs.declared.status.Status.TheVariants as status
 use Rattle.pv_top.specs.Judging.{IsFetched}
-use Rattle.pv_top.specs.Run.{Holds}
+use Rattle.pv_top.specs.Promise.{Holds}
 
 -- bytes that the store has under the name were fetched
 abbrev pub HoldsFetched : Option Stored → List ℕ → Fetched → Type 0

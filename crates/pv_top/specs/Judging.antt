@@ -6,19 +6,22 @@ use Rattle.pv_class.specs.declared.file.ClassFile.{ClassFile}
 use Rattle.pv_class.specs.declared.fault.ClassFault.{ClassFault}
 use Rattle.pv_class.specs.ClassFiles.{IsClass}
 use Rattle.pv_class.specs.Answers.{IsAnswer}
+use Rattle.pv_class.specs.declared.class.TheConstants.{LONGEST_FILE}
 use Rattle.pv_top.specs.declared.report.Fetched.{Fetched}
+use Rattle.pv_class.specs.declared.class.TheConstants.{LONGEST_FILE}
 use Rattle.pv_top.specs.declared.report.Fetched.TheVariants.{Bytes, TooLong}
 use Rattle.pv_top.specs.declared.status.Status.{Status}
 use Rattle.pv_top.specs.declared.status.Status.TheVariants as status
 use Rattle.pv_top.specs.declared.verdict.Verdict.{Verdict}
-use Rattle.pv_top.specs.Verdicts.{IsLike, IsVerdict, IsVerdictOn}
+use Rattle.pv_top.specs.Verdicts.{IsVerdict, IsVerdictOn}
+use Rattle.pv_top.specs.Partners.{IsLike}
 use Rattle.pv_top.specs.Lines.{line_text}
 use Rattle.pv_top.specs.Report.{lines_of, AreEquivalent, Judged}
 
--- a fetch of at most 4194304 bytes gave these bytes
+-- a fetch of at most LONGEST_FILE bytes gave these bytes
 abbrev pub IsFetched : Fetched → List ℕ → Type 0
 IsFetched (Bytes v) bytes = v.items ≡ bytes
-IsFetched TooLong bytes = 4194304 < length bytes
+IsFetched TooLong bytes = LONGEST_FILE < length bytes
 
 -- the class of the bytes that were fetched, or their fault
 abbrev pub ReadsFetched : Fetched → Result ClassFile ClassFault → Type 0

@@ -1,26 +1,14 @@
 -- What is said of a method: the first of these cases that holds.
-use Rattle.std.specs.Prelude.{◌≡◌, List, Some, None}
-use Rattle.std.specs.List.{Contains}
+use Rattle.std.specs.Prelude.{◌≡◌, Some, None}
 use Rattle.pv_class.specs.declared.file.ClassFile.{ClassFile}
 use Rattle.pv_class.specs.declared.file.Method.{Method}
 use Rattle.pv_class.specs.declared.file.Code.{Code}
-use Rattle.pv_frame.specs.Programs.{is_instance}
 use Rattle.pv_build.specs.Conversion.{Meets, Form}
 use Rattle.pv_top.specs.declared.verdict.Side.TheVariants as side
 use Rattle.pv_top.specs.declared.verdict.Verdict.{Verdict}
 use Rattle.pv_top.specs.declared.verdict.Verdict.TheVariants as verdict
+use Rattle.pv_top.specs.Partners.{IsPartner}
 use Rattle.pv_top.specs.Roots.{HaveRoots, Alike}
-
--- the same name, the same descriptor, and static where this one is
-pub record IsLike (m other : Method) : Type 0 where
-  pub name : other.name ≡ m.name
-  pub desc : other.desc ≡ m.desc
-  pub static : is_instance other.flags ≡ is_instance m.flags
-
--- the method of the other file that is like this one
-pub record IsPartner (m : Method) (others : List Method) (partner : Method) : Type 0 where
-  pub among : Contains others partner
-  pub like : IsLike m partner
 
 abbrev pub HasCode : Method → Type 0
 HasCode m = (code : Code) × (m.code ≡ Some code)

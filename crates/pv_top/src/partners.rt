@@ -2,17 +2,14 @@
 
 ghost use Rattle.std.specs.Prelude.{◌≡◌, IfOk, MatchOption, length};
 ghost use Rattle.pv_class.specs.declared.file.Method.{Method};
-ghost use Rattle.pv_top.specs.Verdicts.{IsPartner};
+ghost use Rattle.pv_top.specs.Partners.{IsPartner};
 ghost use Rattle.pv_top.specs.Judging.{IsLikeAt};
 ghost use Rattle.pv_top.specs.Partnering.{likeness_of, IsIndexOf};
 
 use indexmap::IndexMap;
-use pv_class::Method;
+use pv_class::{ACC_STATIC, Method};
 use pv_value::{Memory, Name};
 use std::alloc::{AllocError, Global};
-
-/// ACC_STATIC (JVMS 4.6).
-const ACC_STATIC: u16 = 0x0008;
 
 /// A method's name and descriptor, and whether it has a `this`.
 #[derive(Debug, Drop, PartialEq, Eq, Hash)]

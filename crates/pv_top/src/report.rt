@@ -8,14 +8,11 @@ use crate::line::{push_bad_class, push_line};
 use crate::partners::Partners;
 use crate::status::Status;
 use crate::verdict::{Side, Verdict, verdict_on};
-use pv_class::{ClassFault, ClassFile, read_class};
+use pv_class::{ClassFault, ClassFile, LONGEST_FILE, read_class};
 use pv_value::Memory;
 use std::alloc::{AllocError, Global};
 
-// The bytes of the longest file that is read.
-const LONGEST_FILE: usize = 4194304;
-
-/// What a fetch gave: the bytes of a file, or that there are more than 4194304 of them.
+/// What a fetch gave: the bytes of a file, or that there are more than `LONGEST_FILE` of them.
 #[derive(Drop)]
 pub enum Fetched {
     Bytes(Vec<u8>),

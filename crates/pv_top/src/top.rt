@@ -6,17 +6,17 @@ ghost use Rattle.pv_base.specs.Stored.{AreBytes};
 ghost use Rattle.pv_base.specs.declared.outside.Asked.TheVariants.{Fetch};
 ghost use Rattle.pv_top.specs.Words.{IsValidate, IsNoCommand, texts};
 ghost use Rattle.pv_top.specs.Lines.{bad_words};
-ghost use Rattle.pv_top.specs.Run.{Answered, AskedFor, EachEquivalent, Says};
+ghost use Rattle.pv_top.specs.Run.{Answered, AskedFor, Says};
+ghost use Rattle.pv_top.specs.Promise.{EachEquivalent};
 ghost use Rattle.pv_top.specs.Fetching.{Asks, HoldsFetched, ReadFailed};
 
 use crate::report::{Fetched, judge};
 use crate::status::Status;
 use crate::words::{Command, read_words};
 use pv_base::{FileFault, Files, Gate, Sink};
+use pv_class::LONGEST_FILE;
 use std::alloc::Global;
 use std::thread::Threads;
-
-const MAX_CLASS: usize = 4194304;
 
 /// Does what the words of a command line say, and answers how that went.
 ///
@@ -82,7 +82,7 @@ fn fetched<F: Files>(alloc: Global, name: &str, files: &mut F) -> Result<Fetched
     ensures asked { Asks (F.asked files.old) (F.asked files.new) (Fetch name.now) result }
     ensures held { F.held files.new ≡ F.held files.old }
 {
-    match files.fetch(alloc, name, MAX_CLASS) {
+    match files.fetch(alloc, name, LONGEST_FILE) {
         Ok(bytes) => {
             law_bytes(&bytes);
             Ok(Fetched::Bytes(bytes))

@@ -2,8 +2,9 @@
 """Looks for every name that the pages give, in the tree.
 
 It reads README.md and docs/*.md. A word in backquotes that is a path, a crate, a file of specs/, a function, a type, a
-clause or a definition must be found, and so must each path of this repository in a block of commands. It prints each
-name that isn't found, with its page and line, and then how many it looked for.
+clause or a definition must be found, and so must each path of this repository in a block of commands. A name that
+follows a file, as in `pv_top/specs/Words`, `IsNoCommand`, must be declared in that file. It prints each name that isn't
+found, with its page and line, and then how many it looked for.
 
     tests/names.py
 
@@ -88,6 +89,25 @@ def found(word, names):
     return is_path(word)
 
 
+def declares(path, name):
+    """Whether a file declares a name."""
+    for front in ("crates/", ""):
+        for end in (".antt", ""):
+            at = os.path.join(TOP, front + path + end)
+            if os.path.isfile(at):
+                words = r"abbrev|unfoldable|pub|record|data|fn|struct|enum|trait|const|impl"
+                return re.search(rf"(?m)^\s*(?:(?:{words})\s+)+{name}\b|^\s+{name} :", text_of(at)) is not None
+    return False
+
+
+def misplaced(line):
+    """The names that a line gives after a file, as in `FILE`, `NAME` and `NAME`, and that the file doesn't declare."""
+    for file, listed in re.findall(r"`(pv_\w+/(?:specs|src)/[\w/.]+)`((?:(?:,| and|:) `[A-Za-z]\w*`)+)", line):
+        for name in re.findall(r"`(\w+)`", listed):
+            if not declares(file, name):
+                yield f"{name} in {file}"
+
+
 def words_of(line, fenced):
     """The words of a line that must be found."""
     if fenced:
@@ -110,6 +130,9 @@ def main():
             if line.lstrip().startswith("```"):
                 fenced = not fenced
                 continue
+            for name in misplaced(line):
+                missing += 1
+                print(f"{os.path.relpath(page, TOP)}:{number}: no {name}")
             for word in words_of(line, fenced):
                 looked += 1
                 if not found(word, names):

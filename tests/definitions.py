@@ -121,7 +121,12 @@ def declared(path, name):
     text = without_comments(read(path))
     crate = path.split("/")[0]
     found = re.search(rf"(?m)^pub (?:struct|enum) {name}\b[^{{;]*[{{;(]", text)
-    body = "" if not found else text[found.start() : text.index(";", found.start())] if text[found.end() - 1] != "{" else braces(text, found.start())
+    if not found:
+        body = ""
+    elif text[found.end() - 1] == "{":
+        body = braces(text, found.start())
+    else:
+        body = text[found.start() : text.index(";", found.start())]
     for word in sorted(set(re.findall(r"\b[A-Z]\w*", body)) - {name}):
         if word in rust_uses(path):
             other = declarer(rust_uses(path)[word], word)

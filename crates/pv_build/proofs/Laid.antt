@@ -7,12 +7,13 @@ use Rattle.pv_frame.specs.declared.cause.Refused.TheVariants as refused
 use Rattle.pv_frame.specs.declared.program.Program.{Program}
 use Rattle.pv_frame.specs.declared.frame.Frame.{Frame}
 use Rattle.pv_frame.specs.Causes.{IsAccepted}
-use Rattle.pv_frame.specs.Frames.{AreFrames}
+use Rattle.pv_live.specs.Needed.{AreNeeded}
 use Rattle.pv_flow.specs.declared.block.Block.{Block}
 use Rattle.pv_flow.specs.Answers.{Answers}
 use Rattle.pv_loops.specs.declared.forest.Forest.{Forest}
 use Rattle.pv_graph.specs.Graphs.{Graph}
 use Rattle.pv_runs.specs.Methods.{IsShaped}
+use Rattle.pv_live.proofs.ListLaws.{needed_agree}
 use Rattle.pv_build.specs.Structure.{MeetsShape, IsLaidOut}
 use Rattle.pv_build.specs.Routine.{IsRoutine}
 use Rattle.pv_build.specs.Unfolded.{IsBuilt}
@@ -26,15 +27,15 @@ too_many_blocks p refused.Memory h = tt
 
 -- ---- the conversion
 
-module _ (file : ClassFile) (m : Method) (p : Program) (frames : List (Option Frame)) (blocks : List Block) (forest : Forest) (accepted : IsAccepted file m p) (well_typed : AreFrames p frames) (laid : IsLaidOut p blocks forest) where
+module _ (file : ClassFile) (m : Method) (p : Program) (frames : List (Option Frame)) (blocks : List Block) (forest : Forest) (accepted : IsAccepted file m p) (needed : AreNeeded p frames) (laid : IsLaidOut p blocks forest) where
   shaped : IsShaped file m p frames blocks forest
-  shaped = record { program = accepted.of_method; well_typed = well_typed; flow = laid.flow; loops = laid.loops; reducible = laid.reducible; shallow = laid.shallow }
+  shaped = record { program = accepted.of_method; well_typed = needed_agree p frames needed; flow = laid.flow; loops = laid.loops; reducible = laid.reducible; shallow = laid.shallow }
 
   pub is_routine : IsRoutine p frames blocks forest
   is_routine = record { file = file; method = m; shaped = shaped; few = laid.few; ordered = laid.ordered }
 
   pub is_root : (g : Graph) (r : ℕ) → IsBuilt g p frames blocks forest r → IsRootOf g r file m
-  is_root g r built = record { form = record { program = p; frames = frames; blocks = blocks; forest = forest; accepted = accepted; shaped = shaped; few = laid.few }; built = built }
+  is_root g r built = record { form = record { program = p; frames = frames; blocks = blocks; forest = forest; accepted = accepted; needed = needed; shaped = shaped; few = laid.few }; built = built }
 
 -- a method that isn't structured
 pub unstructured : (file : ClassFile) (m : Method) (p : Program) (g : Graph) (e : Refused) → IsAccepted file m p → Structures p (Err e) → Converts g file m (Err e)

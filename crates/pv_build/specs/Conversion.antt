@@ -8,6 +8,7 @@ use Rattle.pv_frame.specs.declared.cause.Refused.TheVariants as refused
 use Rattle.pv_frame.specs.declared.program.Program.{Program}
 use Rattle.pv_frame.specs.declared.frame.Frame.{Frame}
 use Rattle.pv_frame.specs.Causes.{IsAccepted, IsRefused}
+use Rattle.pv_live.specs.Needed.{AreNeeded}
 use Rattle.pv_flow.specs.declared.block.Block.{Block}
 use Rattle.pv_flow.specs.Answers.{most_blocks}
 use Rattle.pv_loops.specs.declared.forest.Forest.{Forest}
@@ -30,13 +31,14 @@ Meets file m cause = IsRefused file m cause ⊎ IsUnstructured file m cause
 
 -- ---- the root of a method
 
--- a method that isn't refused: its program, its frames, its blocks and the forest of their loops
+-- a method that isn't refused: its program, the frames that are needed, its blocks and the forest of their loops
 pub record Form (file : ClassFile) (m : Method) : Type 0 where
   pub program : Program
   pub frames : List (Option Frame)
   pub blocks : List Block
   pub forest : Forest
   pub accepted : IsAccepted file m program
+  pub needed : AreNeeded program frames
   pub shaped : IsShaped file m program frames blocks forest
   pub few : length blocks ≤ most_blocks
 

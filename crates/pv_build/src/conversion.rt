@@ -13,10 +13,12 @@ use crate::structure::{Layout, laid_out};
 use pv_class::ClassFile;
 use pv_frame::{Refused, infer};
 use pv_graph::{Graph, NodeId};
+use pv_live::needed;
 use std::alloc::Global;
 
 /// Adds the root of the method at a place of a class to an open graph, whose old nodes stand. A method
-/// that is refused has none, and the graph is as it was. After out of memory thetas may be left without kids.
+/// that is refused has none, and the graph is as it was. Nodes are made for the values that something needs: no
+/// local has one where nothing reads it again. After out of memory thetas may be left without kids.
 pub fn convert(
     alloc: Global,
     class: &ClassFile,
@@ -35,5 +37,6 @@ pub fn convert(
 {
     let typed = infer(alloc, class, method)?;
     let Layout { flow, forest } = laid_out(alloc, &typed)?;
-    Ok(build(alloc, g, &typed, &flow, &forest)?)
+    let live = needed(alloc, typed)?;
+    Ok(build(alloc, g, &live, &flow, &forest)?)
 }

@@ -140,12 +140,29 @@ pub data Runs (w : World) (x : Input) (f : Flow) (k : Kind) (τ : ℕ → Val) :
 abbrev pub Starts : World → Input → Flow → (ℕ → Val) → Type 0
 Starts w x f σ = (s : ℕ) → strict w x (f.start s) [] ≡ Some (σ s)
 
+-- a run that is at b with the slots σ leaves it
+abbrev pub Left : World → Input → Flow → ℕ → (ℕ → Val) → Type 0
+Left w x f b σ = (e : Exit) × (τ : ℕ → Val) × Steps w x f b σ e τ
+
+-- the exit ends the method
+abbrev pub Ends : Exit → Type 0
+Ends e = (k : Kind) × (e.dest ≡ End k)
+
+-- the test is false
+abbrev pub Fails : World → Input → (ℕ → Val) → Part → Type 0
+Fails w x σ t = (u : Val) × PartIs w x σ t u × (truth u ≡ Some false)
+
+-- no exit has a token, but for one that ends the method where its test is false; and the last one ends the method
+abbrev pub Waits : World → Input → (ℕ → Val) → Chain → Type 0
+Waits w x σ (Leave e) = Ends e × ((u : Val) → PartIs w x σ (e.slots 0) u → ⊥)
+Waits w x σ (Test t e rest) = ((u : Val) → PartIs w x σ (e.slots 0) u → Ends e × Fails w x σ t) × Waits w x σ rest
+
 -- what is promised of well-typed states, where Typed says which slots at a block are well typed
 pub record Runnable (w : World) (x : Input) (f : Flow) (Typed : ℕ → (ℕ → Val) → Type 0) : Type 0 where
   -- the arguments of a call have values
   pub args : (b : ℕ) (σ : ℕ → Val) (e : Exit) (s : Sym) (ps : Parts) → Typed b σ → InChain (f.chain b) e → e.slots 0 ≡ call_token s ps → (us : List Val) × PartsAre w x σ ps us
-  -- where the token at some exit has a value, the block is left
-  pub moves : (b : ℕ) (σ : ℕ → Val) (e : Exit) (u : Val) → Typed b σ → InChain (f.chain b) e → PartIs w x σ (e.slots 0) u → (d : Exit) × (τ : ℕ → Val) × Steps w x f b σ d τ
+  -- the block is left, or it waits for a call that doesn't end
+  pub moves : (b : ℕ) (σ : ℕ → Val) → Typed b σ → Left w x f b σ ⊎ Waits w x σ (f.chain b)
   -- the next state is well typed
   pub stays : (b m : ℕ) (σ τ : ℕ → Val) (e : Exit) → Typed b σ → Steps w x f b σ e τ → e.dest ≡ To m → Typed m τ
 

@@ -30,6 +30,7 @@ writes_heap (act.PutStatic t f) = true
 writes_heap (act.PutField t f) = true
 writes_heap (act.StoreElement k) = true
 writes_heap (act.Call d f) = true
+writes_heap (act.CallOn d f) = true
 writes_heap a = false
 
 -- the action changes the slot, which is the heap or a local

@@ -95,6 +95,10 @@ given_chain t h cells = None
 abbrev pub fault_part : Sym → Held → List Cell → Part
 fault_part f h cells = Of (op.CallFault f) refl (call_parts h cells)
 
+-- a callee's fault is thrown after the call, and else it goes on
+abbrev pub unless_thrown : Sym → Held → List Cell → Exit → Chain
+unless_thrown f h cells next = flow.Test (Of op.IsClear refl (More (fault_part f h cells) NoPart)) next (Leave (throw (fault_part f h cells) (after_call h f cells)))
+
 -- null throws, and else it goes on
 abbrev pub unless_null : Part → Held → Exit → Chain
 unless_null o h next = flow.Test (aeq o null_part) (throw (Of op.FNull refl NoPart) h) (Leave next)
@@ -117,7 +121,8 @@ chain_with result (act.PutField t f) h (o ∷ x ∷ []) next = Some (unless_null
 chain_with result act.Length h (a ∷ []) next = Some (unless_null a.part h next)
 chain_with result (act.LoadElement k) h (a ∷ i ∷ []) next = Some (within a.part i.part h next)
 chain_with result (act.StoreElement k) h (a ∷ i ∷ x ∷ []) next = Some (within a.part i.part h next)
-chain_with result (act.Call d f) h cells next = Some (flow.Test (Of op.IsClear refl (More (fault_part f h cells) NoPart)) next (Leave (throw (fault_part f h cells) (after_call h f cells))))
+chain_with result (act.Call d f) h cells next = Some (unless_thrown f h cells next)
+chain_with result (act.CallOn d f) h (o ∷ cells) next = Some (flow.Test (aeq o.part null_part) (throw (Of op.FNull refl NoPart) h) (unless_thrown f h (o ∷ cells) next))
 chain_with result act.Nop h cells next = Some (Leave next)
 chain_with result (act.Push n) h cells next = Some (Leave next)
 chain_with result (act.Literal text) h cells next = Some (Leave next)

@@ -166,6 +166,7 @@ acted_on (act.LoadElement k) h cells = Some (push h (sort_of_kind k) (Of (op.Loa
 acted_on (act.StoreElement k) h cells = Some (record h { heap = Of (op.Store k) refl (More h.heap (parts_of cells)) })
 acted_on act.Length h cells = Some (push h sort.Int (Of op.Length refl (parts_of cells)))
 acted_on (act.Call d f) h cells = Some (with_result h f cells d.result)
+acted_on (act.CallOn d f) h cells = Some (with_result h f cells d.result)
 acted_on a h cells = None
 
 abbrev pub acted : Action → Held → Option Held

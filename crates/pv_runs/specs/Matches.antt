@@ -8,7 +8,9 @@ use Rattle.pv_value.specs.declared.world.World.{World}
 use Rattle.pv_value.specs.declared.outcome.Input.{Input}
 use Rattle.pv_value.specs.declared.outcome.Val.{Val}
 use Rattle.pv_value.specs.declared.outcome.Val.TheVariants as val
+use Rattle.pv_value.specs.declared.descriptor.Descriptor.{Descriptor}
 use Rattle.pv_value.specs.Descriptors.{IsMethodType}
+use Rattle.pv_value.specs.Receivers.{with_receiver}
 use Rattle.pv_value.specs.Operations as operation
 use Rattle.pv_value.specs.Spelled.{field_type}
 use Rattle.pv_frame.specs.declared.sort.Sort.TheVariants as sort
@@ -48,7 +50,7 @@ module _ (w : World) (x : Input) (σ : ℕ → Val) where
     pub heap : PartIs w x σ h.heap (val.Heap s.heap)
     pub token : PartIs w x σ h.token val.Unit
 
--- what an action of a program says of itself: no int is pushed that is out of range, and no reference but null; a division has two operands of the word of its value, and fields and callees are typed by their descriptors, without floats and doubles
+-- what an action of a program says of itself: no int is pushed that is out of range, and no reference but null; a division has two operands of the word of its value, fields and callees are typed by their descriptors, without floats and doubles, and a receiver is a parameter
 abbrev pub IsClean : Action → Type 0
 IsClean (act.Push (num.Int n)) = FitsSigned w32 n
 IsClean (act.Push (num.Ref r)) = r ≡ 0
@@ -58,6 +60,7 @@ IsClean (act.PutStatic t f) = IsFloatless t × (field_type f.desc ≡ Some t)
 IsClean (act.GetField t f) = IsFloatless t × (field_type f.desc ≡ Some t)
 IsClean (act.PutField t f) = IsFloatless t × (field_type f.desc ≡ Some t)
 IsClean (act.Call d f) = IsMethodType f.desc d
+IsClean (act.CallOn d f) = IsMethodType f.desc d × ((e : Descriptor) × (d ≡ with_receiver e))
 IsClean a = Unit {0}
 
 -- a return gives a value of the sort of the method's result

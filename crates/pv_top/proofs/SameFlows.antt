@@ -50,23 +50,6 @@ same_flow f g a = λ i. record {
   start_plain = λ s. is_prop→PathP (λ j. shape (a.start s j) ≡ plain) (λ j. shape_set (shape (a.start s j)) plain) (f.start_plain s) (g.start_plain s) i;
 }
 
-pub same_equations : (f g : Flow) (v : Values) → AreAlike f g → AreEquations f v → AreEquations g v
-same_equations f g v a = subst (λ (k : Flow). AreEquations k v) (same_flow f g a)
-
-pub same_form : (f g : Flow) (v : Values) (e : Exp) → AreAlike f g → form_of f v e ≡ form_of g v e
-same_form f g v e a = ap (λ (k : Flow). form_of k v e) (same_flow f g a)
-
-pub same_unfolding : {N : Type 0} (view : N → Option (Form N)) (f g : Flow) (v : Values) (n : N) (e : Exp) → AreAlike f g → UnfoldsAs view (form_of f v) n e ↔ UnfoldsAs view (form_of g v) n e
-same_unfolding view f g v n e a =
-    let same = same_flow f g a in
-    (subst (λ (k : Flow). UnfoldsAs view (form_of k v) n e) same, subst (λ (k : Flow). UnfoldsAs view (form_of k v) n e) (sym same))
-
-pub same_root : (f g : Flow) (v : Values) (d : Exp) → AreAlike f g → root_of f v d ≡ root_of g v d
-same_root f g v d a = ap (λ (k : Flow). root_of k v d) (same_flow f g a)
-
-pub same_unfolded : (g : Graph) (f k : Flow) (result : Option JType) (r : ℕ) → AreAlike f k → IsUnfolded g f result r → IsUnfolded g k result r
-same_unfolded g f k result r a = subst (λ (h : Flow). IsUnfolded g h result r) (same_flow f k a)
-
 -- ---- the loops of one method, in two forests
 
 -- no loop at a place of either list, or one loop at that of both

@@ -7,9 +7,9 @@ use Rattle.pv_class.specs.declared.file.Method.{Method}
 use Rattle.pv_class.proofs.CodeBytes.{HasBytes}
 use Rattle.pv_frame.specs.declared.program.Program.{Program}
 use Rattle.pv_frame.specs.declared.frame.Frame.{Frame}
-use Rattle.pv_frame.specs.Frames.{IsInferred}
+use Rattle.pv_live.specs.Needed.{AreNeeded}
 use Rattle.pv_frame.proofs.CauseLaws.{one_program}
-use Rattle.pv_frame.proofs.Inferred.{inferred_once}
+use Rattle.pv_live.proofs.ListLaws.{needed_once}
 use Rattle.pv_flow.specs.declared.block.Block.{Block}
 use Rattle.pv_flow.specs.Blocks.{IsFlow}
 use Rattle.pv_flow.specs.Edges.{edges_of}
@@ -40,7 +40,7 @@ module _ (file : ClassFile) (m : Method) (a b : Form file m) (bytes : HasBytes m
   one_program_ = one_program file m a.program b.program bytes a.accepted.of_method b.accepted.of_method
 
   one_frames : a.frames ≡ b.frames
-  one_frames = inferred_once b.program a.frames b.frames (subst (λ (p : Program). IsInferred p a.frames) one_program_ a.shaped.inferred) b.shaped.inferred
+  one_frames = needed_once b.program a.frames b.frames (subst (λ (p : Program). AreNeeded p a.frames) one_program_ a.needed) b.needed
 
   one_blocks : a.blocks ≡ b.blocks
   one_blocks = one_flow b.program a.blocks b.blocks (subst (λ (p : Program). IsFlow p a.blocks) one_program_ a.shaped.flow) b.shaped.flow

@@ -1,7 +1,8 @@
 #!/usr/bin/env python3
 """Runs the built program on every class file of a JDK against itself.
 
-It works on the program that `cd crates/punthizha && rt run` leaves. The class files are extracted from
+It works on the program that `cd crates/punthizha && rt run` leaves, or on the one that the environment
+variable PUNTHIZHA names. The class files are extracted from
 the JDK's image with `jimage`. For each of major version 45 to 69 the status must be 0 or 1, with a line
 for each method, in the order of the file; the methods are counted by a reader of its own. It prints how
 many lines say what, without places. No method of the JDK may be `types` or `code`.
@@ -20,7 +21,7 @@ from collections import Counter
 from concurrent.futures import ThreadPoolExecutor
 
 TOP = os.path.dirname(os.path.dirname(os.path.abspath(__file__)))
-PROGRAM = os.path.join(TOP, "crates", "punthizha", "out", "punthizha")
+PROGRAM = os.environ.get("PUNTHIZHA") or os.path.join(TOP, "crates", "punthizha", "out", "punthizha")
 SIZES = {3: 4, 4: 4, 5: 8, 6: 8, 7: 2, 8: 2, 9: 4, 10: 4, 11: 4, 12: 4, 15: 3, 16: 2, 17: 4, 18: 4, 19: 2, 20: 2}
 
 

@@ -1,9 +1,11 @@
 #!/bin/sh
 # Runs the built program over real files and standard output, and compares statuses and text.
-# It works on the program that `cd crates/punthizha && rt run` leaves.
+# It works on the program that `cd crates/punthizha && rt run` leaves, or on the one that the environment variable
+# PUNTHIZHA names. Last it runs tools/jars.sh on JARs that the JDK's `jar` makes; that part is left out where there is no
+# `jar` or no `unzip`.
 set -u
 top=$(cd "$(dirname "$0")/.." && pwd)
-program=$top/crates/punthizha/out/punthizha
+program=${PUNTHIZHA:-$top/crates/punthizha/out/punthizha}
 class=$top/crates/punthizha/data/A
 [ -x "$program" ] || { echo "no program: run 'cd crates/punthizha && rt run' first"; exit 2; }
 work=$(mktemp -d) || exit 2
@@ -89,4 +91,60 @@ for case in closed full; do
     failed=1
   fi
 done
+
+# jars NAME STATUS TEXT WORD..: what tools/jars.sh says, in the folder of the JARs
+jars() {
+  name=$1 status=$2 text=$3
+  shift 3
+  said=$(cd "$work" && PUNTHIZHA=$program sh "$top/tools/jars.sh" "$@" 2>/dev/null; echo "status $?")
+  want=$(printf '%sstatus %s' "$text" "$status")
+  if [ "$said" = "$want" ]; then
+    echo "ok      $name"
+  else
+    echo "FAILED  $name: said '$said', wanted '$want'"
+    failed=1
+  fi
+}
+
+if command -v jar >/dev/null && command -v unzip >/dev/null; then
+  # Two JARs with a name with a blank, an inner class, a class of a version, one that returns 2 and not 1, one that is
+  # cut, and one that each has alone.
+  mkdir -p "$work/one/p/a b" "$work/one/META-INF/versions/9/p"
+  for file in 'p/a b/A' 'p/A' 'p/A$B' 'p/Cut' 'META-INF/versions/9/p/A'; do
+    cp "$class" "$work/one/$file.class"
+  done
+  cp -r "$work/one" "$work/two"
+  cp "$class" "$work/one/p/Old.class"
+  cp "$class" "$work/two/p/New.class"
+  LC_ALL=C sed "$(printf 's/\004\254/\005\254/')" "$class" >"$work/two/p/A\$B.class"
+  jar cf "$work/a.jar" -C "$work/one" .
+  jar cf "$work/b [1].jar" -C "$work/two" .
+  head -c 50 "$class" >"$work/two/p/Cut.class"
+  jar cf "$work/cut.jar" -C "$work/two" .
+
+  different='p/A$B.class: f ()I unknown apart
+p/Old.class: only in the first JAR
+p/New.class: only in the second JAR
+classes: 5 in both, 1 only in the first, 1 only in the second, 0 bad, 0 failed
+methods: 4 equivalent, 1 unknown, 0 refused, 0 missing, 0 without code
+'
+  jars 'a JAR against itself' 0 'classes: 6 in both, 0 only in the first, 0 only in the second, 0 bad, 0 failed
+methods: 6 equivalent, 0 unknown, 0 refused, 0 missing, 0 without code
+' a.jar a.jar
+  jars 'two JARs that differ' 1 "$different" a.jar 'b [1].jar'
+  jars 'some kinds are allowed' 1 "$different" --allow unknown --allow only-first a.jar 'b [1].jar'
+  jars 'all that differs is allowed' 0 "$different" --allow unknown --allow only-first --allow only-second a.jar 'b [1].jar'
+  jars 'a JAR with a class that is cut' 2 'p/A$B.class: f ()I unknown apart
+p/Cut.class: bad class second truncated at 50
+p/Old.class: only in the first JAR
+p/New.class: only in the second JAR
+classes: 5 in both, 1 only in the first, 1 only in the second, 1 bad, 0 failed
+methods: 3 equivalent, 1 unknown, 0 refused, 0 missing, 0 without code
+' a.jar cut.jar
+  jars 'a file that is no JAR' 2 '' a.jar A
+  jars 'no such kind' 2 '' --allow all a.jar a.jar
+  jars 'a JAR too few' 2 '' a.jar
+else
+  echo 'left out  JARs: no jar or no unzip'
+fi
 exit $failed

@@ -7,6 +7,7 @@ use Rattle.pv_value.specs.declared.outcome.Input.{Input}
 use Rattle.pv_value.specs.declared.outcome.Outcome.{Outcome}
 use Rattle.pv_value.specs.declared.outcome.Val.{Val}
 use Rattle.pv_value.specs.declared.name.Sym.{Sym}
+use Rattle.pv_value.specs.declared.descriptor.Descriptor.{Descriptor}
 use Rattle.pv_value.specs.Worlds.{IsWorld}
 use Rattle.pv_pool.specs.Readers.{◌>>=◌}
 use Rattle.pv_frame.specs.declared.sort.Sort.{Sort}
@@ -56,7 +57,7 @@ sound_of (act.PutStatic t f) c = c.0
 sound_of (act.GetField t f) c = c.0
 sound_of (act.PutField t f) c = c.0
 sound_of (act.Call d f) c = c
-sound_of (act.CallOn d f) c = c
+sound_of (act.CallOn d f) c = (c.0, (c.1.0.params, ap (λ (d : Descriptor). d.params) c.1.1))
 sound_of a c = tt
 
 none_after : (o : Taken Sort) (y : Frame) → (o >>= λ q. None) ≡ Some y → ⊥

@@ -27,7 +27,7 @@ use Rattle.pv_machine.specs.Machine.{State, called}
 use Rattle.pv_machine.proofs.Values.{of_sort_type}
 use Rattle.pv_graph.specs.declared.node.Op.TheVariants as op
 use Rattle.pv_denote.specs.Denote.{strict, numbers, reply_result, end_part, result_part, fault_part as fault_of_reply, heap_part, over_call}
-use Rattle.pv_equations.specs.Flow.{Part, Parts, Slot, Of, NoPart, More, call_token, PartIs, PartsAre, Chain, Leave, Waits}
+use Rattle.pv_equations.specs.Flow.{Part, Of, NoPart, More, call_token, PartIs, PartsAre, Throw, Chain, Leave, Waits}
 use Rattle.pv_runs.specs.Held.{Cell, Held, call_parts, after_call, with_result}
 use Rattle.pv_runs.specs.Matches.{StackIs}
 use Rattle.pv_runs.specs.Chains.{to, throw, fault_part, unless_thrown}
@@ -90,7 +90,7 @@ module _ (p : Program) (w : World) (x : Input) (σ : ℕ → Val) (world : IsWor
   chain r = unless_thrown f h cells (to (suc s.at) (with_result h f cells r))
 
   waiting : (r : Option JType) → worlds.reply w f s.heap nums ≡ None → Waits w x σ (chain r)
-  waiting r n = ((λ u t. absurd (no_token n u (subst (λ (q : Part). PartIs w x σ q u) (next_token r) t))), (λ u t. no_token n u t))
+  waiting r n = ((λ u t. absurd (no_token n u (subst (λ (q : Part). PartIs w x σ q u) (next_token r) t))), ((Throw, refl), (λ u t. no_token n u t)))
 
   fault_part_is : (o : Outcome) (e : Fault) → worlds.reply w f s.heap nums ≡ Some o → fault_of_reply (Some o) s.heap ≡ Some (val.Fault e) → PartIs w x σ (fault_part f h cells) (val.Fault e)
   fault_part_is o e r z = (val.Heap s.heap ∷ numbers_of nums, args, fault_is (Some o) r ∙ z)

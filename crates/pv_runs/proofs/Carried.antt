@@ -120,7 +120,7 @@ ends_numbered : (blocks : List Block) (e : Exit) → Ends e → Ends (numbered_e
 ends_numbered blocks e (k, is) = (k, ap (numbered_dest blocks) is)
 
 waits_numbered : (w : World) (x : Input) (σ : ℕ → Val) (blocks : List Block) (c : Chain) → Waits w x σ c → Waits w x σ (numbered blocks c)
-waits_numbered w x σ blocks (Leave e) h = h
+waits_numbered w x σ blocks (Leave e) h = (ends_numbered blocks e h.0, h.1)
 waits_numbered w x σ blocks (flows.Test t e c) h = ((λ u i. let z = h.0 u i in (ends_numbered blocks e z.0, z.1)), waits_numbered w x σ blocks c h.1)
 
 -- ---- what a block does

@@ -1,7 +1,7 @@
 -- The actions of a program are clean.
 use Rattle.std.proofs.Common.{◌≡◌, ℕ, zero, suc, ◌+◌, true, false, List, [], ◌∷◌, Option, Some, None, refl, sym, subst, inl, inr, lit<, lit≤}
 use Rattle.std.specs.Int.{w8, w16, w32}
-use Rattle.std.specs.Prelude.{◌==◌, ◌||◌, ◌⊎◌, FitsSigned, option_map, if◌then◌else◌, slice_get}
+use Rattle.std.specs.Prelude.{◌==◌, ◌||◌, FitsSigned, option_map, if◌then◌else◌, slice_get}
 use Rattle.std.specs.List.{AllZip, AllByRecursion}
 use Rattle.pv_value.specs.declared.name.Sym.{Sym}
 use Rattle.pv_value.specs.declared.descriptor.JType.{JType}
@@ -127,6 +127,7 @@ opcode_fits raws from at i o (Some form.Local) r rest b l = subst FitsInsn (sym 
 opcode_fits raws from at i o (Some form.Increment) r rest b l = subst FitsInsn (sym (resolves_as raws from i r _ b.is l)) tt
 opcode_fits raws from at i o (Some form.Index1) r rest b l = subst FitsInsn (sym (resolves_as raws from i r _ b.is l)) tt
 opcode_fits raws from at i o (Some form.Index2) r rest b l = subst FitsInsn (sym (resolves_as raws from i r _ b.is l)) tt
+opcode_fits raws from at i o (Some form.IndexAndShort) r rest b l = subst FitsInsn (sym (resolves_as raws from i r _ b.is l)) tt
 opcode_fits raws from at i o (Some form.Branch2) r rest b l = subst FitsInsn (sym (resolves_as raws from i r _ b.is l).2) tt
 opcode_fits raws from at i o (Some form.Branch4) r rest b l = subst FitsInsn (sym (resolves_as raws from i r _ b.is l).2) tt
 opcode_fits raws from at i o (Some form.Table) r rest (inl b) l = subst FitsInsn (sym (resolves_as raws from i r _ b.is l).is) tt

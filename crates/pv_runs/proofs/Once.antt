@@ -35,8 +35,8 @@ module _ (w : World) (x : Input) (σ : ℕ → Val) where
 
   -- where a block waits for a call, no exit with a token is chosen
   pub waits_on : (c : Chain) (e : Exit) (v : Val) → Waits w x σ c → Chooses w x σ c e → PartIs w x σ (e.slots 0) v → ⊥
-  waits_on (Leave d) e v h ch i = h v (subst (λ (e : Exit). PartIs w x σ (e.slots 0) v) (sym ch) i)
-  waits_on (Test t d c) e v h (u, is, inl (yes, same)) i =
+  waits_on (Leave d) e v h ch i = h.1 v (subst (λ (e : Exit). PartIs w x σ (e.slots 0) v) (sym ch) i)
+  waits_on (Test t d c) e v h (u, is, inl (holds, same)) i =
       let fails = (h.0 v (subst (λ (e : Exit). PartIs w x σ (e.slots 0) v) (sym same) i)).1 in
       let one = ap truth (part_once t u fails.0 is fails.1) in
       absurd (let f = fails.2 in cc)

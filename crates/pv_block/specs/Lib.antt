@@ -3,7 +3,6 @@ pub mod Standing
 pub mod Sorted
 pub mod Plain
 pub mod Ran
-
 -- the vocabulary of private functions
 pub mod Cells
 pub mod Acting

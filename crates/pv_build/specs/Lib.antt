@@ -3,7 +3,6 @@ pub mod Structure
 pub mod Unfolded
 pub mod Conversion
 pub mod Reasons
-
 -- the vocabulary of private functions
 pub mod Routine
 pub mod Arranged

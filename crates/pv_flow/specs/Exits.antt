@@ -38,8 +38,8 @@ branched true target next = Goes next ∷ Goes target ∷ []
 
 -- The exits of the instruction at place k. Each but the last is that of yes of a test, and the last is that of no of the last test:
 -- a switch asks for each key in turn; a division whether the divisor is 0; an access whether the reference is null, then, to an
--- element, whether the index is negative, and whether it is less than the length; a call whether it threw nothing; a throw
--- whether the reference is null (JVMS 6.5).
+-- element, whether the index is negative, and whether it is less than the length; a call whether it threw nothing; a call on a
+-- receiver whether that is null, and then whether the callee threw nothing; a throw whether the reference is null (JVMS 6.5).
 abbrev pub departures : ℕ → Action → List Departure
 departures k (act.Branch t target) = branched (branches_on_no t) target (suc k)
 departures k (act.Jump target) = Goes target ∷ []
@@ -53,6 +53,7 @@ departures k act.Length = Throws ∷ Goes (suc k) ∷ []
 departures k (act.LoadElement e) = Throws ∷ Throws ∷ Goes (suc k) ∷ Throws ∷ []
 departures k (act.StoreElement e) = Throws ∷ Throws ∷ Goes (suc k) ∷ Throws ∷ []
 departures k (act.Call d s) = Goes (suc k) ∷ Throws ∷ []
+departures k (act.CallOn d s) = Throws ∷ Goes (suc k) ∷ Throws ∷ []
 departures k _ = Goes (suc k) ∷ []
 
 -- the instruction branches, ends the method or can throw
@@ -69,6 +70,7 @@ ends_block act.Length = true
 ends_block (act.LoadElement e) = true
 ends_block (act.StoreElement e) = true
 ends_block (act.Call d s) = true
+ends_block (act.CallOn d s) = true
 ends_block _ = false
 
 -- the places that a branch or a switch names

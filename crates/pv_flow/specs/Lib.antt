@@ -4,6 +4,5 @@ pub mod Blocks
 pub mod Answers
 pub mod Edges
 pub mod Laws
-
 -- the vocabulary of private functions
 pub mod Finding

@@ -24,7 +24,8 @@ fn ends_block(action: &Action) -> bool
         | Action::Length
         | Action::LoadElement(_)
         | Action::StoreElement(_)
-        | Action::Call(_, _) => true,
+        | Action::Call(_, _)
+        | Action::CallOn(_, _) => true,
         Action::Nop
         | Action::Push(_)
         | Action::Literal(_)

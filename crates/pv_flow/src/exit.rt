@@ -99,6 +99,7 @@ pub(crate) fn exits(
             [Exit::Throw, Exit::Throw, next, Exit::Throw].to_vec(alloc)
         }
         Action::Call(_, _) => [to(numbers, place + 1), Exit::Throw].to_vec(alloc),
+        Action::CallOn(_, _) => { [Exit::Throw, to(numbers, place + 1), Exit::Throw].to_vec(alloc) }
         Action::Nop
         | Action::Push(_)
         | Action::Literal(_)

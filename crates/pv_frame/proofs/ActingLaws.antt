@@ -9,18 +9,21 @@ use Rattle.pv_value.specs.declared.name.Sym.{Sym}
 use Rattle.pv_value.specs.declared.descriptor.JType.{JType}
 use Rattle.pv_value.specs.declared.descriptor.Descriptor.{Descriptor}
 use Rattle.pv_value.specs.Descriptors.{IsFieldType, IsMethodType}
-use Rattle.pv_value.proofs.Once.{field_type_once, method_type_once}
+use Rattle.pv_value.specs.declared.receiver.Form.{Form}
+use Rattle.pv_value.proofs.Once.{field_type_once}
 use Rattle.pv_pool.specs.declared.constant.Member.{Member}
 use Rattle.pv_insn.specs.declared.insn.Case.{Case}
 use Rattle.pv_frame.specs.declared.action.Action.{Action}
 use Rattle.pv_frame.specs.declared.cause.CauseKind.TheVariants as kind
 use Rattle.pv_frame.specs.declared.stop.Stop.{Stop}
 use Rattle.pv_frame.specs.declared.stop.Stop.TheVariants as stop
-use Rattle.pv_frame.specs.Actions.{cases_from, row_of, field_rows, IsFloatless, IsFloatlessMethod}
-use Rattle.pv_frame.specs.Causes.{HasFloatType, AccessesFields, IsField, IsStatic}
+use Rattle.pv_frame.specs.declared.used.Use.TheVariants as used
+use Rattle.pv_frame.specs.Actions.{cases_from, row_of, field_rows, form_rows, MayName, IsFloatless, IsFloatlessMethod}
+use Rattle.pv_frame.specs.Causes.{HasFloatType, NamesWell}
 use Rattle.pv_frame.specs.Acting.{IsAccessOr}
-use Rattle.pv_frame.proofs.ActionLaws.{apart}
+use Rattle.pv_frame.proofs.ActionLaws.{apart, no_float_method, not_static}
 use Rattle.pv_frame.proofs.Complete.{field_row}
+use Rattle.pv_frame.proofs.FrameLaws.{some_of, no_some}
 
 -- ---- the cases of a tableswitch
 
@@ -85,36 +88,44 @@ is_some_at None x e = absurd (cc)
 -- ---- members
 
 abbrev pub NamesBadly : ℕ → Member → Type 0
-NamesBadly opcode m = (HasFloatType m.sym.desc → ⊥) × ((AccessesFields opcode × IsField m) ⊎ ((opcode ≡ 184) × IsStatic m) → ⊥)
+NamesBadly opcode m = (HasFloatType m.sym.desc → ⊥) × (NamesWell opcode (used.Member m) → ⊥)
 
 no_float_field : (text : List ℕ) (t : JType) → IsFieldType text t → IsFloatless t → HasFloatType text → ⊥
 no_float_field text t typed floatless (inl (u, is, float)) = float (subst IsFloatless (field_type_once text t u typed is) floatless)
 no_float_field text t typed floatless (inr (d, is, float)) = apart text t d typed is
 
-no_float_method : (text : List ℕ) (d : Descriptor) → IsMethodType text d → IsFloatlessMethod d → HasFloatType text → ⊥
-no_float_method text d typed floatless (inl (t, is, float)) = apart text t d is typed
-no_float_method text d typed floatless (inr (e, is, float)) = float (subst IsFloatlessMethod (method_type_once text d e typed is) floatless)
-
 pub bad_tag : (opcode : ℕ) (m : Member) (t : JType) → IsFieldType m.sym.desc t → IsFloatless t → m.kind ≢ 9 → NamesBadly opcode m
 bad_tag opcode m t typed floatless other = (no_float_field m.sym.desc t typed floatless, named)
   where
-    named : (AccessesFields opcode × IsField m) ⊎ ((opcode ≡ 184) × IsStatic m) → ⊥
+    named : NamesWell opcode (used.Member m) → ⊥
     named (inl (a, (tag, b))) = other tag
-    named (inr (a, (tag, (d, is)))) = apart m.sym.desc t d typed is
+    named (inr (inl (a, (tag, (d, is))))) = apart m.sym.desc t d typed is
+    named (inr (inr n)) = apart m.sym.desc t n.method.1.0 typed n.method.1.1
 
 bad_access : (opcode : ℕ) (m : Member) (t : JType) → IsFieldType m.sym.desc t → IsFloatless t → row_of field_rows opcode ≡ None → NamesBadly opcode m
 bad_access opcode m t typed floatless none = (no_float_field m.sym.desc t typed floatless, named)
   where
-    named : (AccessesFields opcode × IsField m) ⊎ ((opcode ≡ 184) × IsStatic m) → ⊥
+    named : NamesWell opcode (used.Member m) → ⊥
     named (inl (a, b)) = let row = (field_row opcode a).1 in cc
-    named (inr (a, (tag, (d, is)))) = apart m.sym.desc t d typed is
+    named (inr (inl (a, (tag, (d, is))))) = apart m.sym.desc t d typed is
+    named (inr (inr n)) = apart m.sym.desc t n.method.1.0 typed n.method.1.1
 
-pub bad_call : (opcode : ℕ) (m : Member) (d : Descriptor) → IsMethodType m.sym.desc d → IsFloatlessMethod d → ((opcode ≡ 184) × ((m.kind ≡ 10) ⊎ (m.kind ≡ 11)) → ⊥) → NamesBadly opcode m
-bad_call opcode m d typed floatless other = (no_float_method m.sym.desc d typed floatless, named)
+pub bad_call : (opcode : ℕ) (m : Member) (d : Descriptor) → IsMethodType m.sym.desc d → IsFloatlessMethod d → row_of form_rows opcode ≡ None → ((opcode ≡ 184) × ((m.kind ≡ 10) ⊎ (m.kind ≡ 11)) → ⊥) → NamesBadly opcode m
+bad_call opcode m d typed floatless none other = (no_float_method m.sym.desc d typed floatless, named)
   where
-    named : (AccessesFields opcode × IsField m) ⊎ ((opcode ≡ 184) × IsStatic m) → ⊥
+    named : NamesWell opcode (used.Member m) → ⊥
     named (inl (a, (tag, (t, is)))) = apart m.sym.desc t d is typed
-    named (inr (a, (tag, b))) = other (a, tag)
+    named (inr (inl (a, (tag, b)))) = other (a, tag)
+    named (inr (inr n)) = no_some n.form (sym none ∙ n.row)
+
+-- a call on a receiver that may not name the member
+pub bad_call_on : (opcode : ℕ) (form : Form) (m : Member) (d : Descriptor) → row_of form_rows opcode ≡ Some form → IsMethodType m.sym.desc d → IsFloatlessMethod d → (MayName form m.kind → ⊥) → NamesBadly opcode m
+bad_call_on opcode form m d row typed floatless other = (no_float_method m.sym.desc d typed floatless, named)
+  where
+    named : NamesWell opcode (used.Member m) → ⊥
+    named (inl (a, (tag, (t, is)))) = apart m.sym.desc t d is typed
+    named (inr (inl (a, (tag, b)))) = not_static opcode form row a
+    named (inr (inr n)) = other (subst (λ (f : Form). MayName f m.kind) (some_of _ _ (sym n.row ∙ row)) n.method.0)
 
 pub bad_text : (opcode : ℕ) (m : Member) → ((t : JType) → IsFieldType m.sym.desc t → ⊥) → ((d : Descriptor) → IsMethodType m.sym.desc d → ⊥) → NamesBadly opcode m
 bad_text opcode m no_field no_method = (float, named)
@@ -123,9 +134,10 @@ bad_text opcode m no_field no_method = (float, named)
     float (inl (t, is, h)) = no_field t is
     float (inr (d, is, h)) = no_method d is
 
-    named : (AccessesFields opcode × IsField m) ⊎ ((opcode ≡ 184) × IsStatic m) → ⊥
+    named : NamesWell opcode (used.Member m) → ⊥
     named (inl (a, (tag, (t, is)))) = no_field t is
-    named (inr (a, (tag, (d, is)))) = no_method d is
+    named (inr (inl (a, (tag, (d, is))))) = no_method d is
+    named (inr (inr n)) = no_method n.method.1.0 n.method.1.1
 
 pub field_answer : (opcode : ℕ) (m : Member) (t : JType) → IsFieldType m.sym.desc t → IsFloatless t → m.kind ≡ 9 → (r : Result Action Stop) → r ≡ ok_or (option_map (λ (access : JType → Sym → Action). access t m.sym) (row_of field_rows opcode)) (stop.Cause kind.Code) → IsAccessOr opcode m r
 field_answer opcode m t typed floatless tag r is =

@@ -1,6 +1,6 @@
 -- An instruction with a use does one thing, and has then no cause; a method has one program.
 use Rattle.std.proofs.Common.{◌≡◌, ℕ, ◌≤◌, true, false, refl, List, [], ◌∷◌, Some, ◌∙◌, ap, sym, subst, inl, inr, arith, lit≤}
-use Rattle.std.specs.Prelude.{◌⊎◌, ◌==◌, if◌then◌else◌}
+use Rattle.std.specs.Prelude.{◌==◌, if◌then◌else◌}
 use Rattle.std.specs.List.{AllZip, AllByRecursion}
 use Rattle.std.proofs.lemmas.Bool.{eqb-true}
 use Rattle.pv_value.specs.declared.name.Sym.{Sym}
@@ -8,6 +8,9 @@ use Rattle.pv_value.specs.declared.descriptor.JType.{JType}
 use Rattle.pv_value.specs.declared.descriptor.Descriptor.{Descriptor}
 use Rattle.pv_value.specs.declared.descriptor.JType.TheVariants.{Z, B, C, S, I, J, F, D, A}
 use Rattle.pv_value.specs.Descriptors.{IsLetter, IsFieldType, IsMethodType}
+use Rattle.pv_value.specs.declared.receiver.Form.{Form}
+use Rattle.pv_value.specs.declared.receiver.Form.TheVariants.{Virtual, Special, Interface}
+use Rattle.pv_value.specs.Receivers.{receiver_sym, with_receiver}
 use Rattle.pv_value.proofs.Once.{field_type_once, method_type_once}
 use Rattle.pv_pool.specs.declared.entry.Entry.{Entry}
 use Rattle.pv_pool.specs.declared.constant.Constant.{Constant}
@@ -22,7 +25,7 @@ use Rattle.pv_frame.specs.declared.cause.CauseKind.{CauseKind}
 use Rattle.pv_frame.specs.declared.cause.CauseKind.TheVariants as kind
 use Rattle.pv_frame.specs.declared.action.Action.{Action}
 use Rattle.pv_frame.specs.declared.action.Action.TheVariants as act
-use Rattle.pv_frame.specs.Actions.{field_rows, row_of, IsUse, IsFloatless, IsFloatlessMethod, LoadsConstant, AccessesField, CallsStatic, ActsWith, Acts}
+use Rattle.pv_frame.specs.Actions.{field_rows, form_rows, row_of, IsUse, IsFloatless, IsFloatlessMethod, LoadsConstant, MayName, AccessesField, CallsStatic, CallsOn, UsesMember, ActsWith, Acts}
 use Rattle.pv_frame.specs.Programs.{Does}
 use Rattle.pv_frame.specs.Causes.{HasFloatType, AccessesFields, IsCauseWith, IsCauseOf}
 use Rattle.pv_frame.proofs.FrameLaws.{some_of, no_some}
@@ -48,17 +51,38 @@ one_call opcode m a b p q =
     let same_type : p.desc ≡ q.desc = method_type_once m.sym.desc p.desc q.desc p.typed q.typed in
     p.is ∙ ap (λ (d : Descriptor). act.Call d m.sym) same_type ∙ sym q.is
 
+one_call_on : (opcode : ℕ) (m : Member) (a b : Action) → CallsOn opcode m a → CallsOn opcode m b → a ≡ b
+one_call_on opcode m a b p q =
+    let same_form : p.form ≡ q.form = some_of _ _ (sym p.row ∙ q.row) in
+    let same_type : p.desc ≡ q.desc = method_type_once m.sym.desc p.desc q.desc p.typed q.typed in
+    p.is ∙ ap (λ (d : Descriptor). act.CallOn (with_receiver d) (receiver_sym p.form m.sym)) same_type ∙ ap (λ (f : Form). act.CallOn (with_receiver q.desc) (receiver_sym f m.sym)) same_form ∙ sym q.is
+
+-- a field and a method are named by different tags, and invokestatic has no row of its form
+not_field : (form : Form) (tag : ℕ) → MayName form tag → tag ≡ 9 → ⊥
+not_field Virtual tag h nine = omega arith
+not_field Special tag (inl h) nine = omega arith
+not_field Special tag (inr h) nine = omega arith
+not_field Interface tag h nine = omega arith
+
+pub not_static : (opcode : ℕ) (form : Form) → row_of form_rows opcode ≡ Some form → opcode ≡ 184 → ⊥
+not_static opcode form row is = no_some form (subst (λ (o : ℕ). row_of form_rows o ≡ Some form) is row)
+
 field_or_call : {P : Type 0} (opcode : ℕ) (m : Member) (a b : Action) → AccessesField opcode m a → CallsStatic opcode m b → P
 field_or_call opcode m a b p q = elim q.kind [
   | inl ten ↦ let e : 9 ≡ 10 = sym p.kind ∙ ten in absurd (omega arith)
   | inr eleven ↦ let e : 9 ≡ 11 = sym p.kind ∙ eleven in absurd (omega arith)
 ]
 
-one_member : (opcode : ℕ) (m : Member) (a b : Action) → AccessesField opcode m a ⊎ CallsStatic opcode m a → AccessesField opcode m b ⊎ CallsStatic opcode m b → a ≡ b
+one_member : (opcode : ℕ) (m : Member) (a b : Action) → UsesMember opcode m a → UsesMember opcode m b → a ≡ b
 one_member opcode m a b (inl p) (inl q) = one_field opcode m a b p q
-one_member opcode m a b (inl p) (inr q) = field_or_call opcode m a b p q
-one_member opcode m a b (inr p) (inl q) = field_or_call opcode m b a q p
-one_member opcode m a b (inr p) (inr q) = one_call opcode m a b p q
+one_member opcode m a b (inl p) (inr (inl q)) = field_or_call opcode m a b p q
+one_member opcode m a b (inl p) (inr (inr q)) = absurd (not_field q.form m.kind q.kind p.kind)
+one_member opcode m a b (inr (inl p)) (inl q) = field_or_call opcode m b a q p
+one_member opcode m a b (inr (inl p)) (inr (inl q)) = one_call opcode m a b p q
+one_member opcode m a b (inr (inl p)) (inr (inr q)) = absurd (not_static opcode q.form q.row p.invokestatic)
+one_member opcode m a b (inr (inr p)) (inl q) = absurd (not_field p.form m.kind p.kind q.kind)
+one_member opcode m a b (inr (inr p)) (inr (inl q)) = absurd (not_static opcode p.form p.row q.invokestatic)
+one_member opcode m a b (inr (inr p)) (inr (inr q)) = one_call_on opcode m a b p q
 
 one_with : (pool : List Entry) (opcode : ℕ) (u : Use) (a b : Action) → ActsWith pool opcode u a → ActsWith pool opcode u b → a ≡ b
 one_with pool opcode (used.Constant c) a b p q = one_constant pool opcode c a b p q
@@ -136,15 +160,17 @@ no_float_field : (opcode : ℕ) (m : Member) (a : Action) → AccessesField opco
 no_float_field opcode m a p (inl (t, typed, float)) = float (subst IsFloatless (field_type_once m.sym.desc p.type t p.typed typed) p.floatless)
 no_float_field opcode m a p (inr (d, typed, float)) = apart m.sym.desc p.type d p.typed typed
 
-no_float_call : (opcode : ℕ) (m : Member) (a : Action) → CallsStatic opcode m a → HasFloatType m.sym.desc → ⊥
-no_float_call opcode m a p (inl (t, typed, float)) = apart m.sym.desc t p.desc typed p.typed
-no_float_call opcode m a p (inr (d, typed, float)) = float (subst IsFloatlessMethod (method_type_once m.sym.desc p.desc d p.typed typed) p.floatless)
+pub no_float_method : (text : List ℕ) (d : Descriptor) → IsMethodType text d → IsFloatlessMethod d → HasFloatType text → ⊥
+no_float_method text d is floatless (inl (t, typed, float)) = apart text t d typed is
+no_float_method text d is floatless (inr (e, typed, float)) = float (subst IsFloatlessMethod (method_type_once text d e is typed) floatless)
 
-clean_member : (opcode : ℕ) (m : Member) (a : Action) (k : CauseKind) → AccessesField opcode m a ⊎ CallsStatic opcode m a → IsCauseWith opcode (used.Member m) k → ⊥
+clean_member : (opcode : ℕ) (m : Member) (a : Action) (k : CauseKind) → UsesMember opcode m a → IsCauseWith opcode (used.Member m) k → ⊥
 clean_member opcode m a kind.Float (inl p) h = no_float_field opcode m a p h
-clean_member opcode m a kind.Float (inr p) h = no_float_call opcode m a p h
+clean_member opcode m a kind.Float (inr (inl p)) h = no_float_method m.sym.desc p.desc p.typed p.floatless h
+clean_member opcode m a kind.Float (inr (inr p)) h = no_float_method m.sym.desc p.desc p.typed p.floatless h
 clean_member opcode m a kind.Code (inl p) h = h.1 (inl (accesses opcode p.access p.row, (p.kind, (p.type, p.typed))))
-clean_member opcode m a kind.Code (inr p) h = h.1 (inr (p.invokestatic, (p.kind, (p.desc, p.typed))))
+clean_member opcode m a kind.Code (inr (inl p)) h = h.1 (inr (inl (p.invokestatic, (p.kind, (p.desc, p.typed)))))
+clean_member opcode m a kind.Code (inr (inr p)) h = h.1 (inr (inr (record { form = p.form; row = p.row; method = (p.kind, (p.desc, p.typed)) })))
 clean_member opcode m a kind.Constant p h = h.2
 clean_member opcode m a k p h = elim h [ ]
 

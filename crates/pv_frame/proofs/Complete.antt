@@ -8,6 +8,7 @@ use Rattle.pv_value.specs.declared.number.Num.TheVariants as num
 use Rattle.pv_value.specs.declared.descriptor.JType.{JType}
 use Rattle.pv_value.specs.declared.descriptor.JType.TheVariants.{Z, B, C, S, I, J, F, D, A}
 use Rattle.pv_value.specs.declared.descriptor.Descriptor.{Descriptor}
+use Rattle.pv_value.specs.Receivers.{receiver_sym, with_receiver}
 use Rattle.pv_pool.specs.declared.entry.Entry.{Entry}
 use Rattle.pv_pool.specs.declared.constant.Constant.{Constant}
 use Rattle.pv_pool.specs.declared.constant.Constant.TheVariants as constant
@@ -135,10 +136,17 @@ member_well pool o m n (inl (accesses, (tag, (t, typed)))) = elim (float_or_not 
       let row = field_row o accesses in
       n.0 (row.0 t m.sym) (inl (record { kind = tag; type = t; typed = typed; floatless = floatless; access = row.0; row = row.1; is = refl }))
 ]
-member_well pool o m n (inr (is, (kinds, (d, typed)))) = elim (method_or_not d) [
+member_well pool o m n (inr (inl (is, (kinds, (d, typed))))) = elim (method_or_not d) [
   | inr float ↦ n.1 kind.Float (inr (d, typed, float))
-  | inl floatless ↦ n.0 (act.Call d m.sym) (inr (record { invokestatic = is; kind = kinds; desc = d; typed = typed; floatless = floatless; is = refl }))
+  | inl floatless ↦ n.0 (act.Call d m.sym) (inr (inl (record { invokestatic = is; kind = kinds; desc = d; typed = typed; floatless = floatless; is = refl })))
 ]
+member_well pool o m n (inr (inr w)) =
+    let d = w.method.1.0 in
+    let typed = w.method.1.1 in
+    elim (method_or_not d) [
+      | inr float ↦ n.1 kind.Float (inr (d, typed, float))
+      | inl floatless ↦ n.0 (act.CallOn (with_receiver d) (receiver_sym w.form m.sym)) (inr (inr (record { form = w.form; row = w.row; kind = w.method.0; desc = d; typed = typed; floatless = floatless; is = refl })))
+    ]
 
 well : (pool : List Entry) (o : ℕ) (u : Use) → ((j : ℕ) → u ≡ used.Constant (constant.Text j) → (text : List ℕ) × (text_under pool j ≡ Some text)) → Neither pool o u → NamesWell o u → ⊥
 well pool o (used.Constant (constant.Int i)) texts n w = n.0 (act.Push (num.Int i)) (w, refl)

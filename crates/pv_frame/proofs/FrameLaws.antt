@@ -183,6 +183,7 @@ done_more (act.LoadElement k) stack l m h all e = same_locals stack l m (act.Loa
 done_more (act.StoreElement k) stack l m h all e = same_locals stack l m (act.StoreElement k) h all refl e
 done_more act.Length stack l m h all e = same_locals stack l m act.Length h all refl e
 done_more (act.Call d f) stack l m h all e = same_locals stack l m (act.Call d f) h all refl e
+done_more (act.CallOn d f) stack l m h all e = same_locals stack l m (act.CallOn d f) h all refl e
 
 after_more : (a : Action) (stack l m : List Sort) (h : Frame) → AllZip Less l m → frame_after a (framed stack m) ≡ Some h → Goes a (framed stack l) h
 after_more a stack l m h all e =

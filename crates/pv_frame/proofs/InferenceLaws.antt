@@ -18,7 +18,7 @@ use Rattle.pv_frame.specs.Programs.{IsAt}
 use Rattle.pv_frame.specs.Frames.{same, pushed, holds, padded_sorts, passed_to, entry_frame, frame_done, frame_after, Flows, IsFrameAt, LeadsTo, Leaves, GoesOn, IsTyped, Agrees, HasFrames, Reached, first, next, IsInferred}
 use Rattle.pv_frame.specs.declared.stop.Untyped.{Untyped}
 use Rattle.pv_frame.specs.declared.stop.Untyped.TheVariants as untyped
-use Rattle.pv_frame.specs.Inferring.{FoundOr, weight, HaveLocals, Below, Within, Follows, Clashes, Inferring, Visits}
+use Rattle.pv_frame.specs.Inferring.{FoundOr, weight, HaveLocals, Within, Follows, Clashes, Inferring, Visits}
 use Rattle.pv_frame.proofs.FrameLaws.{some_of, no_some, if_some, framed, goes_from}
 use Rattle.pv_frame.proofs.Inferred.{typed_goes, leads_nowhere}
 use Rattle.pv_frame.proofs.Lists.{all_map, contains_first, contains_more, contains_cases, contains_none}

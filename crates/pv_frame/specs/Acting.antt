@@ -1,5 +1,5 @@
 -- What the functions of this crate answer of instructions; private to it.
-use Rattle.std.specs.Prelude.{◌≡◌, ◌⊎◌, ℕ, Some, List, ◌∷◌, ◌++◌, Result, Ok, Err}
+use Rattle.std.specs.Prelude.{◌≡◌, ℕ, Some, List, ◌∷◌, ◌++◌, Result, Ok, Err}
 use Rattle.std.specs.List.{AllZip, AllByRecursion}
 use Rattle.pv_pool.specs.declared.entry.Entry.{Entry}
 use Rattle.pv_insn.specs.declared.insn.Insn.{Insn}
@@ -16,7 +16,7 @@ use Rattle.pv_frame.specs.declared.cause.Refused.TheVariants as refused
 use Rattle.pv_frame.specs.declared.stop.Stop.{Stop}
 use Rattle.pv_frame.specs.declared.stop.Stop.TheVariants as stop
 use Rattle.pv_frame.specs.declared.action.Action.{Action}
-use Rattle.pv_frame.specs.Actions.{IsUse, AccessesField, CallsStatic, ActsWith, Acts}
+use Rattle.pv_frame.specs.Actions.{IsUse, UsesMember, ActsWith, Acts}
 use Rattle.pv_frame.specs.Programs.{Does}
 use Rattle.pv_frame.specs.Causes.{IsCauseWith, IsCauseOf, HasNoCause, cause}
 
@@ -37,7 +37,7 @@ IsActionWithOr pool opcode u r = Either r (ActsWith pool opcode u) (IsCauseWith 
 
 -- the same of a member, which needs no pool
 abbrev pub IsAccessOr : ℕ → Member → Result Action Stop → Type 0
-IsAccessOr opcode m r = Either r (λ a. AccessesField opcode m a ⊎ CallsStatic opcode m a) (IsCauseWith opcode (used.Member m))
+IsAccessOr opcode m r = Either r (UsesMember opcode m) (IsCauseWith opcode (used.Member m))
 
 -- what an instruction does, or its cause
 abbrev pub IsActionOr : List Entry → Insn → Use → Result Action Stop → Type 0

@@ -4,6 +4,7 @@ use Rattle.std.specs.List.{AllByRecursion}
 use Rattle.pv_value.specs.declared.descriptor.JType.{JType}
 use Rattle.pv_value.specs.declared.descriptor.Descriptor.{Descriptor}
 use Rattle.pv_value.specs.Descriptors.{IsFieldType, IsMethodType}
+use Rattle.pv_value.specs.declared.receiver.Form.{Form}
 use Rattle.pv_pool.specs.declared.entry.Entry.{Entry}
 use Rattle.pv_pool.specs.declared.constant.Constant.{Constant}
 use Rattle.pv_pool.specs.declared.constant.Constant.TheVariants as constant
@@ -25,7 +26,7 @@ use Rattle.pv_frame.specs.declared.cause.CauseKind.{CauseKind}
 use Rattle.pv_frame.specs.declared.cause.CauseKind.TheVariants as kind
 use Rattle.pv_frame.specs.declared.cause.Cause.{Cause}
 use Rattle.pv_frame.specs.declared.program.Program.{Program}
-use Rattle.pv_frame.specs.Actions.{loads_narrow, loads_wide, use_of, IsFloatless, IsFloatlessMethod}
+use Rattle.pv_frame.specs.Actions.{form_rows, row_of, loads_narrow, loads_wide, use_of, IsFloatless, IsFloatlessMethod, MayName}
 use Rattle.pv_frame.specs.Programs.{IsUnsynchronized, IsProgramOf}
 use Rattle.pv_frame.specs.Frames.{HasFrames}
 
@@ -53,8 +54,6 @@ refused_rows =
     ∷ (174, 175, kind.Float)  -- freturn, dreturn
     ∷ (168, 169, kind.Subroutine)  -- jsr, and ret, also after wide
     ∷ (201, 201, kind.Subroutine)  -- jsr_w
-    ∷ (182, 183, kind.ReceiverCall)  -- invokevirtual, invokespecial
-    ∷ (185, 185, kind.ReceiverCall)  -- invokeinterface
     ∷ (186, 186, kind.Dynamic)  -- invokedynamic
     ∷ (187, 189, kind.Allocation)  -- new, newarray, anewarray
     ∷ (197, 197, kind.Allocation)  -- multianewarray
@@ -89,7 +88,11 @@ IsField m = (m.kind ≡ 9) × ((t : JType) × IsFieldType m.sym.desc t)
 abbrev pub IsStatic : Member → Type 0
 IsStatic m = ((m.kind ≡ 10) ⊎ (m.kind ≡ 11)) × ((d : Descriptor) × IsMethodType m.sym.desc d)
 
--- getstatic to putfield; invokestatic
+-- what a call of this form may name, with a method descriptor
+abbrev pub IsCalledBy : Form → Member → Type 0
+IsCalledBy form m = MayName form m.kind × ((d : Descriptor) × IsMethodType m.sym.desc d)
+
+-- getstatic to putfield
 abbrev pub AccessesFields : ℕ → Type 0
 AccessesFields opcode = (178 ≤ opcode) × (opcode ≤ 181)
 
@@ -102,10 +105,16 @@ NamesConstant opcode (constant.Long n) = IsTrue (loads_wide opcode)
 NamesConstant opcode constant.Double = IsTrue (loads_wide opcode)
 NamesConstant opcode (constant.Other tag) = IsTrue (loads_narrow opcode) ⊎ (IsTrue (loads_wide opcode) × (tag ≡ 17))
 
+-- invokevirtual, invokespecial or invokeinterface with a method that it may name
+pub record NamesReceiverMethod (opcode : ℕ) (m : Member) : Type 0 where
+  pub form : Form
+  pub row : row_of form_rows opcode ≡ Some form
+  pub method : IsCalledBy form m
+
 -- the index names what the instruction asks for
 abbrev pub NamesWell : ℕ → Use → Type 0
 NamesWell opcode (used.Constant c) = NamesConstant opcode c
-NamesWell opcode (used.Member m) = (AccessesFields opcode × IsField m) ⊎ ((opcode ≡ 184) × IsStatic m)
+NamesWell opcode (used.Member m) = (AccessesFields opcode × IsField m) ⊎ ((opcode ≡ 184) × IsStatic m) ⊎ NamesReceiverMethod opcode m
 NamesWell opcode used.None = ⊥
 
 -- a Class, MethodHandle, MethodType or Dynamic

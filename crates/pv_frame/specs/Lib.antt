@@ -6,7 +6,6 @@ pub mod Programs
 pub mod Frames
 pub mod Causes
 pub mod Answers
-
 -- the vocabulary of private functions
 pub mod Acting
 pub mod Inferring

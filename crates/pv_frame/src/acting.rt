@@ -4,7 +4,7 @@ ghost use Rattle.std.specs.Prelude.{◌≡◌, ◌⊎◌, ◌↔◌, ◌≤◌, 
 ghost use Rattle.std.specs.Option.{option_map};
 ghost use Rattle.std.specs.List.{AllByRecursion};
 ghost use Rattle.pv_value.specs.Descriptors.{IsFieldType, IsMethodType};
-ghost use Rattle.pv_frame.specs.Actions.{local_rows, branch_rows, field_rows, row_of, cases_from, loads_narrow, loads_wide, use_of, IsUse, IsFloatless, IsFloatlessMethod};
+ghost use Rattle.pv_frame.specs.Actions.{local_rows, branch_rows, field_rows, form_rows, row_of, MayName, cases_from, loads_narrow, loads_wide, use_of, IsUse, IsFloatless, IsFloatlessMethod};
 ghost use Rattle.pv_frame.specs.Causes.{refused_by, NamesConstant};
 ghost use Rattle.pv_frame.specs.Acting.{HasItsText, IsActionWithOr, IsAccessOr, IsActionOr, IsFirstOf, AreActing, OnCause};
 ghost use Rattle.pv_pool.specs.Pools.{Refers};
@@ -20,7 +20,9 @@ use crate::stop::Stop;
 use crate::used::Use;
 use pv_insn::{Case, Insn, Placed};
 use pv_pool::{Constant, Member, Pool};
-use pv_value::{Descriptor, JType, Memory, Name, Num, Sym, read_descriptor, read_field_type};
+use pv_value::{
+    Descriptor, Form, JType, Memory, Name, Num, Sym, read_descriptor, read_field_type, receiver_sym,
+};
 use std::alloc::{AllocError, Global};
 
 /// The tags of a Fieldref, a Methodref and an InterfaceMethodref (JVMS table 4.4-A).
@@ -99,7 +101,6 @@ fn refused_by(opcode: u8) -> Option<CauseKind>
         98..=99 | 102..=103 | 106..=107 | 110..=111 | 114..=115 | 118..=119 => CauseKind::Float,
         134..=135 | 137..=144 | 149..=152 | 174..=175 => CauseKind::Float,
         168..=169 | 201 => CauseKind::Subroutine,
-        182..=183 | 185 => CauseKind::ReceiverCall,
         186 => CauseKind::Dynamic,
         187..=189 | 197 => CauseKind::Allocation,
         83 => CauseKind::RefStore,
@@ -252,6 +253,50 @@ fn calls_static(opcode: u8, kind: u8) -> bool
     opcode == INVOKESTATIC && (kind == METHOD || kind == INTERFACE_METHOD)
 }
 
+/// The form of a call on a receiver.
+fn form_of_call(opcode: u8) -> Option<Form>
+    ensures { result ≡ row_of form_rows opcode }
+{
+    match opcode {
+        182 => Some(Form::Virtual),
+        183 => Some(Form::Special),
+        185 => Some(Form::Interface),
+        _ => None,
+    }
+}
+
+/// Whether a call of this form may name a member with this tag.
+fn may_name(form: Form, kind: u8) -> bool
+    ensures { IsTrue result ↔ MayName form kind }
+{
+    match form {
+        Form::Virtual => kind == METHOD,
+        Form::Special => kind == METHOD || kind == INTERFACE_METHOD,
+        Form::Interface => kind == INTERFACE_METHOD,
+    }
+}
+
+/// What a call on a receiver of a method of this type does, or its cause.
+fn call_on(
+    alloc: Global,
+    opcode: u8,
+    form: Form,
+    member: &Member,
+    desc: &Descriptor,
+) -> Result<Action, Stop>
+    requires form { row_of form_rows opcode ≡ Some form }
+    requires typed { IsMethodType member.now.sym.desc desc.now }
+    requires floatless { IsFloatlessMethod desc.now }
+    ensures { IsAccessOr opcode member.now result }
+{
+    if !may_name(form, member.kind) {
+        return Err(Stop::Cause(CauseKind::Code));
+    }
+    let with_receiver = desc.with_receiver(alloc)?;
+    let sym = receiver_sym(alloc, form, &member.sym)?;
+    Ok(Action::CallOn(with_receiver, sym))
+}
+
 /// What a call of a method of this type does, or its cause.
 fn call(alloc: Global, opcode: u8, member: &Member, desc: Descriptor) -> Result<Action, Stop>
     requires { IsMethodType member.now.sym.desc desc }
@@ -259,6 +304,9 @@ fn call(alloc: Global, opcode: u8, member: &Member, desc: Descriptor) -> Result<
 {
     if !is_floatless_method(&desc) {
         return Err(Stop::Cause(CauseKind::Float));
+    }
+    if let Some(form) = form_of_call(opcode) {
+        return call_on(alloc, opcode, form, member, &desc);
     }
     if !calls_static(opcode, member.kind) {
         return Err(Stop::Cause(CauseKind::Code));

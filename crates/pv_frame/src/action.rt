@@ -90,4 +90,7 @@ pub enum Action {
     Length,
     /// A static call, with the type of the callee.
     Call(Descriptor, Sym),
+    /// A call on a receiver, under its receiver symbol and with its type: the receiver is the first
+    /// parameter.
+    CallOn(Descriptor, Sym),
 }

@@ -13,7 +13,6 @@ pub enum CauseKind {
     Float,
     Code,
     Subroutine,
-    ReceiverCall,
     Dynamic,
     Allocation,
     RefStore,

@@ -129,7 +129,7 @@ pub(crate) fn takes(alloc: Global, action: &Action) -> Result<Vec<Sort>, AllocEr
         Action::PutField(field, _) => [Sort::Ref, sort_of_type(*field)].to_vec(alloc),
         Action::LoadElement(_) => [Sort::Ref, Sort::Int].to_vec(alloc),
         Action::StoreElement(kind) => { [Sort::Ref, Sort::Int, sort_of_kind(*kind)].to_vec(alloc) }
-        Action::Call(desc, _) => parameter_sorts(alloc, &desc.params),
+        Action::Call(desc, _) | Action::CallOn(desc, _) => parameter_sorts(alloc, &desc.params),
         Action::Nop
         | Action::Push(_)
         | Action::Literal(_)
@@ -154,7 +154,9 @@ pub(crate) fn gives(action: &Action) -> Option<Sort>
         Action::GetStatic(field, _) | Action::GetField(field, _) => Some(sort_of_type(*field)),
         Action::LoadElement(kind) => Some(sort_of_kind(*kind)),
         Action::Length => Some(Sort::Int),
-        Action::Call(desc, _) => desc.result.map(|value| sort_of_type(value)),
+        Action::Call(desc, _) | Action::CallOn(desc, _) => {
+            desc.result.map(|value| sort_of_type(value))
+        }
         Action::Nop
         | Action::Store(_, _)
         | Action::Increase(_, _)
@@ -196,7 +198,8 @@ pub(crate) fn successors(alloc: Global, place: u32, action: &Action) -> Result<V
         | Action::LoadElement(_)
         | Action::StoreElement(_)
         | Action::Length
-        | Action::Call(_, _) => [place + 1].to_vec(alloc),
+        | Action::Call(_, _)
+        | Action::CallOn(_, _) => [place + 1].to_vec(alloc),
     }
 }
 

@@ -1,5 +1,5 @@
 -- Laws of the instructions of a code: they stand in the table of forms, and the numbers of a tableswitch are ints.
-use Rattle.std.proofs.Common.{◌≡◌, ℕ, ◌<◌, List, [], ◌∷◌, Option, Some, None, refl, ap, sym, subst, inl, inr, arith}
+use Rattle.std.proofs.Common.{◌≡◌, ℕ, ◌<◌, List, [], ◌∷◌, Option, Some, None, refl, sym, subst, inl, inr, arith}
 use Rattle.std.specs.Prelude.{◌⊎◌, ◌+◌, ◌^◌, ℤ, pos, ◌+ℤ◌, ◌≤ℤ◌, FitsSigned, length}
 use Rattle.std.specs.Int.{w32}
 use Rattle.std.proofs.lemmas.Int.{ints}
@@ -14,8 +14,8 @@ use Rattle.pv_insn.specs.declared.insn.Insn.{Insn}
 use Rattle.pv_insn.specs.declared.insn.Insn.TheVariants as insn
 use Rattle.pv_insn.specs.declared.insn.Placed.{Placed}
 use Rattle.pv_insn.specs.Forms.{form_of}
-use Rattle.pv_insn.specs.Pieces.{Piece, instruction, unknown, ill, Widened, Operands, AfterOpcode}
-use Rattle.pv_insn.specs.Codes.{IsInstruction, Leads, AreFrom, IsPlaced, Resolves, IsCode}
+use Rattle.pv_insn.specs.Pieces.{instruction, Widened, AfterOpcode}
+use Rattle.pv_insn.specs.Codes.{Leads, AreFrom, IsPlaced, Resolves, IsCode}
 
 -- an instruction as the table of forms has it; the numbers of a tableswitch end below 2 ^ 31
 abbrev pub IsFormed : Insn → Type 0
@@ -62,6 +62,7 @@ module _ (raws : List RawPlaced) (from : ℕ) (i : Insn) where
   after_opcode at o (Some form.Increment) r rest byte is b l = subst IsFormed (sym (subst Leads' (raw_of r _ b.is) l)) tt
   after_opcode at o (Some form.Index1) r rest byte is b l = subst IsFormed (sym (subst Leads' (raw_of r _ b.is) l)) tt
   after_opcode at o (Some form.Index2) r rest byte is b l = subst IsFormed (sym (subst Leads' (raw_of r _ b.is) l)) tt
+  after_opcode at o (Some form.IndexAndShort) r rest byte is b l = subst IsFormed (sym (subst Leads' (raw_of r _ b.is) l)) tt
   after_opcode at o (Some form.Branch2) r rest byte is b l = let to = subst Leads' (raw_of r _ b.is) l in subst IsFormed (sym to.2) (byte, inl is)
   after_opcode at o (Some form.Branch4) r rest byte is b l = let to = subst Leads' (raw_of r _ b.is) l in subst IsFormed (sym to.2) (byte, inr is)
   after_opcode at o (Some form.Table) r rest byte is (inl b) l =

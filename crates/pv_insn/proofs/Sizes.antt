@@ -3,9 +3,9 @@ use Rattle.std.proofs.Common.{◌≡◌, ℕ, ◌+◌, List, length, Option, Som
 use Rattle.std.proofs.lemmas.List.{length-append}
 use Rattle.std.specs.Int.{Width, byte_len, cast_unsigned}
 use Rattle.std.specs.Prelude.{ℤ}
-use Rattle.pv_insn.specs.Opcodes.{Format, nothing, byte, short, local, increment, byte_index, index, offset, wide_offset, table, pairs, wide_instruction, size_of, wide_size_of}
+use Rattle.pv_insn.specs.Opcodes.{Format, nothing, byte, short, local, increment, byte_index, index, index_and_short, offset, wide_offset, table, pairs, wide_instruction, size_of, wide_size_of}
 use Rattle.pv_insn.specs.Forms.{taken, skipped}
-use Rattle.pv_insn.specs.Pieces.{Piece, unknown, IsUnsigned, IsSigned, IsIncrement, Operands, Widened}
+use Rattle.pv_insn.specs.Pieces.{Piece, unknown, IsUnsigned, IsSigned, IsIncrement, IsIndexAndShort, Operands, Widened}
 use Rattle.pv_insn.proofs.Formats.{IsWidth, width8, width16, width32}
 
 unsigned_size : (w : Width) → IsWidth w → (n : ℕ) (bytes : List ℕ) → IsUnsigned w n bytes → length bytes ≡ byte_len w
@@ -19,6 +19,11 @@ increment_size w width piece bytes is =
     let first = unsigned_size w width is.local is.front is.first in
     let second = signed_size w width is.number is.back is.second in
     omega (arith, first, second, ap length is.parts, length-append is.front is.back)
+
+index_and_short_size : (op : ℕ) (piece : Piece) (bytes : List ℕ) → IsIndexAndShort op piece bytes → length bytes ≡ 4
+index_and_short_size op piece bytes is =
+    let first = unsigned_size _ width16 is.number is.front is.spelled in
+    omega (arith, first, is.any, ap length is.parts, length-append is.front is.back)
 
 -- those of switches and those after wide differ
 abbrev HasOneSize : Format → Type 0
@@ -39,6 +44,7 @@ taken_size at op local piece bytes one is = unsigned_size _ width8 is.number byt
 taken_size at op increment piece bytes one is = increment_size _ width8 piece bytes is
 taken_size at op byte_index piece bytes one is = unsigned_size _ width8 is.number bytes is.spelled
 taken_size at op index piece bytes one is = unsigned_size _ width16 is.number bytes is.spelled
+taken_size at op index_and_short piece bytes one is = index_and_short_size op piece bytes is
 taken_size at op offset piece bytes one is = signed_size _ width16 is.number bytes is.spelled
 taken_size at op wide_offset piece bytes one is = signed_size _ width32 is.number bytes is.spelled
 taken_size at op table piece bytes one is = absurd one

@@ -121,10 +121,6 @@ floats =
 abbrev pub subroutines : Opcodes
 subroutines = (168, 169) ∷ (201, 201) ∷ []
 
--- invokevirtual, invokespecial, invokeinterface
-abbrev pub receiver_calls : Opcodes
-receiver_calls = (182, 183) ∷ (185, 185) ∷ []
-
 -- invokedynamic
 abbrev pub dynamic_calls : Opcodes
 dynamic_calls = (186, 186) ∷ []
@@ -147,4 +143,4 @@ monitors = (194, 195) ∷ []
 
 abbrev pub is_refused : ℕ → Bool
 is_refused op =
-    is_among op floats || is_among op subroutines || is_among op receiver_calls || is_among op dynamic_calls || is_among op allocations || is_among op reference_stores || is_among op type_tests || is_among op monitors
+    is_among op floats || is_among op subroutines || is_among op dynamic_calls || is_among op allocations || is_among op reference_stores || is_among op type_tests || is_among op monitors

@@ -318,6 +318,23 @@ module _ (p : Program) (w : World) (h : Heap) (rest : List Num) where
   call_waits : (f : Sym) → reply w f h args ≡ None → Stays (act.Call (taking None) f) (Long (pos 2) ∷ int 1 ∷ rest)
   call_waits f e = rw e refl
 
+  -- a call on a receiver, which is the first argument; on null it throws, and the heap stays
+  abbrev taking_receiver : Option JType → Descriptor
+  taking_receiver result = record { params = A ∷ I ∷ []; result = result }
+
+  call_on_returns : (f : Sym) (h' : Heap) → reply w f h (Ref 1 ∷ int 2 ∷ []) ≡ Some (Returned (Some (int 300)) h') →
+      perform p w (at 7 (int 2 ∷ Ref 1 ∷ rest)) (act.CallOn (taking_receiver (Some I)) f) ≡ running (record (at 8 (int 300 ∷ rest)) { heap = h' })
+  call_on_returns f h' e = rw e refl
+
+  call_on_throws : (f : Sym) (h' : Heap) → reply w f h (Ref 1 ∷ int 2 ∷ []) ≡ Some (Threw (fault.Thrown 3) h') → EndsSo (act.CallOn (taking_receiver None) f) (int 2 ∷ Ref 1 ∷ rest) (Threw (fault.Thrown 3) h')
+  call_on_throws f h' e = rw e refl
+
+  call_on_null : (f : Sym) → EndsSo (act.CallOn (taking_receiver (Some I)) f) (int 2 ∷ Ref 0 ∷ rest) (Threw fault.Null h)
+  call_on_null f = refl
+
+  call_on_waits : (f : Sym) → reply w f h (Ref 1 ∷ int 2 ∷ []) ≡ None → Stays (act.CallOn (taking_receiver None) f) (int 2 ∷ Ref 1 ∷ rest)
+  call_on_waits f e = rw e refl
+
 -- ---- comparisons
 
 -- an int below another, the same, and above it

@@ -23,10 +23,12 @@ use Rattle.pv_machine.specs.Steps.{below, IsQuiet, IsOverfull}
 
 asked_plain : (a : Action) → IsPlain a → asked a ≡ takes a
 asked_plain (act.Call d f) h = absurd h
+asked_plain (act.CallOn d f) h = absurd h
 asked_plain a h = refl
 
 asked_access : (a : Action) → IsAccess a → asked a ≡ takes a
 asked_access (act.Call d f) h = absurd h
+asked_access (act.CallOn d f) h = absurd h
 asked_access a h = refl
 
 performs : (p : Program) (w : World) (s : State) (a : Action) (ops : List Num) (now : Option Now) → popped sort_of (takes a) s.stack ≡ Some (ops, drop (length ops) s.stack) → done p w (below (length ops) s) a ops ≡ now →

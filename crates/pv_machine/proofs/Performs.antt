@@ -6,6 +6,7 @@ use Rattle.pv_pool.specs.Readers.{◌>>=◌}
 use Rattle.pv_value.specs.declared.number.Num.{Num}
 use Rattle.pv_value.specs.declared.number.Num.TheVariants as num
 use Rattle.pv_value.specs.declared.descriptor.JType.{JType}
+use Rattle.pv_value.specs.declared.descriptor.JType.TheVariants.{A}
 use Rattle.pv_value.specs.declared.descriptor.Descriptor.{Descriptor}
 use Rattle.pv_value.specs.declared.name.Sym.{Sym}
 use Rattle.pv_value.specs.declared.heap.Heap.{Heap}
@@ -41,12 +42,12 @@ use Rattle.pv_frame.specs.Frames as frames
 use Rattle.pv_frame.proofs.StackLaws.{moved_map, has_room_map, set_local_map}
 use Rattle.pv_frame.proofs.FrameLaws.{some_of, no_some, if_some}
 use Rattle.pv_machine.specs.Machine.{State, Now, running, ended, next, pushes, writes, throws, stored, local, number_of, value_of, increased, computed, divided, tested, branches, target_of, keeps, element_fault, unless, called, done}
-use Rattle.pv_machine.specs.Runs.{frame_of}
+use Rattle.pv_machine.specs.Runs.{frame_of, Calls}
 use Rattle.pv_machine.proofs.Values.{Gives, computed_gives, value_sort, shown_gives, kept_some, element_sort, of_sort_type, holds_gives, increased_gives, replaced_sorts}
 
 -- ---- what an action says of itself
 
--- a division has two operands; fields and callees are typed by their descriptors, without floats and doubles
+-- a division has two operands; fields and callees are typed by their descriptors, without floats and doubles, and a receiver is the first parameter
 abbrev pub IsSound : Action → Type 0
 IsSound (act.Divide o) = (x : operation.Word) × (y : operation.Word) × (operation.takes o ≡ x ∷ y ∷ [])
 IsSound (act.GetStatic t f) = IsFloatless t
@@ -54,6 +55,7 @@ IsSound (act.PutStatic t f) = IsFloatless t
 IsSound (act.GetField t f) = IsFloatless t
 IsSound (act.PutField t f) = IsFloatless t
 IsSound (act.Call d f) = IsMethodType f.desc d
+IsSound (act.CallOn d f) = IsMethodType f.desc d × ((ts : List JType) × (d.params ≡ A ∷ ts))
 IsSound _ = Unit {0}
 
 -- ---- how it goes on
@@ -66,7 +68,7 @@ Among j (k ∷ ks) = (j ≡ k) ⊎ Among j ks
 pub data Result (w : World) (s : State) (a : Action) (nums : List Num) (g : Frame) : Option Now → Type 0 where
   ends : (o : Outcome) → Result w s a nums g (Some (ended o))
   runs : (t : State) → frame_of t ≡ g → Among t.at (successors s.at a) → Result w s a nums g (Some (running t))
-  waits : (d : Descriptor) (f : Sym) → a ≡ act.Call d f → reply w f s.heap nums ≡ None → Result w s a nums g None
+  waits : (f : Sym) → Calls a nums f → reply w f s.heap nums ≡ None → Result w s a nums g None
 
 module _ (p : Program) (w : World) (s : State) where
   abbrev Ok : Action → List Num → Frame → Type 0
@@ -131,21 +133,23 @@ module _ (p : Program) (w : World) (s : State) where
   branch_ok t target nums g true e = runs _ (some_of _ _ e) (inl refl)
   branch_ok t target nums g false e = runs _ (some_of _ _ e) (inr (inl refl))
 
-  returned_ok : (d : Descriptor) (f : Sym) (nums : List Num) (g : Frame) (t : Option JType) (r : Option Num) (h : Heap) → IsOfResult t r → Some (frames.pushed (sorts_of_result t) (frame_of s)) ≡ Some g →
-      Result w s (act.Call d f) nums g (Some (called s (Returned r h)))
-  returned_ok d f nums g None None h is e = runs _ (some_of _ _ e) (inl refl)
-  returned_ok d f nums g None (Some n) h is e = elim is [ ]
-  returned_ok d f nums g (Some t) None h is e = elim is [ ]
-  returned_ok d f nums g (Some t) (Some n) h is e = runs _ (ap (λ (x : Sort). frames.pushed (x ∷ []) (frame_of s)) (of_sort_type t n is) ∙ some_of _ _ e) (inl refl)
+  returned_ok : (a : Action) (nums : List Num) (g : Frame) (t : Option JType) (r : Option Num) (h : Heap) → successors s.at a ≡ suc s.at ∷ [] → IsOfResult t r → Some (frames.pushed (sorts_of_result t) (frame_of s)) ≡ Some g →
+      Result w s a nums g (Some (called s (Returned r h)))
+  returned_ok a nums g None None h lead is e = next_ok a nums g (record s { heap = h }) refl lead (some_of _ _ e)
+  returned_ok a nums g None (Some n) h lead is e = elim is [ ]
+  returned_ok a nums g (Some t) None h lead is e = elim is [ ]
+  returned_ok a nums g (Some t) (Some n) h lead is e =
+      next_ok a nums g (record s { stack = n ∷ s.stack; heap = h }) refl lead (ap (λ (x : Sort). frames.pushed (x ∷ []) (frame_of s)) (of_sort_type t n is) ∙ some_of _ _ e)
 
-  call_ok : (d : Descriptor) (f : Sym) (nums : List Num) (g : Frame) (o : Option Outcome) → IsMethodType f.desc d → IsWorld w → reply w f s.heap nums ≡ o → Some (frames.pushed (sorts_of_result d.result) (frame_of s)) ≡ Some g →
-      Result w s (act.Call d f) nums g (option_map (called s) o)
-  call_ok d f nums g None typed world is e = waits d f refl is
-  call_ok d f nums g (Some (Threw x h)) typed world is e = ends _
-  call_ok d f nums g (Some (Returned r h)) typed world is e =
+  -- a call under a symbol, by its reply
+  call_ok : (a : Action) (d : Descriptor) (f : Sym) (nums : List Num) (g : Frame) (o : Option Outcome) → successors s.at a ≡ suc s.at ∷ [] → Calls a nums f → IsMethodType f.desc d → IsWorld w →
+      reply w f s.heap nums ≡ o → Some (frames.pushed (sorts_of_result d.result) (frame_of s)) ≡ Some g → Result w s a nums g (option_map (called s) o)
+  call_ok a d f nums g None lead calls typed world is e = waits f calls is
+  call_ok a d f nums g (Some (Threw x h)) lead calls typed world is e = ends _
+  call_ok a d f nums g (Some (Returned r h)) lead calls typed world is e =
       let answered = (world.calls _ (Returned r h) is).reply in
       let same_type : answered.0.0 ≡ d = method_type_once f.desc answered.0.0 d answered.0.1 typed in
-      returned_ok d f nums g d.result r h (subst (λ (x : Descriptor). IsOfResult x.result r) same_type answered.0.2) e
+      returned_ok a nums g d.result r h lead (subst (λ (x : Descriptor). IsOfResult x.result r) same_type answered.0.2) e
 
 -- ---- the operands of an action
 
@@ -232,6 +236,10 @@ module _ (p : Program) (w : World) (world : IsWorld w) (s : State) where
   length_ok g zero e = ends _
   length_ok g (suc r) e = pushes_ok p w s act.Length _ g sort.Int (Some _) refl (record { value = _; is = refl; sort = refl }) e
 
+  call_on_ok : (d : Descriptor) (f : Sym) (g : Frame) (r : ℕ) (args : List Num) → IsMethodType f.desc d → frame_done (act.CallOn d f) (frame_of s) ≡ Some g → Ok p w s (act.CallOn d f) (num.Ref r ∷ args) g
+  call_on_ok d f g zero args typed e = ends _
+  call_on_ok d f g (suc r) args typed e = call_ok p w s (act.CallOn d f) d f (num.Ref (suc r) ∷ args) g (reply w f s.heap (num.Ref (suc r) ∷ args)) refl refl typed world refl e
+
   abbrev At : (a : Action) (g : Frame) → List Num → Type 0
   At a g nums = Ok p w s a nums g
 
@@ -277,4 +285,8 @@ module _ (p : Program) (w : World) (world : IsWorld w) (s : State) where
       let typed = element_sort w k x.0 in
       subst (At (act.StoreElement k) g) (sym x.3) (unless_ok p w s (act.StoreElement k) _ g (element_fault w x.0 x.1) _ (writes_ok p w s (act.StoreElement k) _ g (element_type w k x.0) (Elem k x.0 x.1) x.2 refl (x.4 ∙ sym typed.0) e))
   done_ok act.Length nums g sound es e = let r = one_ref nums es in subst (At act.Length g) (sym r.1) (length_ok g r.0 e)
-  done_ok (act.Call d f) nums g sound es e = call_ok p w s d f nums g (reply w f s.heap nums) sound world refl e
+  done_ok (act.Call d f) nums g sound es e = call_ok p w s (act.Call d f) d f nums g (reply w f s.heap nums) refl refl sound world refl e
+  done_ok (act.CallOn d f) nums g sound es e =
+      let x = first_num nums sort.Ref (map sort_of_type sound.1.0) (es ∙ ap (map sort_of_type) sound.1.1) in
+      let r = as_ref x.0 x.3 in
+      subst (At (act.CallOn d f) g) (sym (x.2 ∙ ap (λ (n : Num). n ∷ x.1) r.1)) (call_on_ok d f g r.0 x.1 sound.0 e)

@@ -1,6 +1,6 @@
 -- Each action of a program says what it takes: divisions have two operands, and fields and callees are typed by their descriptors.
 use Rattle.std.proofs.Common.{◌≡◌, ℕ, zero, suc, true, false, List, [], ◌∷◌, Option, Some, None, refl, sym, subst, inl, inr}
-use Rattle.std.specs.Prelude.{◌==◌, ◌⊎◌, option_map, if◌then◌else◌, slice_get}
+use Rattle.std.specs.Prelude.{◌==◌, option_map, if◌then◌else◌, slice_get}
 use Rattle.std.specs.List.{AllZip, AllByRecursion}
 use Rattle.pv_value.specs.declared.name.Sym.{Sym}
 use Rattle.pv_value.specs.declared.descriptor.JType.{JType}
@@ -14,12 +14,13 @@ use Rattle.pv_insn.specs.declared.insn.Placed.{Placed}
 use Rattle.pv_frame.specs.declared.used.Use.{Use}
 use Rattle.pv_frame.specs.declared.used.Use.TheVariants as used
 use Rattle.pv_frame.specs.declared.action.Action.{Action}
-use Rattle.pv_frame.specs.Actions.{plain_rows, local_rows, branch_rows, field_rows, row_of, IsFloatless, LoadsConstant, AccessesField, CallsStatic, ActsWith, Acts}
+use Rattle.pv_frame.specs.Actions.{plain_rows, local_rows, branch_rows, field_rows, row_of, IsFloatless, LoadsConstant, UsesMember, ActsWith, Acts}
 use Rattle.pv_frame.specs.declared.program.Program.{Program}
 use Rattle.pv_frame.specs.Programs.{IsAt, Does, IsProgramOf}
 use Rattle.pv_class.specs.declared.file.ClassFile.{ClassFile}
 use Rattle.pv_class.specs.declared.file.Method.{Method}
 use Rattle.pv_frame.proofs.FrameLaws.{some_of, no_some}
+use Rattle.pv_value.proofs.ReceiverSymbols.{receivers_apart}
 use Rattle.pv_machine.proofs.Performs.{IsSound}
 
 row_has : {A : Type 0} (P : A → Type 0) (rows : List (ℕ × A)) → AllByRecursion (λ r. P r.1) rows → (opcode : ℕ) (x : A) → row_of rows opcode ≡ Some x → P x
@@ -52,9 +53,10 @@ constant_sound pool opcode (constant.Text i) a h = subst IsSound (sym h.1.2) tt
 constant_sound pool opcode (constant.Long n) a h = subst IsSound (sym h.1) tt
 constant_sound pool opcode c a h = elim h [ ]
 
-member_sound : (opcode : ℕ) (m : Member) (a : Action) → AccessesField opcode m a ⊎ CallsStatic opcode m a → IsSound a
+member_sound : (opcode : ℕ) (m : Member) (a : Action) → UsesMember opcode m a → IsSound a
 member_sound opcode m a (inl h) = subst IsSound (sym h.is) (row_has (λ access. (t : JType) (f : Sym) → IsFloatless t → IsSound (access t f)) field_rows field_sound opcode h.access h.row h.type m.sym h.floatless)
-member_sound opcode m a (inr h) = subst IsSound (sym h.is) h.typed
+member_sound opcode m a (inr (inl h)) = subst IsSound (sym h.is) h.typed
+member_sound opcode m a (inr (inr h)) = subst IsSound (sym h.is) (receivers_apart.typed h.form m.sym h.desc h.typed, (h.desc.params, refl))
 
 with_sound : (pool : List Entry) (opcode : ℕ) (u : Use) (a : Action) → ActsWith pool opcode u a → IsSound a
 with_sound pool opcode (used.Constant c) a h = constant_sound pool opcode c a h

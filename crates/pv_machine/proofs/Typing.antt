@@ -112,10 +112,10 @@ steps_with frames p w s a g h here at flows edges q found now is (runs u same_fr
     let edge = leads frames h (successors s.at a) u.at edges among in
     let typed : IsTypedState frames u = record { frame = edge.target; there = edge.there; flows = subst (λ (x : Frame). Flows x edge.target) (sym same_frame) (flows_flows g h edge.target flows edge.flows) } in
     steps_some frames p w s a (running u) at (performed_as p w s a q found ∙ is) (λ t e. subst (IsTypedState frames) (running_of u t e) typed)
-steps_with frames p w s a g h here at flows edges q found now is (waits d f same_action unanswered) =
+steps_with frames p w s a g h here at flows edges q found now is (waits f calls unanswered) =
     let stays : step p w s ≡ running s = step_of p w s a at ∙ ap (λ o. unwrap_or o (running s)) (performed_as p w s a q found ∙ is) in
     record {
-      safe = inr (record { desc = d; sym = f; at = at ∙ ap Some same_action; operands = q; popped = ap (λ (x : Action). popped sort_of (takes x) s.stack) (sym same_action) ∙ found; unanswered = unanswered });
+      safe = inr (record { action = a; sym = f; at = at; operands = q; popped = found; calls = calls; unanswered = unanswered });
       keeps = λ t e. subst (IsTypedState frames) (running_of s t (sym stays ∙ e)) here;
     }
 

@@ -101,6 +101,7 @@ Acts p w locals a nums e = (at : ℕ) (stack : List Num) (heap : Heap) → Does 
 -- what an action asks for; a call finds its arguments by itself
 abbrev pub asked : Action → List Sort
 asked (act.Call d f) = []
+asked (act.CallOn d f) = []
 asked a = takes a
 
 -- an array and an index

@@ -228,6 +228,8 @@ done p w s (act.StoreElement k) (num.Ref r ∷ num.Int i ∷ n ∷ []) = unless 
 done p w s act.Length (num.Ref zero ∷ []) = Some (throws s fault.Null)
 done p w s act.Length (num.Ref (suc r) ∷ []) = Some (pushes s (num.Int (length_of w (suc r))))
 done p w s (act.Call d f) args = option_map (called s) (reply w f s.heap args)
+done p w s (act.CallOn d f) (num.Ref zero ∷ args) = Some (throws s fault.Null)
+done p w s (act.CallOn d f) (num.Ref (suc r) ∷ args) = option_map (called s) (reply w f s.heap (num.Ref (suc r) ∷ args))
 done p w s _ _ = None
 
 -- what an action does: it takes its operands from the stack

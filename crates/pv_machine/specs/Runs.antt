@@ -1,8 +1,8 @@
 -- Runs of programs with typed frames: the machine is never stuck but at a call that isn't in the table.
-use Rattle.std.specs.Prelude.{◌≡◌, ◌⊎◌, ℕ, ◌<◌, map, List, Option, Some, None}
+use Rattle.std.specs.Prelude.{◌≡◌, ◌⊎◌, ℕ, suc, ◌<◌, map, List, ◌∷◌, Option, Some, None}
 use Rattle.std.specs.List.{AllByRecursion}
 use Rattle.pv_value.specs.declared.number.Num.{Num}
-use Rattle.pv_value.specs.declared.descriptor.Descriptor.{Descriptor}
+use Rattle.pv_value.specs.declared.number.Num.TheVariants as num
 use Rattle.pv_value.specs.declared.name.Sym.{Sym}
 use Rattle.pv_value.specs.declared.world.World.{World}
 use Rattle.pv_value.specs.declared.outcome.Input.{Input}
@@ -32,13 +32,20 @@ pub record IsTypedState (frames : List (Option Frame)) (s : State) : Type 0 wher
   pub there : IsFrameAt frames s.at frame
   pub flows : Flows (frame_of s) frame
 
+-- an action with these operands calls under this symbol, which it doesn't on a receiver that is null
+abbrev pub Calls : Action → List Num → Sym → Type 0
+Calls (act.Call d f) args sym = sym ≡ f
+Calls (act.CallOn d f) (num.Ref (suc r) ∷ args) sym = sym ≡ f
+Calls a args sym = ⊥
+
 -- a call that isn't in the table, with its operands on the stack
 pub record Waits (p : Program) (w : World) (s : State) : Type 0 where
-  pub desc : Descriptor
+  pub action : Action
   pub sym : Sym
-  pub at : IsAt p s.at (act.Call desc sym)
+  pub at : IsAt p s.at action
   pub operands : List Num × List Num
-  pub popped : popped sort_of (takes (act.Call desc sym)) s.stack ≡ Some operands
+  pub popped : popped sort_of (takes action) s.stack ≡ Some operands
+  pub calls : Calls action operands.0 sym
   pub unanswered : reply w sym s.heap operands.0 ≡ None
 
 -- the instruction at the place of a state does something

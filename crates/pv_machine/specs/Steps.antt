@@ -25,9 +25,10 @@ below taken s = record s { stack = drop taken s.stack }
 
 -- ---- out of memory
 
--- an instruction that is no call and no field access, and writes no heap
+-- an instruction that neither calls, nor accesses a field, nor writes the heap
 abbrev pub IsQuiet : Action → Type 0
 IsQuiet (act.Call d f) = ⊥
+IsQuiet (act.CallOn d f) = ⊥
 IsQuiet (act.GetStatic t f) = ⊥
 IsQuiet (act.PutStatic t f) = ⊥
 IsQuiet (act.GetField t f) = ⊥

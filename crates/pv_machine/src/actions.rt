@@ -92,7 +92,7 @@ fn after_element(sort: Sort) -> &'static [Sort]
     }
 }
 
-// The sorts of the operands of an action that is no call, in the order in which they are pushed.
+// The sorts of the operands of an action that isn't a call, in the order in which they are pushed.
 fn takes(action: &Action) -> &'static [Sort]
     ensures { result.now ≡ asked action.now }
 {
@@ -273,6 +273,34 @@ fn call(world: &World, s: &mut State, desc: &Descriptor, f: &Sym) -> Result<Opti
     }
 }
 
+// Calls a method on a receiver, as the world replies; on null it throws.
+fn call_on(
+    world: &World,
+    s: &mut State,
+    desc: &Descriptor,
+    f: &Sym,
+) -> Result<Option<Outcome>, Memory>
+    requires at { s.old.state.at < usize.MAX }
+    ensures performed { (p : Program) → IfOk result (λ end. now_of s.new.state end ≡ perform p world.now s.old.state (Action.CallOn desc.now f.now)) }
+    ensures err { OnErr result (s.new.state ≡ s.old.state) }
+    ensures room { s.old.room ≤ s.new.room }
+    ensures max_stack { s.new.max_stack ≡ s.old.max_stack }
+{
+    let sorts = parameter_sorts(s.alloc, &desc.params)?;
+    let Some(args) = s.stack.operands(&sorts) else {
+        return Ok(None);
+    };
+    let taken = args.len();
+    match args {
+        [Num::Ref(0), ..] => apply(s, taken, Effect::Throw(Fault::Null)),
+        [Num::Ref(_), ..] => match world.reply(f, &s.heap, args) {
+            Some(reply) => answer(s, taken, reply),
+            None => Ok(None),
+        },
+        _ => Ok(None),
+    }
+}
+
 /// Does what an instruction does. Where it does nothing, and after `Memory`, the state stays.
 pub(crate) fn perform(
     p: &Program,
@@ -293,6 +321,7 @@ pub(crate) fn perform(
             Ok(None)
         }
         Action::Call(desc, f) => call(world, s, desc, f),
+        Action::CallOn(desc, f) => call_on(world, s, desc, f),
         Action::GetStatic(_, _)
         | Action::PutStatic(_, _)
         | Action::GetField(_, _)

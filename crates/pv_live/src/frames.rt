@@ -71,7 +71,7 @@ fn kept_frames(
 }
 
 /// The typed method with the frames that know the live locals alone: the sort of a local is unknown
-/// where the local isn't live. All else stays.
+/// where the local isn't live. All else stays. `Memory` says nothing of the method.
 pub fn needed(alloc: Global, typed: Typed) -> Result<Typed, Memory>
     requires { IsInferred typed.program typed.frames }
     ensures needed { IfOk result (λ t. AreNeeded t.program t.frames) }

@@ -22,11 +22,11 @@ use Rattle.pv_block.specs.declared.ran.Leaving.{Leaving}
 use Rattle.pv_block.specs.declared.ran.Leaving.TheVariants.{Goes}
 use Rattle.pv_block.specs.declared.ran.Ran.{Ran}
 use Rattle.pv_block.specs.Standing.{Entry, StandsFor, HoldsFor, StandsOver}
-use Rattle.pv_block.specs.Leaving.{state_of, ended, EndsFor, LeavesBy, HasExits, Branches, Switches, LeavesOnNull, LeavesOutside, LeavesOnZero, LeavesOnFault, LeavesOn}
-use Rattle.pv_block.proofs.Standing.{grown}
+use Rattle.pv_block.specs.Leaving.{state_of, ended, EndsFor, LeavesBy, HasExits, Branches, Switches, LeavesOnNull, LeavesOutside, LeavesOnZero, LeavesOnFault, LeavesOnReceiver, LeavesOn}
+use Rattle.pv_block.proofs.Standing.{grown, stands_on}
 use Rattle.pv_block.proofs.Holding.{holds_on}
 use Rattle.pv_block.proofs.Asked.{first_stands, second_stands}
-use Rattle.pv_block.proofs.Exits.{goes_exit, by_exits}
+use Rattle.pv_block.proofs.Exits.{ends_on, goes_exit, by_exits}
 
 -- ---- actions
 
@@ -114,6 +114,18 @@ on_call next old mid new ends kids c ran d f fault grows over z result at h g ce
     subst (LeavesBy at new.nodes (Some g) ran) (some_of _ _ is)
     (z at (fault_part f h cells) (after_call h f cells) (Some g) (to next g) stands (after_ends next mid new ends kids c ran at h g f cells d.result acts hold') (goes_exit at mid.nodes next c g hold'))
 
+-- .. and one on a receiver
+pub on_receiver : (next : ℕ) (old mid new : Graph) (ends : Ending) (kids : List ℕ) (c : Held) (ran : Ran) (d : _) (f : Sym) (fault : ℕ) → Grows old mid → StandsOver old.nodes (op.CallFault f) (ends.heap ∷ kids) mid.nodes fault
+    → LeavesOnReceiver mid.nodes (get_or kids 0 0) fault ends (ended c) (Goes next (state_of c)) new.nodes ran → LeavesOn next (act.CallOn d f) old.nodes ends kids c new.nodes ran
+on_receiver next old mid new ends kids c ran d f fault grows over z result at h g [] x e s hold acts is = no_some x is
+on_receiver next old mid new ends kids c ran d f fault grows over z result at h g (y ∷ cells) x e s hold acts is =
+    let hold' = holds_on at old.nodes mid.nodes (grown old mid grows) c g hold in
+    let stands : StandsFor at mid.nodes fault (fault_part f h (y ∷ cells)) = over at (call_parts h (y ∷ cells)) refl (e.heap, s) in
+    let receiver : StandsFor at mid.nodes (get_or kids 0 0) y.part = stands_on at old.nodes mid.nodes (get_or kids 0 0) y.part (grown old mid grows) (first_stands at old.nodes kids y.part (parts_of cells) s) in
+    let after : EndsFor at mid.nodes (ended c) (after_call h f (y ∷ cells)) = after_ends next mid new ends kids c ran at h g f (y ∷ cells) d.result acts hold' in
+    subst (LeavesBy at new.nodes (Some g) ran) (some_of _ _ is)
+    (z at y.part (fault_part f h (y ∷ cells)) h (after_call h f (y ∷ cells)) (Some g) (to next g) receiver stands (ends_on at old mid ends h grows e) after (goes_exit at mid.nodes next c g hold'))
+
 -- ---- actions with no test
 
 pub record IsOther (a : Action) : Type 0 where
@@ -127,6 +139,7 @@ pub record IsOther (a : Action) : Type 0 where
   pub load : (k : _) → a ≡ act.LoadElement k → ⊥
   pub store : (k : _) → a ≡ act.StoreElement k → ⊥
   pub call : (d : _) (f : Sym) → a ≡ act.Call d f → ⊥
+  pub call_on : (d : _) (f : Sym) → a ≡ act.CallOn d f → ⊥
 
 other_chain : (result : Option JType) (a : Action) (h : parts.Held) (cells : List parts.Cell) (n : Exit) (x : Chain) → IsOther a → chain_with result a h cells n ≡ Some x → Leave n ≡ x
 other_chain result (act.Branch t target) h cells n x o is = absurd (o.branch_ t target refl)
@@ -139,6 +152,7 @@ other_chain result act.Length h cells n x o is = absurd (o.length_ refl)
 other_chain result (act.LoadElement k) h cells n x o is = absurd (o.load k refl)
 other_chain result (act.StoreElement k) h cells n x o is = absurd (o.store k refl)
 other_chain result (act.Call d f) h cells n x o is = absurd (o.call d f refl)
+other_chain result (act.CallOn d f) h cells n x o is = absurd (o.call_on d f refl)
 other_chain result (act.Give s) h cells n x o is = no_some x is
 other_chain result act.Throw h cells n x o is = no_some x is
 other_chain result a h cells n x o is = some_of _ _ is

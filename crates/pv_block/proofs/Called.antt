@@ -1,5 +1,5 @@
 -- What is held after a call, and the sorts of that.
-use Rattle.std.proofs.Common.{◌≡◌, ℕ, true, List, [], ◌∷◌, Option, Some, None, refl, ap, sym, subst, ◌∙◌}
+use Rattle.std.proofs.Common.{◌≡◌, ◌⊎◌, ℕ, true, List, [], ◌∷◌, Option, Some, None, inl, inr, refl, ap, sym, subst, ◌∙◌}
 use Rattle.std.specs.Prelude.{map, option_map}
 use Rattle.std.specs.List.{AllZip, AllByRecursion}
 use Rattle.pv_value.specs.declared.descriptor.JType.{JType}
@@ -7,6 +7,7 @@ use Rattle.pv_value.specs.declared.descriptor.Descriptor.{Descriptor}
 use Rattle.pv_value.specs.declared.name.Sym.{Sym}
 use Rattle.pv_value.specs.Spelled.{bind}
 use Rattle.pv_value.proofs.Spelling.{method_spelled}
+use Rattle.pv_frame.specs.declared.action.Action.{Action}
 use Rattle.pv_frame.specs.declared.action.Action.TheVariants as act
 use Rattle.pv_frame.specs.Actions.{IsFloatless, HasFloatlessResult}
 use Rattle.pv_frame.specs.Effects.{sort_of_type, takes}
@@ -29,7 +30,7 @@ use Rattle.pv_block.specs.Cells.{sort_in}
 use Rattle.pv_block.specs.Standing.{Entry, StandsFor, AllStand, CellStands, HoldsFor, StandsOver}
 use Rattle.pv_block.specs.Sorted.{op_sort, AreSorted, IsSorted}
 use Rattle.pv_block.specs.Plain.{IsPlain}
-use Rattle.pv_block.specs.Acting.{kids_of, push_in, StandsForToken, EndsCall, ActsOn}
+use Rattle.pv_block.specs.Acting.{kids_of, push_in, StandsForToken, EndsCall, Calls, ActsOn}
 use Rattle.pv_block.proofs.Standing.{grown, stands_on, all_stand_on, stands_over}
 use Rattle.pv_block.proofs.Holding.{holds_on}
 use Rattle.pv_block.proofs.Single.{IsKnown, types_known, type_sorted, exactly_same, kids_stand, put_holds, sorted_kids, sorted_on}
@@ -125,26 +126,39 @@ ended_holds at old new f c after h kids ds grows e x all =
     })
 
 module _ (old new : Graph) (d : Descriptor) (f : Sym) (c after : Held) (cells : List Cell) (plain_ : IsPlain (act.Call d f)) (m : map sort_in cells ≡ takes (act.Call d f)) where
-  pub acts_without : Grows old new → d.result ≡ None → EndsCall old c f (kids_of true c.heap cells) new after → ActsOn (act.Call d f) old.nodes c cells new.nodes (Some after)
-  acts_without grows r e at h g ds x z i = (
-    after,
-    refl,
-    subst (HoldsFor at new.nodes after) (sym (ap (with_result h f ds) r) ∙ some_of _ _ i) (ended_holds at old new f c after h (kids_of true c.heap cells) ds grows e x (args_stand at old.nodes d f c h cells ds plain_ m x z)),
-  )
+  pub calls_without : Grows old new → d.result ≡ None → EndsCall old c f (kids_of true c.heap cells) new after → Calls d f old.nodes c cells new.nodes after
+  calls_without grows r e at h ds x z =
+      subst (HoldsFor at new.nodes after) (sym (ap (with_result h f ds) r)) (ended_holds at old new f c after h (kids_of true c.heap cells) ds grows e x (args_stand at old.nodes d f c h cells ds plain_ m x z))
 
-  pub acts_with : (mid : Graph) (r : JType) (n : ℕ) → Grows old mid → Grows mid new → d.result ≡ Some r → EndsCall old c f (kids_of true c.heap cells) mid after → StandsOver mid.nodes (op.CallRes f) (kids_of true c.heap cells) new.nodes n
-      → ActsOn (act.Call d f) old.nodes c cells new.nodes (Some (push_in (record { sort = sort_of_type r; node = n }) after))
-  acts_with mid r n first then r_is e over at h g ds x z i =
+  pub calls_with : (mid : Graph) (r : JType) (n : ℕ) → Grows old mid → Grows mid new → d.result ≡ Some r → EndsCall old c f (kids_of true c.heap cells) mid after → StandsOver mid.nodes (op.CallRes f) (kids_of true c.heap cells) new.nodes n
+      → Calls d f old.nodes c cells new.nodes (push_in (record { sort = sort_of_type r; node = n }) after)
+  calls_with mid r n first then r_is e over at h ds x z =
       let all = args_stand at old.nodes d f c h cells ds plain_ m x z in
       let ended = ended_holds at old mid f c after h (kids_of true c.heap cells) ds first e x all in
       let kept = holds_on at mid.nodes new.nodes (grown mid new then) after (after_call h f ds) ended in
       let stands = over at (call_parts h ds) refl (all_stand_on at old.nodes mid.nodes (kids_of true c.heap cells) (call_parts h ds) (grown old mid first) all) in
-      let result : Held = push_in (record { sort = sort_of_type r; node = n }) after in (
-        result,
-        refl,
-        subst (HoldsFor at new.nodes result) (sym (ap (with_result h f ds) r_is) ∙ some_of _ _ i)
-            (put_holds at new.nodes (Some (sort_of_type r)) after (after_call h f ds) n (Of (op.CallRes f) refl (call_parts h ds)) kept stands),
-      )
+      subst (HoldsFor at new.nodes (push_in (record { sort = sort_of_type r; node = n }) after)) (sym (ap (with_result h f ds) r_is))
+      (put_holds at new.nodes (Some (sort_of_type r)) after (after_call h f ds) n (Of (op.CallRes f) refl (call_parts h ds)) kept stands)
+
+-- ---- the actions that are calls
+
+-- a call of f, of this type, with a receiver or without one
+abbrev pub IsCallOf : Action → Descriptor → Sym → Type 0
+IsCallOf a d f = (a ≡ act.Call d f) ⊎ (a ≡ act.CallOn d f)
+
+pub plain_call : (a : Action) (d : Descriptor) (f : Sym) → IsCallOf a d f → IsPlain a → IsPlain (act.Call d f)
+plain_call a d f (inl e) p = subst IsPlain e p
+plain_call a d f (inr e) p = let q = subst IsPlain e p in (q.0.0, q.1)
+
+pub call_takes : (a : Action) (d : Descriptor) (f : Sym) → IsCallOf a d f → takes a ≡ map sort_of_type d.params
+call_takes a d f (inl e) = ap takes e
+call_takes a d f (inr e) = ap takes e
+
+pub call_acts : (a : Action) (d : Descriptor) (f : Sym) (old new : List Node) (c after : Held) (cells : List Cell) → IsCallOf a d f → Calls d f old c cells new after → ActsOn a old c cells new (Some after)
+call_acts a d f old new c after cells (inl e) calls =
+    subst (λ (a : Action). ActsOn a old c cells new (Some after)) (sym e) (λ at h g ds x z i. (after, refl, subst (HoldsFor at new after) (some_of _ _ i) (calls at h ds x z)))
+call_acts a d f old new c after cells (inr e) calls =
+    subst (λ (a : Action). ActsOn a old c cells new (Some after)) (sym e) (λ at h g ds x z i. (after, refl, subst (HoldsFor at new after) (some_of _ _ i) (calls at h ds x z)))
 
 -- ---- sorts
 

@@ -21,7 +21,7 @@ use Rattle.pv_block.specs.declared.ran.Ran.{Ran}
 use Rattle.pv_block.specs.Standing.{Entry, StandsFor}
 use Rattle.pv_block.specs.Sorted.{op_sort}
 use Rattle.pv_block.specs.Ran.{IsSortedEnding, result_sort}
-use Rattle.pv_block.specs.Leaving.{length_part, Makes, Gives, GivesBoth, faulted, EndsFor, IsExit, LeavesBy, HasExits, AreSortedExits, KeepsSorts, LeavesOutside, LeavesOnFault, Returning, Throwing}
+use Rattle.pv_block.specs.Leaving.{length_part, Makes, Gives, GivesBoth, faulted, EndsFor, IsExit, LeavesBy, HasExits, AreSortedExits, KeepsSorts, LeavesOutside, LeavesOnFault, LeavesOnReceiver, Returning, Throwing}
 use Rattle.pv_block.proofs.Standing.{grown, stands_on}
 use Rattle.pv_block.proofs.Nodes.{sort_on}
 use Rattle.pv_block.proofs.Asked.{first_stands}
@@ -73,6 +73,26 @@ outside_sorted old new t u v null index ends next ran g has x y z n i e s m =
     let e' = ending_on old new sort.Unknown ends g e in
     let f = faulted_sorted new s ends index e' i in
     sorted_exits new s ran (t ∷ u ∷ v ∷ []) (outside_exits ends null index next) has (x, (y, (z, tt))) (faulted_sorted new s ends null e' n, (f, (leaving_on old new s next g m, (f, tt))))
+
+-- ---- calls on a receiver
+
+abbrev receiver_exits : Ending → ℕ → Leaving → Ending → ℕ → List Leaving
+receiver_exits before null next after fault = faulted before null ∷ next ∷ faulted after fault ∷ []
+
+pub leaves_receiver : (old new : Graph) (o fault t u null : ℕ) (before after : Ending) (next : Leaving) (ran : Ran) → Grows old new → Gives old.nodes o new.nodes t (λ p. aeq p null_part) → Makes new.nodes null (Of op.FNull refl NoPart)
+    → Gives old.nodes fault new.nodes u (λ p. Of op.IsClear refl (More p NoPart)) → HasExits ran (t ∷ u ∷ []) (receiver_exits before null next after fault) → LeavesOnReceiver old.nodes o fault before after next new.nodes ran
+leaves_receiver old new o fault t u null before after next ran g test no_object clear has at p q h k goes x s f b a n =
+    by_exits at new.nodes goes ran (t ∷ u ∷ []) (receiver_exits before null next after fault) _ has (
+      test at p s,
+      throw_exit at new.nodes before h null (Of op.FNull refl NoPart) (ends_on at old new before h g b) (no_object at),
+      (clear at q f, exit_on at old new goes next x g n, throw_exit at new.nodes after k fault q (ends_on at old new after k g a) (stands_on at old.nodes new.nodes fault q (grown old new g) f)),
+    )
+
+pub receiver_sorted : (old new : Graph) (fault t u null : ℕ) (before after : Ending) (next : Leaving) (ran : Ran) → Grows old new → HasExits ran (t ∷ u ∷ []) (receiver_exits before null next after fault) → IsOfSort new t I → IsOfSort new u I → IsOfSort new null F
+    → IsOfSort old fault F → IsSortedEnding old sort.Unknown before → IsSortedEnding old sort.Unknown after → KeepsSorts old next new ran
+receiver_sorted old new fault t u null before after next ran g has x y n f b a s m =
+    sorted_exits new s ran (t ∷ u ∷ []) (receiver_exits before null next after fault) has (x, (y, tt))
+    (faulted_sorted new s before null (ending_on old new sort.Unknown before g b) n, (leaving_on old new s next g m, (faulted_sorted new s after fault (ending_on old new sort.Unknown after g a) (sort_on old new fault F g f), tt)))
 
 -- ---- athrow
 

@@ -1,6 +1,7 @@
 -- What an action of a block does to what is held in nodes.
 use Rattle.std.specs.Prelude.{◌≡◌, refl, ℕ, ℤ, Bool, true, false, List, [], ◌∷◌, map, Option, Some, None, option_map, if◌then◌else◌}
 use Rattle.pv_value.specs.declared.name.Sym.{Sym}
+use Rattle.pv_value.specs.declared.descriptor.Descriptor.{Descriptor}
 use Rattle.pv_value.specs.declared.number.Num.{Num}
 use Rattle.pv_value.specs.declared.number.Num.TheVariants as num
 use Rattle.pv_value.specs.declared.operation.ScalarOp.TheVariants.{Iadd}
@@ -21,7 +22,7 @@ use Rattle.pv_graph.specs.Graphs.{Graph}
 use Rattle.pv_equations.specs.Flow.{Part, Parts, Slot, Of, call_token}
 use Rattle.pv_terms.specs.Reads.{Stand}
 use Rattle.pv_terms.specs.Terms.{IsOfSort, HasItsSort}
-use Rattle.pv_runs.specs.Held.{acted_on, acted, int_part}
+use Rattle.pv_runs.specs.Held.{with_result, acted_on, acted, int_part}
 use Rattle.pv_runs.specs.Chains.{two_parts}
 use Rattle.pv_runs.specs.Held as parts
 use Rattle.pv_runs.specs.Blocks.{acted_along}
@@ -125,7 +126,7 @@ StandsForSum old value by new n = (at : Entry) (p : Part) → StandsFor at old v
 abbrev pub Increases : ℕ → ℤ → List Node → Held → List Node → Option Held → Type 0
 Increases k by old before new after = (operands : List Cell) → ActsOn (act.Increase k by) old before operands new after
 
--- ---- a call
+-- ---- a call, with a receiver or without one
 
 -- whatever the nodes stand for where the block begins and in a call of f, the other stands for the token after the call
 abbrev pub StandsForToken : List Node → ℕ → Sym → List ℕ → List Node → ℕ → Type 0
@@ -141,12 +142,17 @@ pub record EndsCall (old : Graph) (c : Held) (f : Sym) (kids : List ℕ) (new : 
   pub token_stands : StandsForToken old.nodes c.start f kids new.nodes token
   pub token_sort : IsOfSort new token T
 
+-- whatever is held in parts, with these arguments, what is held in nodes after a call of f, of this type, stands for what is held in parts after it
+abbrev pub Calls : Descriptor → Sym → List Node → Held → List Cell → List Node → Held → Type 0
+Calls d f old before cells new after = (at : Entry) (h : parts.Held) (arguments : List parts.Cell) → HoldsFor at old before h → AllZip (CellStands at old) cells arguments → HoldsFor at new after (with_result h f arguments d.result)
+
 -- ---- several operations
 
 -- neither an increase nor a call, which take several operations
 abbrev pub IsSingle : Action → Type 0
 IsSingle (act.Increase k by) = ⊥
 IsSingle (act.Call d f) = ⊥
+IsSingle (act.CallOn d f) = ⊥
 IsSingle a = Unit {0}
 
 -- ---- one action after the other

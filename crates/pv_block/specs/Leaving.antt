@@ -23,7 +23,7 @@ use Rattle.pv_terms.specs.Terms.{IsOfSort}
 use Rattle.pv_runs.specs.Held.{parts_of, unit_part, clear_part, null_part, int_part, held_at, acted_on, acted}
 use Rattle.pv_runs.specs.Held as parts
 use Rattle.pv_runs.specs.Chains as chains
-use Rattle.pv_runs.specs.Chains.{to, ieq, compared, test_part, branch, switch, is_zero, narrowed_part, given_chain, unless_null, within, chain_with, last_chain, chain_of}
+use Rattle.pv_runs.specs.Chains.{to, ieq, aeq, compared, test_part, branch, switch, is_zero, narrowed_part, given_chain, unless_null, within, chain_with, last_chain, chain_of}
 use Rattle.pv_block.specs.declared.held.Cell.{Cell}
 use Rattle.pv_block.specs.declared.held.Held.{Held}
 use Rattle.pv_block.specs.declared.ran.State.{State}
@@ -186,6 +186,14 @@ LeavesOnZero o old y ends next new ran = (at : Entry) (p : Part) (h : parts.Held
 abbrev pub LeavesOnFault : List Node → ℕ → Ending → Leaving → List Node → Ran → Type 0
 LeavesOnFault old fault ends next new ran = (at : Entry) (p : Part) (h : parts.Held) (after : Option parts.Held) (x : Exit)
     → StandsFor at old fault p → EndsFor at old ends h → IsExit at old after next x → LeavesBy at new after ran (flow.Test (flow.Of op.IsClear refl (flow.More p flow.NoPart)) x (Leave (chains.throw p h)))
+
+-- a call on a receiver: null throws with what is held before it, and the call's fault, where it threw, with what is held after it
+abbrev pub LeavesOnReceiver : List Node → ℕ → ℕ → Ending → Ending → Leaving → List Node → Ran → Type 0
+LeavesOnReceiver old o fault before after next new ran = (at : Entry) (p q : Part) (h k : parts.Held) (goes : Option parts.Held) (x : Exit)
+    → StandsFor at old o p → StandsFor at old fault q → EndsFor at old before h → EndsFor at old after k → IsExit at old goes next x
+    → LeavesBy at new goes ran
+    (flow.Test (aeq p null_part) (chains.throw (flow.Of op.FNull refl flow.NoPart) h)
+    (flow.Test (flow.Of op.IsClear refl (flow.More q flow.NoPart)) x (Leave (chains.throw q k))))
 
 -- the value is that of a method with this result
 abbrev pub Returning : Option JType → List Node → List ℕ → Ending → List Node → Ran → Type 0

@@ -10,6 +10,7 @@ use Rattle.pv_runs.specs.Matches.{IsClean}
 -- a call has neither floats nor doubles
 abbrev pub IsFloatlessCall : Action → Type 0
 IsFloatlessCall (act.Call d f) = IsFloatlessMethod d
+IsFloatlessCall (act.CallOn d f) = IsFloatlessMethod d
 IsFloatlessCall a = Unit {0}
 
 -- an action of a program, as its descriptors say

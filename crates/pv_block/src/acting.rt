@@ -197,7 +197,9 @@ pub(crate) fn act_on(
 {
     match action {
         Action::Increase(place, by) => increased(alloc, g, held, *place, i32::from(*by)),
-        Action::Call(desc, f) => Ok(Some(called(alloc, g, held, desc, f, operands)?)),
+        Action::Call(desc, f) | Action::CallOn(desc, f) => {
+            Ok(Some(called(alloc, g, held, desc, f, operands)?))
+        }
         _ => simply(alloc, g, held, action, operands),
     }
 }

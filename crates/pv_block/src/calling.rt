@@ -1,21 +1,21 @@
 //! What a call does to what is held.
 
-ghost use Rattle.std.specs.Prelude.{◌≡◌, true, map, Some, IfOk};
-ghost use Rattle.pv_frame.specs.Effects.{takes};
+ghost use Rattle.std.specs.Prelude.{◌≡◌, true, map, IfOk};
+ghost use Rattle.pv_value.specs.Descriptors.{IsMethodType};
+ghost use Rattle.pv_frame.specs.Actions.{IsFloatlessMethod};
+ghost use Rattle.pv_frame.specs.Effects.{sort_of_type};
 ghost use Rattle.pv_graph.specs.declared.node.OpSort.TheVariants.{T, H};
 ghost use Rattle.pv_graph.specs.Ops.{HasSort};
 ghost use Rattle.pv_graph.specs.Graphs.{IsGraph};
 ghost use Rattle.pv_terms.specs.Terms.{Grows, IsOfSort};
 ghost use Rattle.pv_block.specs.Cells.{sort_in};
 ghost use Rattle.pv_block.specs.Sorted.{IsSorted, AreSorted};
-ghost use Rattle.pv_block.specs.Plain.{IsPlain};
-ghost use Rattle.pv_block.specs.Acting.{StandsForToken, EndsCall, ActsOn};
+ghost use Rattle.pv_block.specs.Acting.{StandsForToken, EndsCall, Calls};
 
 use crate::computing::{copy_sym, sort_of_type};
 use crate::held::{Cell, Held};
 use crate::kids::kids_of;
 use crate::stack::pushed;
-use pv_frame::Action;
 use pv_graph::{Graph, NodeId, Op};
 use pv_terms::{both, over};
 use pv_value::{Descriptor, Memory, Sym};
@@ -57,7 +57,8 @@ fn ended(alloc: Global, g: &mut Graph, held: Held, f: &Sym, kids: &[NodeId]) -> 
     })
 }
 
-/// What is held after a call that ends: its heap, its token, and its result if it has one.
+/// What is held after a call that ends: its heap, its token, and its result if it has one. A receiver is the
+/// first argument.
 pub(crate) fn called(
     alloc: Global,
     g: &mut Graph,
@@ -66,11 +67,12 @@ pub(crate) fn called(
     f: &Sym,
     operands: &[Cell],
 ) -> Result<Held, Memory>
-    requires plain { IsPlain (Action.Call desc.now f.now) }
+    requires typed { IsMethodType f.now.desc desc.now }
+    requires floatless { IsFloatlessMethod desc.now }
     requires sorted { IsSorted g.old held }
     requires operands { AreSorted g.old operands.now }
-    requires takes { map sort_in operands.now ≡ takes (Action.Call desc.now f.now) }
-    ensures acts { IfOk result (λ after. ActsOn (Action.Call desc.now f.now) g.old.nodes held operands.now g.new.nodes (Some after)) }
+    requires takes { map sort_in operands.now ≡ map sort_of_type desc.now.params }
+    ensures calls { IfOk result (λ after. Calls desc.now f.now g.old.nodes held operands.now g.new.nodes after) }
     ensures sorted { IfOk result (λ after. IsSorted g.new after) }
     ensures grows { Grows g.old g.new }
 {

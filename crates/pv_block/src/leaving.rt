@@ -17,7 +17,7 @@ ghost use Rattle.pv_block.specs.Standing.{StandsOver};
 ghost use Rattle.pv_block.specs.Sorted.{op_sort, IsSorted, AreSorted};
 ghost use Rattle.pv_block.specs.Plain.{IsPlain};
 ghost use Rattle.pv_block.specs.Ran.{result_sort, IsSortedEnding};
-ghost use Rattle.pv_block.specs.Leaving.{state_of, ended, faulted, HasExits, case_exits, AreCaseTests, AreTests, AreSortedExits, KeepsSorts, Branches, Switches, LeavesOnNull, LeavesOutside, LeavesOnZero, LeavesOnFault, Returning, Throwing, LeavesOn, GoesOnAs, LeavesAs, GivesResult, AreKnown};
+ghost use Rattle.pv_block.specs.Leaving.{state_of, ended, faulted, HasExits, case_exits, AreCaseTests, AreTests, AreSortedExits, KeepsSorts, Branches, Switches, LeavesOnNull, LeavesOutside, LeavesOnZero, LeavesOnFault, LeavesOnReceiver, Returning, Throwing, LeavesOn, GoesOnAs, LeavesAs, GivesResult, AreKnown};
 
 use crate::acting::{act_on, pop};
 use crate::computing::copy_sym;
@@ -281,6 +281,37 @@ fn unless_thrown(
     decided(alloc, clear, next, faulted(ends, fault))
 }
 
+// A call on a receiver: null throws with what is held before the call, and what the call throws is thrown
+// with what is held after it.
+fn unless_null_or_thrown(
+    alloc: Global,
+    g: &mut Graph,
+    receiver: NodeId,
+    fault: NodeId,
+    before: Ending,
+    after: Ending,
+    next: Leaving,
+) -> Result<Ran, Memory>
+    requires graph { IsGraph g.old }
+    requires receiver { IsOfSort g.old receiver A }
+    requires fault { IsOfSort g.old fault F }
+    requires before { IsSortedEnding g.old sort.Unknown before }
+    requires after { IsSortedEnding g.old sort.Unknown after }
+    ensures stands { IfOk result (λ ran. LeavesOnReceiver g.old.nodes receiver fault before after next g.new.nodes ran) }
+    ensures sorted { IfOk result (λ ran. KeepsSorts g.old next g.new ran) }
+    ensures grows { Grows g.old g.new }
+{
+    let null = is_null(alloc, g, receiver)?;
+    let null_fault = over(alloc, g, Op::FNull, &[])?;
+    let clear = over(alloc, g, Op::IsClear, &[fault])?;
+    let tests = vec![in alloc; null, clear]?;
+    let mut exits = Vec::new(alloc);
+    exits.push(faulted(before, null_fault))?;
+    exits.push(next)?;
+    exits.push(faulted(after, fault))?;
+    Ok(Ran { tests, exits })
+}
+
 // ---- actions that end the method
 
 // A return, of a value of the method's type or of none.
@@ -363,6 +394,10 @@ fn exits(
         Action::Call(_, f) => {
             let fault = call_fault(alloc, g, f, ends.heap, kids)?;
             unless_thrown(alloc, g, fault, ended(after), next)
+        }
+        Action::CallOn(_, f) => {
+            let fault = call_fault(alloc, g, f, ends.heap, kids)?;
+            unless_null_or_thrown(alloc, g, kids[0], fault, ends, ended(after), next)
         }
         _ => only(alloc, next),
     }

@@ -71,7 +71,7 @@ pub(crate) fn takes(alloc: Global, action: &Action) -> Result<Vec<Sort>, AllocEr
         Action::PutField(field, _) => [Sort::Ref, sort_of_type(*field)].to_vec(alloc),
         Action::LoadElement(_) => [Sort::Ref, Sort::Int].to_vec(alloc),
         Action::StoreElement(kind) => { [Sort::Ref, Sort::Int, sort_of_kind(*kind)].to_vec(alloc) }
-        Action::Call(desc, _) => parameter_sorts(alloc, &desc.params),
+        Action::Call(desc, _) | Action::CallOn(desc, _) => parameter_sorts(alloc, &desc.params),
         Action::Nop
         | Action::Push(_)
         | Action::Literal(_)

@@ -55,7 +55,9 @@ constant_call pool opcode c a h = absurd h
 with_call : (pool : List Entry) (opcode : ℕ) (u : Use) (a : Action) → ActsWith pool opcode u a → IsFloatlessCall a
 with_call pool opcode (used.Constant c) a h = constant_call pool opcode c a h
 with_call pool opcode (used.Member m) a (inl h) = subst IsFloatlessCall (sym h.is) (row_has (λ access. (t : JType) (f : Sym) → IsFloatlessCall (access t f)) field_rows field_calls opcode h.access h.row h.type m.sym)
-with_call pool opcode (used.Member m) a (inr h) = subst IsFloatlessCall (sym h.is) h.floatless
+with_call pool opcode (used.Member m) a (inr (inl h)) = subst IsFloatlessCall (sym h.is) h.floatless
+-- a receiver is a reference
+with_call pool opcode (used.Member m) a (inr (inr h)) = subst IsFloatlessCall (sym h.is) ((tt, h.floatless.0), h.floatless.1)
 with_call pool opcode used.None a h = absurd h
 
 acts_call : (pool : List Entry) (i : Insn) (u : Use) (a : Action) → Acts pool i u a → IsFloatlessCall a

@@ -69,6 +69,7 @@ leaves (act.LoadElement k) h g cells t e = (locals_of _ g (some_of _ _ e))
 leaves (act.StoreElement k) h g cells t e = (locals_of _ g (some_of _ _ e))
 leaves act.Length h g cells t e = (locals_of _ g (some_of _ _ e))
 leaves (act.Call d f) h g cells t e = (locals_of _ g (some_of _ _ e) ∙ result_locals h f cells d.result)
+leaves (act.CallOn d f) h g cells t e = (locals_of _ g (some_of _ _ e) ∙ result_locals h f cells d.result)
 leaves a h g cells t e = absurd (cc)
 
 acted_leaves : (a : Action) (h g : Held) → acted a h ≡ Some g → Leaves a h.locals g.locals

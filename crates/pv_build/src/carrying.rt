@@ -72,7 +72,8 @@ fn writes_heap(action: &Action) -> bool
         Action::PutStatic(_, _)
         | Action::PutField(_, _)
         | Action::StoreElement(_)
-        | Action::Call(_, _) => true,
+        | Action::Call(_, _)
+        | Action::CallOn(_, _) => true,
         _ => false,
     }
 }

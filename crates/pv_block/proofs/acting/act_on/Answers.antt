@@ -1,8 +1,9 @@
-use Rattle.std.proofs.Common.{◌≡◌, ap, sym, subst, ◌∙◌, Some, w16, w32, to_z, of_z, rules}
+use Rattle.std.proofs.Common.{◌≡◌, ap, sym, subst, ◌∙◌, w16, w32, to_z, of_z, rules}
 use Rattle.std.proofs.lemmas.Result.{IfOk-weaker}
 use Rattle.pv_frame.specs.declared.action.Action.{Action}
 use Rattle.pv_frame.specs.declared.action.Action.TheVariants as act
 use Rattle.pv_block.specs.Acting.{ActsOn}
+use Rattle.pv_block.proofs.Called.{plain_call, call_takes, call_acts}
 use Rattle.pv_block.proofs.acting.act_on.Goals as goal
 
 pub returns-in-Increase-clause-acts : goal.returns-in-Increase-clause-acts
@@ -16,4 +17,13 @@ returns-in-Increase-clause-acts c =
 
 pub returns-in_ok-called-in-Call-clause-acts : goal.returns-in_ok-called-in-Call-clause-acts
 returns-in_ok-called-in-Call-clause-acts c =
-    subst (λ (a : Action). ActsOn a c.args.g.now.nodes c.args.held c.args.operands.now c.called.new.g.nodes (Some c.in_ok-called-in-Call.field-0)) (sym c.in-Call.is) c.in_ok-called-in-Call.ensures.acts
+    call_acts c.args.action.now c.in-Call.desc c.in-Call.f c.args.g.now.nodes c.called.new.g.nodes c.args.held c.in_ok-called-in-Call.field-0 c.args.operands.now c.in-Call.is c.in_ok-called-in-Call.ensures.calls
+
+pub called-requires-clause-typed : goal.called-requires-clause-typed
+called-requires-clause-typed c = (plain_call c.args.action.now c.in-Call.desc c.in-Call.f c.in-Call.is c.requires.plain).0
+
+pub called-requires-clause-floatless : goal.called-requires-clause-floatless
+called-requires-clause-floatless c = (plain_call c.args.action.now c.in-Call.desc c.in-Call.f c.in-Call.is c.requires.plain).1
+
+pub called-requires-clause-takes : goal.called-requires-clause-takes
+called-requires-clause-takes c = c.requires.takes ∙ call_takes c.args.action.now c.in-Call.desc c.in-Call.f c.in-Call.is

@@ -14,12 +14,13 @@ use Rattle.pv_block.specs.declared.ran.Leaving.TheVariants.{Goes}
 use Rattle.pv_block.specs.Sorted.{op_sort}
 use Rattle.pv_block.specs.Plain.{IsPlain}
 use Rattle.pv_block.specs.Ran.{IsSortedEnding}
-use Rattle.pv_block.specs.Leaving.{state_of, ended, HasExits, IsSortedLeaving, Branches, Switches, LeavesOnNull, LeavesOutside, LeavesOnZero, LeavesOnFault, LeavesOn}
+use Rattle.pv_block.specs.Leaving.{state_of, ended, HasExits, IsSortedLeaving, Branches, Switches, LeavesOnNull, LeavesOutside, LeavesOnZero, LeavesOnFault, LeavesOnReceiver, LeavesOn}
 use Rattle.pv_block.proofs.Asked.{first_sort, second_sort, divide_sort}
 use Rattle.pv_block.proofs.Single.{sorted_on}
-use Rattle.pv_block.proofs.Exits.{state_sorted, ended_sorted, only_sorted}
-use Rattle.pv_block.proofs.Actions.{on_branch, on_jump, on_switch, on_divide, on_get, on_put, on_length, on_load, on_store, on_call, on_next}
-use Rattle.pv_block.proofs.Faults.{fault_has}
+use Rattle.pv_block.proofs.Exits.{ending_on, state_sorted, ended_sorted, only_sorted}
+use Rattle.pv_block.proofs.Actions.{on_branch, on_jump, on_switch, on_divide, on_get, on_put, on_length, on_load, on_store, on_call, on_receiver, on_next}
+use Rattle.pv_block.proofs.Nodes.{sort_on}
+use Rattle.pv_block.proofs.Faults.{fault_has, receiver_sort}
 use Rattle.pv_block.proofs.leaving.exits.Goals as goal
 
 pub branch-alloc-requires-clause-sorts : goal.branch-alloc-requires-clause-sorts
@@ -87,6 +88,35 @@ unless_thrown-requires-clause-fault c = c.in_ok-fault-in-Call.ensures.sorted F (
 
 pub unless_thrown-requires-clause-ends : goal.unless_thrown-requires-clause-ends
 unless_thrown-requires-clause-ends c = subst (IsSortedEnding c.call_fault.new.g sort.Unknown) (sym c.ended.ensures) (ended_sorted c.call_fault.new.g c.args.after.now (sorted_on c.args.g.now c.call_fault.new.g c.args.after.now c.in_ok-fault-in-Call.ensures.grows c.requires.after))
+
+pub call_fault-requires-in-CallOn-clause-fits : goal.call_fault-requires-in-CallOn-clause-fits
+call_fault-requires-in-CallOn-clause-fits c =
+    let plain_ = subst IsPlain c.in-CallOn.is c.requires.plain in
+    let sorts = subst (λ (a : Action). HaveSorts c.args.g.now.sorts c.args.kids.now (map op_sort (takes a))) c.in-CallOn.is c.requires.sorts in
+    (F, fault_has c.args.g.now c.in-CallOn.field-0 c.in-CallOn.f c.args.ends.heap c.args.kids.now (plain_.0.0, plain_.1) c.requires.ends.heap sorts)
+
+pub bounds-kids-0-in-CallOn : goal.bounds-kids-0-in-CallOn
+bounds-kids-0-in-CallOn c =
+    (receiver_sort c.args.g.now c.in-CallOn.field-0 c.in-CallOn.f c.args.kids.now (subst IsPlain c.in-CallOn.is c.requires.plain) (subst (λ (a : Action). HaveSorts c.args.g.now.sorts c.args.kids.now (map op_sort (takes a))) c.in-CallOn.is c.requires.sorts)).0
+
+pub unless_null_or_thrown-requires-clause-receiver : goal.unless_null_or_thrown-requires-clause-receiver
+unless_null_or_thrown-requires-clause-receiver c =
+    let sorts = subst (λ (a : Action). HaveSorts c.args.g.now.sorts c.args.kids.now (map op_sort (takes a))) c.in-CallOn.is c.requires.sorts in
+    sort_on c.args.g.now c.call_fault-in-CallOn.new.g (get_or c.args.kids.now 0 0) A c.in_ok-fault-in-CallOn.ensures.grows (receiver_sort c.args.g.now c.in-CallOn.field-0 c.in-CallOn.f c.args.kids.now (subst IsPlain c.in-CallOn.is c.requires.plain) sorts).1
+
+pub unless_null_or_thrown-requires-clause-fault : goal.unless_null_or_thrown-requires-clause-fault
+unless_null_or_thrown-requires-clause-fault c =
+    let plain_ = subst IsPlain c.in-CallOn.is c.requires.plain in
+    let sorts = subst (λ (a : Action). HaveSorts c.args.g.now.sorts c.args.kids.now (map op_sort (takes a))) c.in-CallOn.is c.requires.sorts in
+    c.in_ok-fault-in-CallOn.ensures.sorted F (fault_has c.args.g.now c.in-CallOn.field-0 c.in-CallOn.f c.args.ends.heap c.args.kids.now (plain_.0.0, plain_.1) c.requires.ends.heap sorts)
+
+pub unless_null_or_thrown-requires-clause-before : goal.unless_null_or_thrown-requires-clause-before
+unless_null_or_thrown-requires-clause-before c = ending_on c.args.g.now c.call_fault-in-CallOn.new.g sort.Unknown c.args.ends c.in_ok-fault-in-CallOn.ensures.grows c.requires.ends
+
+pub unless_null_or_thrown-requires-clause-after : goal.unless_null_or_thrown-requires-clause-after
+unless_null_or_thrown-requires-clause-after c =
+    subst (IsSortedEnding c.call_fault-in-CallOn.new.g sort.Unknown) (sym c.ended-in-CallOn.ensures)
+    (ended_sorted c.call_fault-in-CallOn.new.g c.args.after.now (sorted_on c.args.g.now c.call_fault-in-CallOn.new.g c.args.after.now c.in_ok-fault-in-CallOn.ensures.grows c.requires.after))
 
 pub returns-in-Branch-clause-stands : goal.returns-in-Branch-clause-stands
 returns-in-Branch-clause-stands c =
@@ -181,6 +211,28 @@ returns-in_ok-fault-in-Call-clause-sorted c =
 pub returns-in_ok-fault-in-Call-clause-grows : goal.returns-in_ok-fault-in-Call-clause-grows
 returns-in_ok-fault-in-Call-clause-grows c = grows_then c.args.g.now c.call_fault.new.g c.unless_thrown.new.g c.in_ok-fault-in-Call.ensures.grows c.unless_thrown.ensures.grows
 
+pub returns-in_ok-fault-in-CallOn-clause-stands : goal.returns-in_ok-fault-in-CallOn-clause-stands
+returns-in_ok-fault-in-CallOn-clause-stands c =
+    let old = c.args.g.now in
+    let mid = c.call_fault-in-CallOn.new.g in
+    let new = c.unless_null_or_thrown.new.g in
+    let fault = c.in_ok-fault-in-CallOn.fault in
+    let receiver = get_or c.args.kids.now 0 0 in
+    subst (λ (a : Action). IfOk c.unless_null_or_thrown.result (λ ran. LeavesOn c.args.next a old.nodes c.args.ends c.args.kids.now c.args.after.now new.nodes ran)) (sym c.in-CallOn.is)
+    (IfOk-weaker c.unless_null_or_thrown.result _ _
+    (λ ran z. on_receiver c.args.next old mid new c.args.ends c.args.kids.now c.args.after.now ran c.in-CallOn.field-0 c.in-CallOn.f fault c.in_ok-fault-in-CallOn.ensures.grows c.in_ok-fault-in-CallOn.ensures.stands
+    (subst (λ (e : Leaving). LeavesOnReceiver mid.nodes receiver fault c.args.ends (ended c.args.after.now) e new.nodes ran) c.in_ok-next.ensures
+    (subst (λ (e : Ending). LeavesOnReceiver mid.nodes receiver fault c.args.ends e c.in_ok-next.next new.nodes ran) c.ended-in-CallOn.ensures z))) c.unless_null_or_thrown.ensures.stands)
+
+pub returns-in_ok-fault-in-CallOn-clause-sorted : goal.returns-in_ok-fault-in-CallOn-clause-sorted
+returns-in_ok-fault-in-CallOn-clause-sorted c =
+    let mid = c.call_fault-in-CallOn.new.g in
+    IfOk-weaker c.unless_null_or_thrown.result _ _
+    (λ ran z s. z s (subst (IsSortedLeaving mid s) (sym c.in_ok-next.ensures) (state_sorted mid c.args.after.now (sorted_on c.args.g.now mid c.args.after.now c.in_ok-fault-in-CallOn.ensures.grows c.requires.after)))) c.unless_null_or_thrown.ensures.sorted
+
+pub returns-in_ok-fault-in-CallOn-clause-grows : goal.returns-in_ok-fault-in-CallOn-clause-grows
+returns-in_ok-fault-in-CallOn-clause-grows c = grows_then c.args.g.now c.call_fault-in-CallOn.new.g c.unless_null_or_thrown.new.g c.in_ok-fault-in-CallOn.ensures.grows c.unless_null_or_thrown.ensures.grows
+
 pub returns-in_default-clause-stands : goal.returns-in_default-clause-stands
 returns-in_default-clause-stands c =
     IfOk-weaker c.only-in_default.result _ _
@@ -196,6 +248,7 @@ returns-in_default-clause-stands c =
       load = c.in_default.not-LoadElement;
       store = c.in_default.not-StoreElement;
       call = c.in_default.not-Call;
+      call_on = c.in_default.not-CallOn;
     }) (subst (λ (e : Leaving). HasExits ran [] (e ∷ [])) c.in_ok-next.ensures z)) c.only-in_default.ensures
 
 pub returns-in_default-clause-sorted : goal.returns-in_default-clause-sorted

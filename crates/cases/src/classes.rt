@@ -7,8 +7,8 @@
 ghost use Rattle.std.specs.Prelude.{◌≡◌, ◌<◌, ◌↔◌, Some, IfOk, IsTrue, length, slice_get};
 ghost use Rattle.pv_frame.specs.Answers.{HasCode, HasReferences};
 ghost use Rattle.pv_class.specs.declared.file.Method.{Method};
-ghost use Rattle.pv_top.specs.Judging.{IsRead};
-ghost use Rattle.pv_top.specs.Verdicts as verdict;
+ghost use Rattle.pv_report.specs.Judging.{IsRead};
+ghost use Rattle.pv_report.specs.Verdicts as verdict;
 
 use crate::answers::{Answer, List, NoAnswer, shown};
 use crate::bench::Bench;

@@ -7,8 +7,7 @@
 ghost use Rattle.std.specs.Prelude.{◌≡◌, ◌⊎◌, IfOk, List, ℕ};
 ghost use Rattle.punthizha.specs.CommandLine.{after_name, bytes_of};
 ghost use Rattle.pv_base.specs.Outside.{Rose};
-ghost use Rattle.pv_top.specs.Words.{IsValidate, IsNoCommand, texts};
-ghost use Rattle.pv_top.specs.Lines.{bad_words};
+ghost use Rattle.pv_top.specs.Words.{IsValidate, IsNoCommand, bad_words, texts};
 ghost use Rattle.pv_top.specs.Run.{Answered, AskedFor, EachEquivalent, Says};
 
 use pv_base::{Files, HostFiles, HostSink, OpenGate, Sink};

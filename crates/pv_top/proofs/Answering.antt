@@ -10,14 +10,16 @@ use Rattle.pv_base.specs.declared.outside.Asked.{Asked}
 use Rattle.pv_base.specs.declared.outside.Asked.TheVariants.{Fetch}
 use Rattle.pv_base.specs.declared.outside.FileFault.{FileFault}
 use Rattle.pv_base.specs.declared.outside.FileFault.TheVariants as file
-use Rattle.pv_top.specs.declared.report.Fetched.{Fetched}
+use Rattle.pv_report.specs.declared.report.Fetched.{Fetched}
+use Rattle.pv_report.specs.declared.report.Judgement.{Judgement}
+use Rattle.pv_report.specs.declared.report.Judgement.TheVariants as judgement
 use Rattle.pv_top.specs.declared.status.Status.{Status}
 use Rattle.pv_top.specs.declared.status.Status.TheVariants as status
-use Rattle.pv_top.specs.declared.verdict.Side.{Side}
-use Rattle.pv_top.specs.declared.verdict.Side.TheVariants as side
-use Rattle.pv_top.specs.declared.verdict.Verdict.{Verdict}
-use Rattle.pv_top.specs.declared.verdict.Verdict.TheVariants.{Equivalent}
-use Rattle.pv_top.specs.Verdicts.{IsVerdict}
+use Rattle.pv_report.specs.declared.verdict.Side.{Side}
+use Rattle.pv_report.specs.declared.verdict.Side.TheVariants as side
+use Rattle.pv_report.specs.declared.verdict.Verdict.{Verdict}
+use Rattle.pv_report.specs.declared.verdict.Verdict.TheVariants.{Equivalent}
+use Rattle.pv_report.specs.Verdicts.{IsVerdict}
 use Rattle.pv_class.specs.declared.file.Method.{Method}
 use Rattle.pv_class.specs.declared.file.ClassFile.{ClassFile}
 use Rattle.pv_class.specs.ClassFiles.{IsClass}
@@ -28,14 +30,15 @@ use Rattle.pv_class.specs.declared.fault.PoolWord.{PoolWord}
 use Rattle.pv_class.specs.declared.fault.PoolWord.TheVariants as pool
 use Rattle.pv_class.specs.ClassFaults.{IsBad}
 use Rattle.pv_class.proofs.ClassLaws.{memory_no_fault}
-use Rattle.pv_top.specs.Lines.{bad_class, fault_text, pool_word, word_at, line_of, line_text, side_word}
-use Rattle.pv_top.specs.Report.{IsReport, Judged}
-use Rattle.pv_top.specs.Judging.{JudgesFetched}
+use Rattle.pv_report.specs.Lines.{bad_class, fault_text, pool_word, word_at, line_of, line_text, side_word}
+use Rattle.pv_report.specs.Report.{IsReport, Judged}
+use Rattle.pv_report.specs.Judging.{JudgesFetched}
+use Rattle.pv_top.specs.Statuses.{status_of}
 use Rattle.pv_top.specs.Run.{Puts, Says, SaidOf, Answered, IsThere, AskedFor}
 use Rattle.pv_top.specs.Promise.{Holds, IsLineOf, EndsWith, HaveOneMeaning, EachEquivalent}
 use Rattle.pv_top.specs.Fetching.{HoldsFetched, Asks, ReadFailed}
-use Rattle.pv_top.proofs.Places.{all_at, by_index}
-use Rattle.pv_top.proofs.SameMeanings.{same_meaning}
+use Rattle.pv_report.proofs.Places.{all_at, by_index}
+use Rattle.pv_report.proofs.SameMeanings.{same_meaning}
 use Rattle.pv_top.proofs.WholeLines.{IsWhole, no_line_of_nothing, line_of_front, first_or_later}
 use Rattle.pv_top.proofs.Decimals.{whole_decimal}
 use Rattle.pv_top.proofs.SaidLines.{tested, whole_append, whole_side, digit_last, line_of_method, only_equivalent}
@@ -62,9 +65,9 @@ as_put : (old new : Option (List ℕ)) (text : List ℕ) (meant result : Status)
 as_put old new [] meant result rose says = inl (says.0, says.1 ∙ more_nothing old)
 as_put old new (b ∷ text) meant result rose says = says
 
-pub said_of : (held : Option Stored) (a b : List ℕ) (first second : Fetched) (old new : Option (List ℕ)) (rose : Type 0) (text : List ℕ) (meant result : Status) → HoldsFetched held a first → HoldsFetched held b second → JudgesFetched first second text meant
-    → Says old new text meant result rose → SaidOf held a b old new rose result
-said_of held a b first second old new rose text meant result p q judged says = record {
+pub said_of : (held : Option Stored) (a b : List ℕ) (first second : Fetched) (old new : Option (List ℕ)) (rose : Type 0) (text : List ℕ) (j : Judgement) (result : Status) → HoldsFetched held a first → HoldsFetched held b second → JudgesFetched first second text j
+    → Says old new text (status_of j) result rose → SaidOf held a b old new rose result
+said_of held a b first second old new rose text j result p q judged says = record {
   first = p.0;
   second = q.0;
   first_held = p.1;
@@ -72,24 +75,29 @@ said_of held a b first second old new rose text meant result p q judged says = r
   first_bytes = p.2;
   second_bytes = q.2;
   text = text;
-  meant = meant;
+  judgement = j;
   judged = judged p.0 q.0 p.3 q.3;
   says = says;
 }
 
-no_judged : (a b text : List ℕ) (s : Status) → (s ≡ status.ReadFault) ⊎ (s ≡ status.Memory) → Judged a b text s → ⊥
-no_judged a b text s (inl e) h = subst (λ (x : Status). Judged a b text x) e h
-no_judged a b text s (inr e) h = subst (λ (x : Status). Judged a b text x) e h
+-- the status of a report says that both files were fetched
+no_report : (j : Judgement) → (status_of j ≡ status.ReadFault) ⊎ (status_of j ≡ status.Memory) → ⊥
+no_report judgement.AllEquivalent (inl e) = absurd (cc)
+no_report judgement.Others (inl e) = absurd (cc)
+no_report judgement.BadClass (inl e) = absurd (cc)
+no_report judgement.AllEquivalent (inr e) = absurd (cc)
+no_report judgement.Others (inr e) = absurd (cc)
+no_report judgement.BadClass (inr e) = absurd (cc)
 
 no_said : (held : Option Stored) (a b : List ℕ) (old new : Option (List ℕ)) (rose : Type 0) (result : Status) → (result ≡ status.ReadFault) ⊎ (result ≡ status.Memory) → SaidOf held a b old new rose result → ⊥
 no_said held a b old new rose result (inl e) said =
-    elim (as_put old new said.text said.meant result rose said.says) [
-      | inl s ↦ no_judged said.first said.second said.text said.meant (inl (sym s.0 ∙ e)) said.judged
+    elim (as_put old new said.text (status_of said.judgement) result rose said.says) [
+      | inl s ↦ no_report said.judgement (inl (sym s.0 ∙ e))
       | inr s ↦ absurd (cc (e, s.0))
     ]
 no_said held a b old new rose result (inr e) said =
-    elim (as_put old new said.text said.meant result rose said.says) [
-      | inl s ↦ no_judged said.first said.second said.text said.meant (inr (sym s.0 ∙ e)) said.judged
+    elim (as_put old new said.text (status_of said.judgement) result rose said.says) [
+      | inl s ↦ no_report said.judgement (inr (sym s.0 ∙ e))
       | inr s ↦ absurd (cc (e, s.0))
     ]
 
@@ -228,24 +236,19 @@ bad_class_line s bytes f text line bad e l ends =
       | inr rest ↦ no_line_of_nothing line rest
     ]
 
-judged_line : (held : Option Stored) (a b first second text : List ℕ) (s : Status) (line : List ℕ) → Holds held a first → Holds held b second → AreBytes first → AreBytes second → Judged first second text s → IsLineOf text line → EndsWith line (codes " equivalent") → HaveOneMeaning held a b line
-judged_line held a b first second text status.AllEquivalent line p q m n h l ends = report_line held a b first second text h.0 line p q m n h.1 l ends
-judged_line held a b first second text status.Others line p q m n h l ends = report_line held a b first second text h.0 line p q m n h.1 l ends
-judged_line held a b first second text status.BadClass line p q m n h l ends =
+judged_line : (held : Option Stored) (a b first second text : List ℕ) (s : Judgement) (line : List ℕ) → Holds held a first → Holds held b second → AreBytes first → AreBytes second → Judged first second text s → IsLineOf text line → EndsWith line (codes " equivalent") → HaveOneMeaning held a b line
+judged_line held a b first second text judgement.AllEquivalent line p q m n h l ends = report_line held a b first second text h.0 line p q m n h.1 l ends
+judged_line held a b first second text judgement.Others line p q m n h l ends = report_line held a b first second text h.0 line p q m n h.1 l ends
+judged_line held a b first second text judgement.BadClass line p q m n h l ends =
     elim h [
       | inl x ↦ absurd (bad_class_line side.First first x.0 text line x.1 x.2 l ends)
       | inr x ↦ absurd (bad_class_line side.Second second x.1.0 text line x.1.1 x.1.2 l ends)
     ]
-judged_line held a b first second text status.BadCert line p q m n h l ends = absurd h
-judged_line held a b first second text status.BadWords line p q m n h l ends = absurd h
-judged_line held a b first second text status.ReadFault line p q m n h l ends = absurd h
-judged_line held a b first second text status.WriteFault line p q m n h l ends = absurd h
-judged_line held a b first second text status.Memory line p q m n h l ends = absurd h
 
 said_line : (held : Option Stored) (a b : List ℕ) (old new : Option (List ℕ)) (rose : Type 0) (result : Status) → SaidOf held a b old new rose result → EachEquivalent held a b old new
 said_line held a b old new rose result said before taken line p q l ends =
-    let front = taken_front before taken said.text old new said.meant result rose p q (as_put old new said.text said.meant result rose said.says) in
-    judged_line held a b said.first said.second said.text said.meant line said.first_held said.second_held said.first_bytes said.second_bytes said.judged (line_of_front said.text taken front.0 line front.1 l) ends
+    let front = taken_front before taken said.text old new (status_of said.judgement) result rose p q (as_put old new said.text (status_of said.judgement) result rose said.says) in
+    judged_line held a b said.first said.second said.text said.judgement line said.first_held said.second_held said.first_bytes said.second_bytes said.judged (line_of_front said.text taken front.0 line front.1 l) ends
 
 nothing_taken : (old new : Option (List ℕ)) (before taken : List ℕ) → new ≡ old → old ≡ Some before → new ≡ Some (before ++ taken) → taken ≡ []
 nothing_taken old new before taken e p q =

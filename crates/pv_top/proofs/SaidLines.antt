@@ -10,17 +10,17 @@ use Rattle.pv_class.specs.declared.file.ClassFile.{ClassFile}
 use Rattle.pv_frame.specs.declared.cause.Cause.{Cause}
 use Rattle.pv_frame.specs.declared.cause.CauseKind.{CauseKind}
 use Rattle.pv_frame.specs.declared.cause.CauseKind.TheVariants as kind
-use Rattle.pv_top.specs.declared.verdict.Side.{Side}
-use Rattle.pv_top.specs.declared.verdict.Side.TheVariants as side
-use Rattle.pv_top.specs.declared.verdict.Verdict.{Verdict}
-use Rattle.pv_top.specs.declared.verdict.Verdict.TheVariants as verdict
-use Rattle.pv_top.specs.Verdicts.{IsVerdict}
-use Rattle.pv_top.specs.Lines.{shown, kind_word, cause_text, side_word, verdict_text, line_of, line_text}
-use Rattle.pv_top.specs.Report.{lines_of}
+use Rattle.pv_report.specs.declared.verdict.Side.{Side}
+use Rattle.pv_report.specs.declared.verdict.Side.TheVariants as side
+use Rattle.pv_report.specs.declared.verdict.Verdict.{Verdict}
+use Rattle.pv_report.specs.declared.verdict.Verdict.TheVariants as verdict
+use Rattle.pv_report.specs.Verdicts.{IsVerdict}
+use Rattle.pv_report.specs.Lines.{shown, kind_word, cause_text, side_word, verdict_text, line_of, line_text}
+use Rattle.pv_report.specs.Report.{lines_of}
 use Rattle.pv_top.specs.Promise.{IsLineOf, EndsWith}
 use Rattle.pv_top.proofs.WholeLines.{IsWhole, no_line_of_nothing, first_or_later}
 use Rattle.pv_top.proofs.Decimals.{last_digit, whole_decimal}
-use Rattle.pv_top.proofs.Naming.{lacks_append, shown_lacks}
+use Rattle.pv_report.proofs.Naming.{lacks_append, shown_lacks}
 
 pub whole_append : (a b : List ℕ) → IsWhole a → IsWhole b → IsWhole (a ++ b)
 whole_append = lacks_append 10

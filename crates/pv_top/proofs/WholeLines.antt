@@ -1,9 +1,9 @@
 -- The whole lines of a text.
 use Rattle.std.proofs.Common.{◌≡◌, ◌⊎◌, ℕ, List, [], ◌∷◌, ◌++◌, inl, inr, refl, sym, ap, ◌∙◌, append_assoc}
 use Rattle.std.specs.List.{AllByRecursion}
-use Rattle.pv_top.specs.Lines.{line_text}
+use Rattle.pv_report.specs.Lines.{line_text}
 use Rattle.pv_top.specs.Promise.{EndsLine, IsLineOf}
-use Rattle.pv_top.proofs.Naming.{one_front}
+use Rattle.pv_report.proofs.Naming.{one_front}
 
 -- no line feed is in it
 abbrev pub IsWhole : List ℕ → Type 0

@@ -3,10 +3,10 @@ use Rattle.std.specs.Prelude.{◌≡◌, ◌⊎◌, ℕ, List, [], ◌∷◌, Op
 use Rattle.pv_base.specs.Stored.{Stored, AreBytes}
 use Rattle.pv_base.specs.Outside.{more}
 use Rattle.pv_base.specs.declared.outside.Asked.{Asked}
-use Rattle.pv_top.specs.declared.report.Fetched.{Fetched}
+use Rattle.pv_report.specs.declared.report.Fetched.{Fetched}
 use Rattle.pv_top.specs.declared.status.Status.{Status}
 use Rattle.pv_top.specs.declared.status.Status.TheVariants as status
-use Rattle.pv_top.specs.Judging.{IsFetched}
+use Rattle.pv_report.specs.Judging.{IsFetched}
 use Rattle.pv_top.specs.Promise.{Holds}
 
 -- bytes that the store has under the name were fetched

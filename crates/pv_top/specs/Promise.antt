@@ -7,9 +7,9 @@ use Rattle.pv_class.specs.declared.file.Method.{Method}
 use Rattle.pv_class.specs.declared.file.ClassFile.{ClassFile}
 use Rattle.pv_class.specs.ClassFiles.{IsClass}
 use Rattle.pv_machine.specs.SameMeaning.{AreEquivalentMethods}
-use Rattle.pv_top.specs.declared.verdict.Verdict.TheVariants.{Equivalent}
-use Rattle.pv_top.specs.Partners.{IsPartner}
-use Rattle.pv_top.specs.Lines.{line_of}
+use Rattle.pv_report.specs.declared.verdict.Verdict.TheVariants.{Equivalent}
+use Rattle.pv_report.specs.Partners.{IsPartner}
+use Rattle.pv_report.specs.Lines.{line_of}
 
 -- the store, where what it holds is known, has these bytes under the name
 abbrev pub Holds : Option Stored → List ℕ → List ℕ → Type 0

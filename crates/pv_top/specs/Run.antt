@@ -7,7 +7,9 @@ use Rattle.pv_base.specs.declared.outside.Asked.TheVariants.{Fetch}
 use Rattle.pv_top.specs.declared.status.Status.{Status}
 use Rattle.pv_top.specs.declared.status.Status.TheVariants as status
 use Rattle.pv_top.specs.Promise.{Holds}
-use Rattle.pv_top.specs.Report.{Judged}
+use Rattle.pv_report.specs.Report.{Judged}
+use Rattle.pv_report.specs.declared.report.Judgement.{Judgement}
+use Rattle.pv_top.specs.Statuses.{status_of}
 
 -- some bytes stand under the name
 abbrev pub IsThere : Option Stored → List ℕ → Type 0
@@ -31,9 +33,9 @@ pub record SaidOf (held : Option Stored) (a b : List ℕ) (old new : Option (Lis
   pub first_bytes : AreBytes first
   pub second_bytes : AreBytes second
   pub text : List ℕ
-  pub meant : Status
-  pub judged : Judged first second text meant
-  pub says : Says old new text meant result write_rose
+  pub judgement : Judgement
+  pub judged : Judged first second text judgement
+  pub says : Says old new text (status_of judgement) result write_rose
 
 -- The answer: a fetch failed, or memory ran out, and nothing was said; or what there is to say was said.
 abbrev pub Answered : Option Stored → List ℕ → List ℕ → Option (List ℕ) → Option (List ℕ) → Type 0 → Type 0 → Status → Type 0

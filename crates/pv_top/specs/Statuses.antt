@@ -1,7 +1,14 @@
--- The numbers of the statuses.
+-- The statuses of reports, and the numbers of the statuses.
 use Rattle.std.specs.Prelude.{ℕ}
+use Rattle.pv_report.specs.declared.report.Judgement.{Judgement}
+use Rattle.pv_report.specs.declared.report.Judgement.TheVariants as judgement
 use Rattle.pv_top.specs.declared.status.Status.{Status}
 use Rattle.pv_top.specs.declared.status.Status.TheVariants.{AllEquivalent, Others, BadClass, BadCert, BadWords, ReadFault, WriteFault, Memory}
+
+abbrev pub status_of : Judgement → Status
+status_of judgement.AllEquivalent = AllEquivalent
+status_of judgement.Others = Others
+status_of judgement.BadClass = BadClass
 
 abbrev pub number_of : Status → ℕ
 number_of AllEquivalent = 0

@@ -1,25 +1,18 @@
 //! The commands of the validator.
 //!
-//! This is the highest layer: it stands on all others, and `main` calls `run`. `specs/` says which
-//! words are a command (`Words`), when two methods have roots that unfold alike (`Roots`), what the lines
-//! of a report are (`Verdicts`, `Lines`, `Report`), and what `run` answers and leaves (`Run`). `pv_build`
-//! converts two methods into one graph, in which `pv_alike` compares their roots; that a root has the
-//! outcomes of its method is a law of `pv_runs`.
+//! This is the highest layer: `main` calls `run`. It stands on `pv_report`, which says what there is to say of two
+//! files, on `pv_base`, from which these come and to which the text goes, and on those below them. `specs/` says which
+//! words are a command (`Words`), what the promise is (`Promise`), what `run` answers and leaves (`Run`), and which
+//! numbers the statuses have (`Statuses`).
 //!
-//! `main` uses the clauses of `run`: each whole line `.. equivalent` that the sink took is true
-//! (`equivalent`), what each answer says of the words, of the files and of the outside (`answered`,
-//! `bad_words`), and what was asked of the outside (`asked`, `none_asked`, `held`).
+//! `main` uses the clauses of `run`: each whole line `.. equivalent` that the sink took is true (`equivalent`), what each
+//! answer says of the words, of the files and of the outside (`answered`, `bad_words`), and what was asked of the outside
+//! (`asked`, `none_asked`, `held`). `Commands` and `Fetching` are private to this crate.
 #![tactic(auto)]
 
-mod laws;
-mod line;
-mod partners;
-mod report;
 mod status;
 mod top;
-mod verdict;
 mod words;
 
-pub use laws::law_lines;
 pub use status::Status;
 pub use top::run;

@@ -1,7 +1,9 @@
 //! How a run of the program ended.
 
 ghost use Rattle.std.specs.Prelude.{◌≡◌};
-ghost use Rattle.pv_top.specs.Statuses.{number_of};
+ghost use Rattle.pv_top.specs.Statuses.{number_of, status_of};
+
+use pv_report::Judgement;
 
 /// How a run of the program ended. Its number is the exit status.
 #[derive(Clone, Copy, Debug, PartialEq, Eq)]
@@ -25,6 +27,17 @@ pub enum Status {
 }
 
 impl Status {
+    /// The status that goes with a report.
+    pub(crate) fn of(judgement: Judgement) -> Status
+        ensures { result ≡ status_of judgement }
+    {
+        match judgement {
+            Judgement::AllEquivalent => Status::AllEquivalent,
+            Judgement::Others => Status::Others,
+            Judgement::BadClass => Status::BadClass,
+        }
+    }
+
     /// The exit status of the program, 0 to 7.
     pub fn number(self) -> u8
         ensures { result ≡ number_of self }

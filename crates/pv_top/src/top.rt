@@ -4,17 +4,16 @@ ghost use Rattle.std.specs.Prelude.{◌≡◌, ◌≤◌, IfOk, IfErr, List, ℕ
 ghost use Rattle.pv_base.specs.Outside.{Rose};
 ghost use Rattle.pv_base.specs.Stored.{AreBytes};
 ghost use Rattle.pv_base.specs.declared.outside.Asked.TheVariants.{Fetch};
-ghost use Rattle.pv_top.specs.Words.{IsValidate, IsNoCommand, texts};
-ghost use Rattle.pv_top.specs.Lines.{bad_words};
+ghost use Rattle.pv_top.specs.Words.{IsValidate, IsNoCommand, bad_words, texts};
 ghost use Rattle.pv_top.specs.Run.{Answered, AskedFor, Says};
 ghost use Rattle.pv_top.specs.Promise.{EachEquivalent};
 ghost use Rattle.pv_top.specs.Fetching.{Asks, HoldsFetched, ReadFailed};
 
-use crate::report::{Fetched, judge};
 use crate::status::Status;
 use crate::words::{Command, read_words};
 use pv_base::{FileFault, Files, Gate, Sink};
 use pv_class::LONGEST_FILE;
+use pv_report::{Fetched, judge};
 use std::alloc::Global;
 use std::thread::Threads;
 
@@ -69,7 +68,7 @@ fn validate<F: Files, K: Sink>(
         Err(status) => return status,
     };
     match judge(alloc, &first, &second) {
-        Ok((text, status)) => say(out, &text, status),
+        Ok((text, judgement)) => say(out, &text, Status::of(judgement)),
         Err(_) => Status::Memory,
     }
 }

@@ -1,0 +1,11 @@
+pub mod Places
+pub mod Naming
+pub mod Shown
+pub mod Likenesses
+pub mod SameFlows
+pub mod SameMeanings
+pub mod SameRoots
+pub mod SoFar
+pub mod Judgements
+pub mod ReadClasses
+pub mod ReportOnce

@@ -1,0 +1,114 @@
+-- Two roots in one graph unfold equally, or they do in none; and a sealed graph has its nodes.
+use Rattle.std.proofs.Common.{◌≡◌, ◌↔◌, ◌==◌, ℕ, ◌<◌, List, length, Bool, true, Option, sym, ap, subst, ◌∙◌}
+use Rattle.std.proofs.lemmas.Bool.Decides.{Decides-eqb}
+use Rattle.std.specs.Prelude.{IsTrue}
+use Rattle.pv_class.specs.declared.file.ClassFile.{ClassFile}
+use Rattle.pv_class.specs.declared.file.Method.{Method}
+use Rattle.pv_class.proofs.CodeBytes.{HasBytes}
+use Rattle.pv_frame.specs.declared.program.Program.{Program}
+use Rattle.pv_frame.specs.declared.frame.Frame.{Frame}
+use Rattle.pv_live.specs.Needed.{AreNeeded}
+use Rattle.pv_frame.proofs.CauseLaws.{one_program}
+use Rattle.pv_live.proofs.ListLaws.{needed_once}
+use Rattle.pv_flow.specs.declared.block.Block.{Block}
+use Rattle.pv_flow.specs.Blocks.{IsFlow}
+use Rattle.pv_flow.specs.Edges.{edges_of}
+use Rattle.pv_flow.proofs.OneFlow.{one_flow}
+use Rattle.pv_loops.specs.Forests.{IsForest, IsSameForest}
+use Rattle.pv_loops.proofs.Unique.{one_forest}
+use Rattle.pv_graph.specs.declared.node.Node.{Node}
+use Rattle.pv_graph.specs.declared.node.OpSort.TheVariants.{R}
+use Rattle.pv_graph.specs.Unfold.{UnfoldEqually, UnfoldsAs}
+use Rattle.pv_graph.specs.Graphs.{Graph, IsGraph, IsWellMade, form_at}
+use Rattle.pv_graph.specs.Calls.{IsOpenTheta, empty_graph, Sealed}
+use Rattle.pv_graph.proofs.CallLaws.{empty_made}
+use Rattle.pv_graph.proofs.NodeLaws.{growth_unfolds}
+use Rattle.pv_equations.specs.Flow.{Flow}
+use Rattle.pv_terms.specs.Terms.{Enlarges, IsOfSort}
+use Rattle.pv_terms.proofs.Growing.{sorted_within}
+use Rattle.pv_runs.specs.Methods.{flow_of}
+use Rattle.pv_build.specs.Unfolded.{IsUnfolded}
+use Rattle.pv_build.specs.Conversion.{Form, IsRootOf}
+use Rattle.pv_report.specs.Roots.{HaveRoots, Alike, IsWhole}
+use Rattle.pv_report.proofs.SameFlows.{same_flow, alike_flows}
+use Rattle.pv_report.proofs.SameMeanings.{solved}
+
+-- ---- one flow of a method
+
+module _ (file : ClassFile) (m : Method) (a b : Form file m) (bytes : HasBytes m) where
+  one_program_ : a.program ≡ b.program
+  one_program_ = one_program file m a.program b.program bytes a.accepted.of_method b.accepted.of_method
+
+  one_frames : a.frames ≡ b.frames
+  one_frames = needed_once b.program a.frames b.frames (subst (λ (p : Program). AreNeeded p a.frames) one_program_ a.needed) b.needed
+
+  one_blocks : a.blocks ≡ b.blocks
+  one_blocks = one_flow b.program a.blocks b.blocks (subst (λ (p : Program). IsFlow p a.blocks) one_program_ a.shaped.flow) b.shaped.flow
+
+  one_forest_ : IsSameForest a.forest b.forest
+  one_forest_ = one_forest (edges_of b.blocks) a.forest b.forest (subst (λ (blocks : List Block). IsForest (edges_of blocks) a.forest) one_blocks a.shaped.loops) b.shaped.loops
+
+  one_flow_of : flow_of a.program a.frames a.blocks a.forest ≡ flow_of b.program b.frames b.blocks b.forest
+  one_flow_of =
+      ap (λ (p : Program). flow_of p a.frames a.blocks a.forest) one_program_
+      ∙ ap (λ (f : List (Option Frame)). flow_of b.program f a.blocks a.forest) one_frames
+      ∙ ap (λ (bs : List Block). flow_of b.program b.frames bs a.forest) one_blocks
+      ∙ same_flow (flow_of b.program b.frames b.blocks a.forest) (flow_of b.program b.frames b.blocks b.forest) (alike_flows b.program b.frames b.blocks a.forest b.forest one_forest_)
+
+-- the roots of a method, in two graphs, unfold as each other
+one_root : (g h : Graph) (r s : ℕ) (file : ClassFile) (m : Method) → HasBytes m → IsRootOf g r file m → IsRootOf h s file m → UnfoldsAs (form_at g.nodes) (form_at h.nodes) r s
+one_root g h r s file m bytes x y =
+    let a = x.form in
+    let b = y.form in
+    let v = solved file m b in
+    let f = flow_of b.program b.frames b.blocks b.forest in
+    let one : IsUnfolded g f b.program.desc.result r = subst (λ (k : Flow). IsUnfolded g k b.program.desc.result r) (one_flow_of file m a b bytes) (subst (λ (p : Program). IsUnfolded g (flow_of a.program a.frames a.blocks a.forest) p.desc.result r) (one_program_ file m a b bytes) x.built) in
+    λ k. one v.0 v.1 k ∙ sym (y.built v.0 v.1 k)
+
+-- two roots that unfold equally in one graph do so in each
+pub alike_once : (file : ClassFile) (m : Method) (other : ClassFile) (p : Method) → HasBytes m → HasBytes p → (r q : HaveRoots file m other p) → Alike r → Alike q
+alike_once file m other p fm fp r q alike k =
+    one_root q.graph r.graph q.root r.root file m fm q.one r.one k ∙ alike k ∙ one_root r.graph q.graph r.other q.other other p fp r.two q.two k
+
+-- ---- a graph that grows
+
+-- a root stays one
+pub root_kept : (g h : Graph) (r : ℕ) (file : ClassFile) (m : Method) → IsGraph g → IsOfSort g r R → Enlarges g h → IsRootOf g r file m → IsRootOf h r file m
+root_kept g h r file m is sort grows root = record {
+  form = root.form;
+  built = λ v eq k. growth_unfolds g h is grows.extends r (sorted_within g r R is sort) k ∙ root.built v eq k;
+}
+
+-- the graph without nodes is well made, and open
+pub new_made : (g : Graph) → g ≡ empty_graph → IsWellMade g
+new_made g e = subst IsWellMade (sym e) empty_made
+
+pub new_open : (g : Graph) → g ≡ empty_graph → g.is_open ≡ true
+new_open g e = ap (λ (k : Graph). k.is_open) e
+
+-- what grows from it is whole
+pub grown_whole : (a b c : Graph) → a ≡ empty_graph → Enlarges a b → Enlarges b c → IsWhole c
+grown_whole a b c e p q = record {
+  made = q.made (p.made (new_made a e));
+  finished = λ n is. let old = p.left n (q.left n is) in let none = subst (λ (g : Graph). IsOpenTheta g n) e old in absurd (let z = none.1 in cc);
+}
+
+-- .. and open
+pub still_open : (a b c : Graph) → a ≡ empty_graph → Enlarges a b → Enlarges b c → c.is_open ≡ true
+still_open a b c e p q = q.open_ ∙ p.open_ ∙ new_open a e
+
+-- ---- sealing
+
+pub sealed_nodes : (g h : Graph) → Sealed g h → h.nodes ≡ g.nodes
+sealed_nodes g h s = ap (λ (k : Graph). k.nodes) s.sealed
+
+pub sealed_within : (g h : Graph) (n : ℕ) → Sealed g h → n < length g.nodes → n < length h.nodes
+sealed_within g h n s lt = subst (λ (xs : List Node). n < length xs) (sym (sealed_nodes g h s)) lt
+
+-- whether numbers are equal, said of equal numbers
+pub compared : (a b r s : ℕ) (P : Type 0) → a ≡ r → b ≡ s → (r ≡ s) ↔ P → IsTrue (a == b) ↔ P
+compared a b r s P p q same = (λ t. same.0 (sym p ∙ (Decides-eqb a b).0 t ∙ q), λ is. (Decides-eqb a b).1 (p ∙ same.1 is ∙ sym q))
+
+-- nodes that unfold equally in a sealed graph did so before
+pub sealed_unfold : (g h : Graph) (a b : ℕ) (alike : Bool) → Sealed g h → IsTrue alike ↔ UnfoldEqually (form_at h.nodes) a b → IsTrue alike ↔ UnfoldEqually (form_at g.nodes) a b
+sealed_unfold g h a b alike s one = subst (λ (xs : List Node). IsTrue alike ↔ UnfoldEqually (form_at xs) a b) (sealed_nodes g h s) one

@@ -1,0 +1,5 @@
+use Rattle.pv_report.proofs.Naming.{lines_name}
+use Rattle.pv_report.proofs.laws.law_lines.Goals as goal
+
+pub returns : goal.returns
+returns c = lines_name

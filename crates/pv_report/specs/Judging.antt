@@ -1,0 +1,59 @@
+-- What is said of two files that were fetched.
+use Rattle.std.specs.Prelude.{◌≡◌, ◌<◌, ℕ, List, Some, Result, length, slice_get}
+use Rattle.std.specs.List.{AllZip, flat_map}
+use Rattle.pv_class.specs.declared.file.Method.{Method}
+use Rattle.pv_class.specs.declared.file.ClassFile.{ClassFile}
+use Rattle.pv_class.specs.declared.fault.ClassFault.{ClassFault}
+use Rattle.pv_class.specs.ClassFiles.{IsClass}
+use Rattle.pv_class.specs.Answers.{IsAnswer}
+use Rattle.pv_class.specs.declared.class.TheConstants.{LONGEST_FILE}
+use Rattle.pv_report.specs.declared.report.Fetched.{Fetched}
+use Rattle.pv_class.specs.declared.class.TheConstants.{LONGEST_FILE}
+use Rattle.pv_report.specs.declared.report.Fetched.TheVariants.{Bytes, TooLong}
+use Rattle.pv_report.specs.declared.report.Judgement.{Judgement}
+use Rattle.pv_report.specs.declared.report.Judgement.TheVariants as judgement
+use Rattle.pv_report.specs.declared.verdict.Verdict.{Verdict}
+use Rattle.pv_report.specs.Verdicts.{IsVerdict, IsVerdictOn}
+use Rattle.pv_report.specs.Partners.{IsLike}
+use Rattle.pv_report.specs.Lines.{line_text}
+use Rattle.pv_report.specs.Report.{lines_of, AreEquivalent, Judged}
+
+-- a fetch of at most LONGEST_FILE bytes gave these bytes
+abbrev pub IsFetched : Fetched → List ℕ → Type 0
+IsFetched (Bytes v) bytes = v.items ≡ bytes
+IsFetched TooLong bytes = LONGEST_FILE < length bytes
+
+-- the class of the bytes that were fetched, or their fault
+abbrev pub ReadsFetched : Fetched → Result ClassFile ClassFault → Type 0
+ReadsFetched fetched read = (bytes : List ℕ) → IsFetched fetched bytes → IsAnswer bytes read
+
+-- what is said of the bytes that were fetched
+abbrev pub JudgesFetched : Fetched → Fetched → List ℕ → Judgement → Type 0
+JudgesFetched first second text s = (a b : List ℕ) → IsFetched first a → IsFetched second b → Judged a b text s
+
+-- a class file that was read
+abbrev pub IsRead : ClassFile → Type 0
+IsRead file = (bytes : List ℕ) × IsClass bytes file
+
+-- the verdict on the method at a place of the first class
+abbrev pub IsVerdictAt : ClassFile → ℕ → ClassFile → Verdict → Type 0
+IsVerdictAt first place second v = (m : Method) → slice_get first.methods place ≡ Some m → IsVerdict first second m v
+
+-- the verdict on two methods at their places
+abbrev pub IsVerdictOnPlaces : ClassFile → ℕ → ClassFile → ℕ → Verdict → Type 0
+IsVerdictOnPlaces first place second other v = (m p : Method) → slice_get first.methods place ≡ Some m → slice_get second.methods other ≡ Some p → IsVerdictOn first m second p v
+
+-- the method at this place is like this one
+abbrev pub IsLikeAt : Method → List Method → ℕ → Type 0
+IsLikeAt m others place = (p : Method) × (slice_get others place ≡ Some p) × IsLike m p
+
+-- the lines of methods of the first class with these verdicts
+pub record Told (first second : ClassFile) (methods : List Method) (verdicts : List Verdict) (text : List ℕ) : Type 0 where
+  pub each : AllZip (IsVerdict first second) methods verdicts
+  pub text_is : text ≡ flat_map line_text (lines_of methods verdicts)
+
+-- the lines of all methods of the first class
+abbrev pub Compares : ClassFile → ClassFile → List ℕ → Judgement → Type 0
+Compares first second text judgement.AllEquivalent = (verdicts : List Verdict) × Told first second first.methods verdicts text × AreEquivalent verdicts
+Compares first second text judgement.Others = (verdicts : List Verdict) × Told first second first.methods verdicts text × (AreEquivalent verdicts → ⊥)
+Compares first second text judgement.BadClass = ⊥

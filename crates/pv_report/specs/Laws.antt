@@ -1,0 +1,11 @@
+-- Laws of the report.
+use Rattle.std.specs.Prelude.{◌≡◌}
+use Rattle.pv_base.specs.Stored.{AreBytes}
+use Rattle.pv_class.specs.declared.file.Method.{Method}
+use Rattle.pv_report.specs.declared.verdict.Verdict.{Verdict}
+use Rattle.pv_report.specs.Lines.{line_of}
+
+-- a line says of which method it speaks: no other name and descriptor give it
+abbrev pub LinesName : Type 0
+LinesName =
+    (m p : Method) (v w : Verdict) → AreBytes m.name → AreBytes m.desc → AreBytes p.name → AreBytes p.desc → line_of m v ≡ line_of p w → (m.name ≡ p.name) × (m.desc ≡ p.desc)

@@ -1,0 +1,94 @@
+-- The lines of a report.
+use Rattle.std.specs.Prelude.{ℕ, ◌+◌, ◌/◌, ◌%◌, List, [], ◌∷◌, ◌++◌, codes, decimal, nat_lt, nat_le, ◌==◌, ◌&&◌, not, if◌then◌else◌}
+use Rattle.std.specs.List.{flat_map}
+use Rattle.pv_class.specs.declared.file.Method.{Method}
+use Rattle.pv_class.specs.declared.fault.ClassFault.{ClassFault}
+use Rattle.pv_class.specs.declared.fault.ClassFault.TheVariants as fault
+use Rattle.pv_class.specs.declared.fault.PoolWord.{PoolWord}
+use Rattle.pv_class.specs.declared.fault.PoolWord.TheVariants as pool
+use Rattle.pv_frame.specs.declared.cause.Cause.{Cause}
+use Rattle.pv_frame.specs.declared.cause.CauseKind.{CauseKind}
+use Rattle.pv_frame.specs.declared.cause.CauseKind.TheVariants as kind
+use Rattle.pv_report.specs.declared.verdict.Side.{Side}
+use Rattle.pv_report.specs.declared.verdict.Side.TheVariants as side
+use Rattle.pv_report.specs.declared.verdict.Verdict.{Verdict}
+use Rattle.pv_report.specs.declared.verdict.Verdict.TheVariants as verdict
+
+-- an upper-case hexadecimal digit
+abbrev pub hex_digit : ℕ → ℕ
+hex_digit n = if nat_lt n 10 then 48 + n else 55 + n
+
+-- a byte from 0x21 to 0x7E other than % stands for itself, every other byte is % and two digits
+abbrev pub shown_byte : ℕ → List ℕ
+shown_byte b = if nat_le 0x21 b && nat_le b 0x7E && not (b == 37) then b ∷ [] else 37 ∷ hex_digit (b / 16) ∷ hex_digit (b % 16) ∷ []
+
+-- the empty list is %-
+abbrev pub shown : List ℕ → List ℕ
+shown [] = codes "%-"
+shown (b ∷ bytes) = flat_map shown_byte (b ∷ bytes)
+
+abbrev pub side_word : Side → List ℕ
+side_word side.First = codes "first"
+side_word side.Second = codes "second"
+
+abbrev pub kind_word : CauseKind → List ℕ
+kind_word kind.Handler = codes "handler"
+kind_word kind.Monitor = codes "monitor"
+kind_word kind.LongCode = codes "long-code"
+kind_word kind.Slots = codes "slots"
+kind_word kind.Float = codes "float"
+kind_word kind.Code = codes "code"
+kind_word kind.Subroutine = codes "subroutine"
+kind_word kind.Dynamic = codes "dynamic"
+kind_word kind.Allocation = codes "allocation"
+kind_word kind.RefStore = codes "ref-store"
+kind_word kind.TypeTest = codes "type-test"
+kind_word kind.Constant = codes "constant"
+kind_word kind.Types = codes "types"
+kind_word kind.Blocks = codes "blocks"
+kind_word kind.Irreducible = codes "irreducible"
+kind_word kind.Depth = codes "depth"
+
+abbrev pub word_at : List ℕ → ℕ → List ℕ
+word_at word at = word ++ codes " at " ++ decimal at
+
+-- a cause with the address of its instruction, 0 where it is in no single one
+abbrev pub cause_text : Cause → List ℕ
+cause_text cause = word_at (kind_word cause.kind) cause.at
+
+abbrev pub verdict_text : Verdict → List ℕ
+verdict_text verdict.Missing = codes "missing"
+verdict_text (verdict.NoCode s) = codes "nocode " ++ side_word s
+verdict_text (verdict.Refused s cause) = codes "refused " ++ side_word s ++ codes " " ++ cause_text cause
+verdict_text verdict.Equivalent = codes "equivalent"
+verdict_text verdict.Apart = codes "unknown apart"
+
+-- what is said of a method, without the line feed
+abbrev pub line_of : Method → Verdict → List ℕ
+line_of m v = shown m.name ++ codes " " ++ shown m.desc ++ codes " " ++ verdict_text v
+
+-- every line ends with one line feed
+abbrev pub line_text : List ℕ → List ℕ
+line_text line = line ++ 10 ∷ []
+
+abbrev pub pool_word : PoolWord → List ℕ
+pool_word pool.Tag = codes "pool-tag"
+pool_word pool.Utf8 = codes "pool-utf8"
+pool_word pool.Reference = codes "pool-reference"
+
+-- a fault with its place; no file is answered out of memory
+abbrev pub fault_text : ClassFault → List ℕ
+fault_text (fault.Truncated at) = word_at (codes "truncated") at
+fault_text (fault.Magic at) = word_at (codes "magic") at
+fault_text (fault.Version at) = word_at (codes "version") at
+fault_text (fault.Pool word at) = word_at (pool_word word) at
+fault_text (fault.Descriptor at) = word_at (codes "descriptor") at
+fault_text (fault.Code at) = word_at (codes "code") at
+fault_text (fault.Duplicate at) = word_at (codes "duplicate") at
+fault_text (fault.Trailing at) = word_at (codes "trailing") at
+fault_text (fault.TooLong at) = word_at (codes "too-long") at
+fault_text fault.Memory = codes "out of memory"
+
+-- a file that has no reading, with its fault
+abbrev pub bad_class : Side → ClassFault → List ℕ
+bad_class s f = line_text (codes "bad class " ++ side_word s ++ codes " " ++ fault_text f)

@@ -1,0 +1,45 @@
+-- What is said of the bytes of two files, and how that went.
+use Rattle.std.specs.Prelude.{◌≡◌, ◌⊎◌, ℕ, List, [], ◌∷◌}
+use Rattle.std.specs.List.{AllByRecursion, AllZip, flat_map}
+use Rattle.pv_class.specs.declared.file.Method.{Method}
+use Rattle.pv_class.specs.declared.file.ClassFile.{ClassFile}
+use Rattle.pv_class.specs.declared.fault.ClassFault.{ClassFault}
+use Rattle.pv_class.specs.ClassFiles.{IsClass}
+use Rattle.pv_class.specs.ClassFaults.{IsBad}
+use Rattle.pv_report.specs.declared.verdict.Side.{Side}
+use Rattle.pv_report.specs.declared.verdict.Side.TheVariants as side
+use Rattle.pv_report.specs.declared.verdict.Verdict.{Verdict}
+use Rattle.pv_report.specs.declared.verdict.Verdict.TheVariants.{Equivalent}
+use Rattle.pv_report.specs.declared.report.Judgement.{Judgement}
+use Rattle.pv_report.specs.declared.report.Judgement.TheVariants as judgement
+use Rattle.pv_report.specs.Verdicts.{IsVerdict}
+use Rattle.pv_report.specs.Lines.{line_of, line_text, bad_class}
+
+abbrev pub lines_of : List Method → List Verdict → List (List ℕ)
+lines_of (m ∷ ms) (v ∷ vs) = line_of m v ∷ lines_of ms vs
+lines_of ms vs = []
+
+-- one line for each method of the first file, in its order, with these verdicts
+pub record IsReport (a b : List ℕ) (verdicts : List Verdict) (text : List ℕ) : Type 0 where
+  pub first : ClassFile
+  pub second : ClassFile
+  pub first_is : IsClass a first
+  pub second_is : IsClass b second
+  pub each : AllZip (IsVerdict first second) first.methods verdicts
+  pub text_is : text ≡ flat_map line_text (lines_of first.methods verdicts)
+
+abbrev pub AreEquivalent : List Verdict → Type 0
+AreEquivalent verdicts = AllByRecursion (λ v. v ≡ Equivalent) verdicts
+
+abbrev pub HasClass : List ℕ → Type 0
+HasClass bytes = (file : ClassFile) × IsClass bytes file
+
+-- the file has no reading, and this is said of its fault
+abbrev pub IsBadText : Side → List ℕ → List ℕ → Type 0
+IsBadText s bytes text = (f : ClassFault) × IsBad bytes f × (text ≡ bad_class s f)
+
+-- The text for the bytes of two files, and the judgement: a report, or the first of the two that has no reading.
+abbrev pub Judged : List ℕ → List ℕ → List ℕ → Judgement → Type 0
+Judged a b text judgement.AllEquivalent = (verdicts : List Verdict) × IsReport a b verdicts text × AreEquivalent verdicts
+Judged a b text judgement.Others = (verdicts : List Verdict) × IsReport a b verdicts text × (AreEquivalent verdicts → ⊥)
+Judged a b text judgement.BadClass = IsBadText side.First a text ⊎ (HasClass a × IsBadText side.Second b text)

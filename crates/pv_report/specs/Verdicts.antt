@@ -1,0 +1,29 @@
+-- What is said of a method: the first of these cases that holds.
+use Rattle.std.specs.Prelude.{◌≡◌, Some, None}
+use Rattle.pv_class.specs.declared.file.ClassFile.{ClassFile}
+use Rattle.pv_class.specs.declared.file.Method.{Method}
+use Rattle.pv_class.specs.declared.file.Code.{Code}
+use Rattle.pv_build.specs.Conversion.{Meets, Form}
+use Rattle.pv_report.specs.declared.verdict.Side.TheVariants as side
+use Rattle.pv_report.specs.declared.verdict.Verdict.{Verdict}
+use Rattle.pv_report.specs.declared.verdict.Verdict.TheVariants as verdict
+use Rattle.pv_report.specs.Partners.{IsPartner}
+use Rattle.pv_report.specs.Roots.{HaveRoots, Alike}
+
+abbrev pub HasCode : Method → Type 0
+HasCode m = (code : Code) × (m.code ≡ Some code)
+
+-- the verdict on a method of a class and its partner in another
+abbrev pub IsVerdictOn : ClassFile → Method → ClassFile → Method → Verdict → Type 0
+IsVerdictOn first m second p verdict.Missing = ⊥
+IsVerdictOn first m second p (verdict.NoCode side.First) = m.code ≡ None
+IsVerdictOn first m second p (verdict.NoCode side.Second) = HasCode m × (p.code ≡ None)
+IsVerdictOn first m second p (verdict.Refused side.First cause) = HasCode p × Meets first m cause
+IsVerdictOn first m second p (verdict.Refused side.Second cause) = Form first m × Meets second p cause
+IsVerdictOn first m second p verdict.Equivalent = (r : HaveRoots first m second p) × Alike r
+IsVerdictOn first m second p verdict.Apart = (r : HaveRoots first m second p) × (Alike r → ⊥)
+
+-- the verdict on a method of the first class
+abbrev pub IsVerdict : ClassFile → ClassFile → Method → Verdict → Type 0
+IsVerdict first second m verdict.Missing = (p : Method) → IsPartner m second.methods p → ⊥
+IsVerdict first second m v = (p : Method) × IsPartner m second.methods p × IsVerdictOn first m second p v

@@ -1,0 +1,168 @@
+//! The lines of a report.
+
+ghost use Rattle.std.specs.Prelude.{◌≡◌, ◌++◌, ◌<◌, OnOk};
+ghost use Rattle.pv_report.specs.Lines.{shown, shown_byte, hex_digit, side_word, kind_word, cause_text, verdict_text, line_of, line_text, pool_word, word_at, fault_text, bad_class};
+
+use crate::verdict::{Side, Verdict};
+use pv_class::{ClassFault, Method, PoolWord};
+use pv_frame::{Cause, CauseKind};
+use std::alloc::{AllocError, Global};
+
+/// The line that says that a file has no reading, with its fault.
+pub fn push_bad_class(
+    alloc: Global,
+    out: &mut Vec<u8>,
+    side: Side,
+    fault: ClassFault,
+) -> Result<(), AllocError>
+    ensures { OnOk result (out.new.items ≡ out.old.items ++ bad_class side fault) }
+{
+    out.extend_from_slice(b"bad class ")?;
+    out.extend_from_slice(side_word(side))?;
+    out.extend_from_slice(b" ")?;
+    push_fault(alloc, out, fault)?;
+    out.extend_from_slice(b"\n")
+}
+
+fn push_fault(alloc: Global, out: &mut Vec<u8>, fault: ClassFault) -> Result<(), AllocError>
+    ensures { OnOk result (out.new.items ≡ out.old.items ++ fault_text fault) }
+{
+    match fault {
+        ClassFault::Truncated(at) => push_word_at(alloc, out, b"truncated", at),
+        ClassFault::Magic(at) => push_word_at(alloc, out, b"magic", at),
+        ClassFault::Version(at) => push_word_at(alloc, out, b"version", at),
+        ClassFault::Pool(word, at) => push_word_at(alloc, out, pool_word(word), at),
+        ClassFault::Descriptor(at) => push_word_at(alloc, out, b"descriptor", at),
+        ClassFault::Code(at) => push_word_at(alloc, out, b"code", at),
+        ClassFault::Duplicate(at) => push_word_at(alloc, out, b"duplicate", at),
+        ClassFault::Trailing(at) => push_word_at(alloc, out, b"trailing", at),
+        ClassFault::TooLong(at) => push_word_at(alloc, out, b"too-long", at),
+        ClassFault::Memory => out.extend_from_slice(b"out of memory"),
+    }
+}
+
+fn pool_word(word: PoolWord) -> &'static [u8]
+    ensures { result.now ≡ pool_word word }
+{
+    match word {
+        PoolWord::Tag => b"pool-tag",
+        PoolWord::Utf8 => b"pool-utf8",
+        PoolWord::Reference => b"pool-reference",
+    }
+}
+
+// A word and a place.
+fn push_word_at(alloc: Global, out: &mut Vec<u8>, word: &[u8], at: usize) -> Result<(), AllocError>
+    ensures { OnOk result (out.new.items ≡ out.old.items ++ word_at word.now at) }
+{
+    out.extend_from_slice(word)?;
+    out.extend_from_slice(b" at ")?;
+    let at = format!(in alloc; "{at}")?;
+    out.extend_from_slice(at.as_bytes())
+}
+
+/// What is said of a method, and a line feed.
+pub fn push_line(
+    alloc: Global,
+    out: &mut Vec<u8>,
+    method: &Method,
+    verdict: Verdict,
+) -> Result<(), AllocError>
+    ensures { OnOk result (out.new.items ≡ out.old.items ++ line_text (line_of method.now verdict)) }
+{
+    push_shown(out, method.name.bytes())?;
+    out.extend_from_slice(b" ")?;
+    push_shown(out, method.desc.bytes())?;
+    out.extend_from_slice(b" ")?;
+    push_verdict(alloc, out, verdict)?;
+    out.extend_from_slice(b"\n")
+}
+
+fn push_verdict(alloc: Global, out: &mut Vec<u8>, verdict: Verdict) -> Result<(), AllocError>
+    ensures { OnOk result (out.new.items ≡ out.old.items ++ verdict_text verdict) }
+{
+    match verdict {
+        Verdict::Missing => out.extend_from_slice(b"missing"),
+        Verdict::NoCode(side) => {
+            out.extend_from_slice(b"nocode ")?;
+            out.extend_from_slice(side_word(side))
+        }
+        Verdict::Refused(side, cause) => {
+            out.extend_from_slice(b"refused ")?;
+            out.extend_from_slice(side_word(side))?;
+            out.extend_from_slice(b" ")?;
+            push_cause(alloc, out, cause)
+        }
+        Verdict::Equivalent => out.extend_from_slice(b"equivalent"),
+        Verdict::Apart => out.extend_from_slice(b"unknown apart"),
+    }
+}
+
+// A cause and the address of its instruction.
+fn push_cause(alloc: Global, out: &mut Vec<u8>, cause: Cause) -> Result<(), AllocError>
+    ensures { OnOk result (out.new.items ≡ out.old.items ++ cause_text cause) }
+{
+    push_word_at(alloc, out, kind_word(cause.kind), cause.at as usize)
+}
+
+fn kind_word(kind: CauseKind) -> &'static [u8]
+    ensures { result.now ≡ kind_word kind }
+{
+    match kind {
+        CauseKind::Handler => b"handler",
+        CauseKind::Monitor => b"monitor",
+        CauseKind::LongCode => b"long-code",
+        CauseKind::Slots => b"slots",
+        CauseKind::Float => b"float",
+        CauseKind::Code => b"code",
+        CauseKind::Subroutine => b"subroutine",
+        CauseKind::Dynamic => b"dynamic",
+        CauseKind::Allocation => b"allocation",
+        CauseKind::RefStore => b"ref-store",
+        CauseKind::TypeTest => b"type-test",
+        CauseKind::Constant => b"constant",
+        CauseKind::Types => b"types",
+        CauseKind::Blocks => b"blocks",
+        CauseKind::Irreducible => b"irreducible",
+        CauseKind::Depth => b"depth",
+    }
+}
+
+fn side_word(side: Side) -> &'static [u8]
+    ensures { result.now ≡ side_word side }
+{
+    match side {
+        Side::First => b"first",
+        Side::Second => b"second",
+    }
+}
+
+// Bytes as shown text.
+fn push_shown(out: &mut Vec<u8>, bytes: &[u8]) -> Result<(), AllocError>
+    ensures { OnOk result (out.new.items ≡ out.old.items ++ shown bytes.now) }
+{
+    if bytes.is_empty() {
+        return out.extend_from_slice(b"%-");
+    }
+    for b in bytes {
+        push_shown_byte(out, *b)?;
+    }
+    Ok(())
+}
+
+fn push_shown_byte(out: &mut Vec<u8>, b: u8) -> Result<(), AllocError>
+    ensures { OnOk result (out.new.items ≡ out.old.items ++ shown_byte b) }
+{
+    if b >= 0x21 && b <= 0x7E && b != b'%' {
+        return out.extend_from_slice(&[b]);
+    }
+    out.extend_from_slice(&[b'%', hex_digit(b / 16), hex_digit(b % 16)])
+}
+
+// An upper-case hexadecimal digit.
+fn hex_digit(n: u8) -> u8
+    requires { n < 16 }
+    ensures { result ≡ hex_digit n }
+{
+    if n < 10 { b'0' + n } else { b'A' - 10 + n }
+}

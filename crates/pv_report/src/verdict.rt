@@ -1,0 +1,124 @@
+//! What is said of a method.
+
+ghost use Rattle.std.specs.Prelude.{◌≡◌, ◌↔◌, ◌<◌, length, slice_get, true, Some, IfOk, IsTrue};
+ghost use Rattle.pv_class.specs.declared.file.Method.{Method};
+ghost use Rattle.pv_graph.specs.Unfold.{UnfoldEqually};
+ghost use Rattle.pv_graph.specs.Graphs.{form_at};
+ghost use Rattle.pv_report.specs.Roots.{IsWhole};
+ghost use Rattle.pv_report.specs.Verdicts.{HasCode};
+ghost use Rattle.pv_report.specs.Judging.{IsRead, IsVerdictAt, IsVerdictOnPlaces};
+ghost use Rattle.pv_report.specs.Partnering.{IsIndexOf};
+
+use crate::partners::{Partners, partner_of};
+use pv_alike::least;
+use pv_build::convert;
+use pv_class::ClassFile;
+use pv_frame::{Cause, Refused};
+use pv_graph::{Graph, NodeId};
+use pv_value::Memory;
+use std::alloc::Global;
+
+/// One of the two files.
+#[derive(Clone, Copy, Debug, PartialEq, Eq)]
+pub enum Side {
+    First,
+    Second,
+}
+
+/// What is said of a method of the first file and its partner in the second.
+#[derive(Clone, Copy, Debug, PartialEq, Eq)]
+pub enum Verdict {
+    /// The second file has no partner.
+    Missing,
+    /// The method of this side has no code.
+    NoCode(Side),
+    /// The method of this side was refused for this cause.
+    Refused(Side, Cause),
+    /// The two have the same meaning.
+    Equivalent,
+    /// Nothing joins the two.
+    Apart,
+}
+
+/// The verdict on the method at a place of the first class, where the other is the second.
+pub(crate) fn verdict_on(
+    alloc: Global,
+    first: &ClassFile,
+    method: usize,
+    second: &ClassFile,
+    partners: &Partners,
+) -> Result<Verdict, Memory>
+    requires first { IsRead first.now }
+    requires second { IsRead second.now }
+    requires there { method < length first.now.methods }
+    requires partners { IsIndexOf second.now.methods (length second.now.methods) partners.now.places.entries }
+    ensures { IfOk result (λ verdict. IsVerdictAt first.now method second.now verdict) }
+{
+    let one = &first.methods.as_slice()[method];
+    match partner_of(one, second.methods.as_slice(), partners)? {
+        None => Ok(Verdict::Missing),
+        Some(partner) => verdict_with(alloc, first, method, second, partner),
+    }
+}
+
+// Whether the method at a place has a code.
+fn has_code(class: &ClassFile, method: usize) -> bool
+    requires { method < length class.now.methods }
+    ensures { (m : Method) → slice_get class.now.methods method ≡ Some m → IsTrue result ↔ HasCode m }
+{
+    class.methods.as_slice()[method].code.is_some()
+}
+
+// The verdict on a method and its partner, each at its place in its class.
+fn verdict_with(
+    alloc: Global,
+    first: &ClassFile,
+    method: usize,
+    second: &ClassFile,
+    partner: usize,
+) -> Result<Verdict, Memory>
+    requires first { IsRead first.now }
+    requires second { IsRead second.now }
+    requires there { method < length first.now.methods }
+    requires partner { partner < length second.now.methods }
+    ensures { IfOk result (λ verdict. IsVerdictOnPlaces first.now method second.now partner verdict) }
+{
+    if !has_code(first, method) {
+        return Ok(Verdict::NoCode(Side::First));
+    }
+    if !has_code(second, partner) {
+        return Ok(Verdict::NoCode(Side::Second));
+    }
+    let mut g = Graph::new(alloc);
+    let one = match convert(alloc, first, method, &mut g) {
+        Ok(root) => root,
+        Err(Refused::Cause(cause)) => return Ok(Verdict::Refused(Side::First, cause)),
+        Err(Refused::Memory) => return Err(Memory),
+    };
+    let two = match convert(alloc, second, partner, &mut g) {
+        Ok(root) => root,
+        Err(Refused::Cause(cause)) => return Ok(Verdict::Refused(Side::Second, cause)),
+        Err(Refused::Memory) => return Err(Memory),
+    };
+    let alike = are_alike(alloc, g, one, two)?;
+    if alike {
+        Ok(Verdict::Equivalent)
+    } else {
+        Ok(Verdict::Apart)
+    }
+}
+
+// Whether two nodes of an open graph unfold equally.
+fn are_alike(alloc: Global, mut g: Graph, one: NodeId, two: NodeId) -> Result<bool, Memory>
+    requires whole { IsWhole g }
+    requires open { g.is_open ≡ true }
+    requires one { one < length g.nodes }
+    requires two { two < length g.nodes }
+    ensures { IfOk result (λ alike. IsTrue alike ↔ UnfoldEqually (form_at g.nodes) one two) }
+{
+    if !g.seal() {
+        unreachable!();
+    }
+    let roots = least(alloc, &g, one, two)?;
+    Ok(roots.first() == roots.second())
+}

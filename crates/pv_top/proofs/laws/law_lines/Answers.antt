@@ -1,5 +1,0 @@
-use Rattle.pv_top.proofs.Naming.{lines_name}
-use Rattle.pv_top.proofs.laws.law_lines.Goals as goal
-
-pub returns : goal.returns
-returns c = lines_name

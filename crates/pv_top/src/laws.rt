@@ -1,8 +1,0 @@
-//! Laws of the report, each as the contract of a function that does nothing.
-
-ghost use Rattle.pv_top.specs.Laws.{LinesName};
-
-/// A line of the report determines the name and the descriptor of its method.
-pub fn law_lines()
-    ensures { LinesName }
-{}

@@ -13,16 +13,18 @@ const TABLESWITCH: u8 = 170;
 
 const LOOKUPSWITCH: u8 = 171;
 
+const INVOKEINTERFACE: u8 = 185;
+
 const WIDE: u8 = 196;
 
 const GOTO_W: u8 = 200;
 
-/// Why instructions spell no code. A number is the address of the instruction.
+/// Why instructions don't spell a code. A number is the address of the instruction.
 #[derive(Clone, Copy, Debug)]
 pub enum SpellFault {
     /// The bytes of the instructions before it lead to another address.
     Misplaced(u32),
-    /// A target is no place of the list, or out of reach.
+    /// A target is not a place of the list, or out of reach.
     Target(u32),
     /// The numbers of a switch don't fit.
     Switch(u32),
@@ -39,8 +41,9 @@ impl From<AllocError> for SpellFault {
 /// The bytes that the instructions of a code spell.
 ///
 /// They follow from the instructions and their addresses alone, but for what stands after the
-/// opcode of an instruction that isn't accepted: that is taken from the code. A local is spelled in
-/// two bytes where the next address is that of the wide form; the padding of a switch is 0.
+/// opcode of an instruction that isn't accepted, and after the index of an invokeinterface: that is
+/// taken from the code. A local is spelled in two bytes where the next address is that of the wide
+/// form; the padding of a switch is 0.
 pub fn spelled(alloc: Global, code: &[u8], placed: &[Placed]) -> Result<Vec<u8>, SpellFault> {
     let mut speller = Speller {
         code,
@@ -71,7 +74,7 @@ impl Speller<'_> {
             Insn::Push(opcode, number) => self.push(*opcode, *number),
             Insn::Local(opcode, local) => self.local(self.is_wide(at, place, 2), *opcode, *local),
             Insn::Iinc(local, by) => self.increment(self.is_wide(at, place, 3), *local, *by),
-            Insn::Pool(opcode, index) => self.pool(*opcode, *index),
+            Insn::Pool(opcode, index) => self.pool(at, place, *opcode, *index),
             Insn::Branch(opcode, target) => self.branch(at, *opcode, *target),
             Insn::Table(default, low, targets) => {
                 self.table(at, *default, *low, targets.as_slice())
@@ -107,7 +110,7 @@ impl Speller<'_> {
         self.bytes(&number.to_be_bytes())
     }
 
-    // A number that fits no byte takes two, so that it isn't spelled as another.
+    // A number that doesn't fit a byte takes two, so that it isn't spelled as another.
     fn push(&mut self, opcode: u8, number: i16) -> Result<(), SpellFault> {
         self.byte(opcode)?;
         match i8::try_from(number) {
@@ -140,11 +143,24 @@ impl Speller<'_> {
         }
     }
 
-    fn pool(&mut self, opcode: u8, index: u16) -> Result<(), SpellFault> {
+    fn pool(&mut self, at: u32, place: usize, opcode: u8, index: u16) -> Result<(), SpellFault> {
         self.byte(opcode)?;
         match u8::try_from(index) {
-            Ok(index) if opcode == LDC => self.byte(index),
-            _ => self.bytes(&index.to_be_bytes()),
+            Ok(index) if opcode == LDC => return self.byte(index),
+            _ => self.bytes(&index.to_be_bytes())?,
+        }
+        if opcode == INVOKEINTERFACE {
+            return self.after_index(at, place);
+        }
+        Ok(())
+    }
+
+    // What the code has after the opcode and the index of an invokeinterface.
+    fn after_index(&mut self, at: u32, place: usize) -> Result<(), SpellFault> {
+        let own = self.code.get(at as usize..self.end(place));
+        match own {
+            Some([_, _, _, rest @ ..]) => self.bytes(rest),
+            _ => Err(SpellFault::Misplaced(at)),
         }
     }
 

@@ -13,7 +13,7 @@ use Rattle.pv_equations.specs.Meaning.{Meaning}
 use Rattle.pv_equations.proofs.Moves.{snoc_same, About, about}
 use Rattle.pv_equations.proofs.Walks.{Walk, stop, go, walk_then, IsNode, Walks, walk_around, walk_rank, walks_rank, walks_end, walk_split}
 use Rattle.pv_equations.proofs.Follow.{given_is, seen_to, AgreesTo, Later, Later_back, Ends, Ends_chain, Ends_refl, Follows, faith_here, agrees_self, token_outs_last}
-use Rattle.pv_equations.proofs.Leaves.{IsSnoc, snoc_of, no_snoc, tree_leaf, some_node, token_out_says, keeps_token, Evidence, node_evidence}
+use Rattle.pv_equations.proofs.Leaves.{IsSnoc, snoc_of, no_snoc, tree_leaf, some_node, token_out_says, keeps_token, OfGoing, Evidence, Any, node_evidence}
 
 app_none : (P E : List ℕ) (h : ℕ) → P ++ (E ++ h ∷ []) ≡ [] → ⊥
 app_none [] [] h e = absurd (cc)
@@ -64,55 +64,55 @@ module _ (w : World) (x : Input) (V : Exp → Index → Val → Type 0) (f : Flo
   walks_walk R F b H n a = go F b a.0 a.1 a.2 H n a.3 a.4 a.5
 
   -- the current place is left with a token: an exit of the block has one, or an exit inside the loop, taken out of it
-  abbrev pub Settled : List ℕ → List ℕ → ℕ → Index → Type 0
-  Settled R K c j = ((K ≡ []) × (e : Exit) × (u : Val) × InChain (f.chain c) e × V (put (v.value c) (e.slots 0)) j u)
-      ⊎ ((L : List ℕ) × (k : ℕ) × (H : List ℕ) × (n : ℕ) × (e : Exit) × (u : Val) × (K ≡ L ++ k ∷ []) × Walk f (k ∷ R) L c H n × InChain (f.chain n) e × V (token_out v f k (token_outs v f H (put (v.value n) (e.slots 0)))) j u)
+  abbrev pub Settled : (ℕ → Exit → Type 0) → List ℕ → List ℕ → ℕ → Index → Type 0
+  Settled S R K c j = ((K ≡ []) × (e : Exit) × (u : Val) × InChain (f.chain c) e × V (put (v.value c) (e.slots 0)) j u × S c e)
+      ⊎ ((L : List ℕ) × (k : ℕ) × (H : List ℕ) × (n : ℕ) × (e : Exit) × (u : Val) × (K ≡ L ++ k ∷ []) × Walk f (k ∷ R) L c H n × InChain (f.chain n) e × V (token_out v f k (token_outs v f H (put (v.value n) (e.slots 0)))) j u × S n e)
 
-  pub settle : (M : ℕ) (R K : List ℕ) (c : ℕ) (j : Index) → f.around c ≡ K ++ R → ((k : ℕ) → rank c < rank k → EndsAt j (tree_of f v R (Node k) 0) (v.tree R (Node k) 0 K c)) → (ev : Evidence w x V f v rank mean eqs shape top below_top R K c j) → rank ev.1 < M → Settled R K c j
-  settle zero R K c j a fol ev less = absurd (omega arith)
-  settle (suc M) R K c j a fol ev less = at_leaf (λ ev l. settle M R K c j a fol ev l) ev.0 ev.1 ev.2 ev.3 ev.4 ev.5 ev.6 less
+  pub settle : (S : ℕ → Exit → Type 0) → OfGoing w x V f v rank mean eqs shape top below_top S → (M : ℕ) (R K : List ℕ) (c : ℕ) (j : Index) → f.around c ≡ K ++ R → ((k : ℕ) → rank c < rank k → EndsAt j (tree_of f v R (Node k) 0) (v.tree R (Node k) 0 K c)) → (ev : Evidence w x V f v rank mean eqs shape top below_top S R K c j) → rank ev.1 < M → Settled S R K c j
+  settle S of zero R K c j a fol ev less = absurd (omega arith)
+  settle S of (suc M) R K c j a fol ev less = at_leaf (λ ev l. settle S of M R K c j a fol ev l) ev.0 ev.1 ev.2 ev.3 ev.4 ev.5 ev.6 ev.7 less
     where
       -- the token at a node that the walk comes to
-      later_node : ((ev : Evidence w x V f v rank mean eqs shape top below_top R K c j) → rank ev.1 < M → Settled R K c j) → (k : ℕ) (G : List ℕ) (y : Exp) (z : Val) → IsNode G k → Walks f R K c G k → rank k ≤ M → Given (tree_of f v R (Node k) 0) y → V y j z → Settled R K c j
+      later_node : ((ev : Evidence w x V f v rank mean eqs shape top below_top S R K c j) → rank ev.1 < M → Settled S R K c j) → (k : ℕ) (G : List ℕ) (y : Exp) (z : Val) → IsNode G k → Walks f R K c G k → rank k ≤ M → Given (tree_of f v R (Node k) 0) y → V y j z → Settled S R K c j
       later_node ih k G y z node walks less given val =
           let some = some_node w x V f v rank mean eqs shape top below_top R 0 K c G k walks node a in
           let o = fol k (walks_rank f rank shape R K c G k walks a) some.0 some.1 in
           let val' = (o.2 z).0 (subst (λ (y : Exp). V y j z) (given_is _ y o.0 given o.1) val) in
-          let ev' = node_evidence w x V f v rank mean eqs shape top below_top R k K c j z a (tree_leaf w x V f v rank mean eqs shape top below_top R (Node k) 0 K c j z some.0 a some.1 val') in
+          let ev' = node_evidence w x V f v rank mean eqs shape top below_top S of R k K c j z a (tree_leaf w x V f v rank mean eqs shape top below_top R (Node k) 0 K c j z some.0 a some.1 val') in
           ih ev'.0 (let l = ev'.1 in omega arith)
 
-      at_block : ((ev : Evidence w x V f v rank mean eqs shape top below_top R K c j) → rank ev.1 < M → Settled R K c j) → (n : ℕ) (e : Exit) (u : Val) → InChain (f.chain n) e → V (put (v.value n) (e.slots 0)) j u → rank n ≤ M → ((K ≡ []) × (c ≡ n)) ⊎ Walks f R K c [] n → Settled R K c j
-      at_block ih n e u ch val less (inl z) = inl (z.0, e, u, subst (λ (n : ℕ). InChain (f.chain n) e) (sym z.1) ch, subst (λ (n : ℕ). V (put (v.value n) (e.slots 0)) j u) (sym z.1) val)
-      at_block ih n e u ch val less (inr walks) =
+      at_block : ((ev : Evidence w x V f v rank mean eqs shape top below_top S R K c j) → rank ev.1 < M → Settled S R K c j) → (n : ℕ) (e : Exit) (u : Val) → InChain (f.chain n) e → V (put (v.value n) (e.slots 0)) j u → S n e → rank n ≤ M → ((K ≡ []) × (c ≡ n)) ⊎ Walks f R K c [] n → Settled S R K c j
+      at_block ih n e u ch val said less (inl z) = inl (z.0, e, u, subst (λ (n : ℕ). InChain (f.chain n) e) (sym z.1) ch, subst (λ (n : ℕ). V (put (v.value n) (e.slots 0)) j u) (sym z.1) val, subst (λ (n : ℕ). S n e) (sym z.1) said)
+      at_block ih n e u ch val said less (inr walks) =
           let last = walks_end f rank shape R K c [] n walks a in
           let k = keeps_token w x V f v rank mean eqs shape top below_top n (v.value n) (e.slots 0) j u (shape.tokens n e ch) val in
           later_node ih n [] (v.value n 0) k.0 (inl refl) walks less
           (subst (λ (B : List ℕ). Given (tree_of f v B (Node n) 0) (v.value n 0)) (walk_around f rank shape R K c [] n (walks_walk R K c [] n walks) a) (eqs.blocks n 0 (last.1 refl) last.0)) k.1
 
-      at_loop : ((ev : Evidence w x V f v rank mean eqs shape top below_top R K c j) → rank ev.1 < M → Settled R K c j) → (L : List ℕ) (k n : ℕ) (y : Exp) (u : Val) → V (token_outs v f (L ++ k ∷ []) y) j u → rank n ≤ M → Walks f R K c (k ∷ []) k → Walk f R (k ∷ []) k (L ++ k ∷ []) n → Settled R K c j
+      at_loop : ((ev : Evidence w x V f v rank mean eqs shape top below_top S R K c j) → rank ev.1 < M → Settled S R K c j) → (L : List ℕ) (k n : ℕ) (y : Exp) (u : Val) → V (token_outs v f (L ++ k ∷ []) y) j u → rank n ≤ M → Walks f R K c (k ∷ []) k → Walk f R (k ∷ []) k (L ++ k ∷ []) n → Settled S R K c j
       at_loop ih L k n y u val less walks walk =
           let ak = walk_around f rank shape R K c (k ∷ []) k (walks_walk R K c (k ∷ []) k walks) a in
           let t = token_out_says w x V f v rank mean eqs shape top below_top k R _ j u ak (subst (λ (y : Exp). V y j u) (token_outs_last w x V f v rank mean eqs shape L k y) val) in
           later_node ih k (k ∷ []) (v.entering k 0) t.0.0 (inr refl) walks (let l = walk_rank f rank shape R (k ∷ []) k (L ++ k ∷ []) n walk ak in omega arith)
           (eqs.entries k 0 R ak (walks_end f rank shape R K c (k ∷ []) k walks a).0) t.0.1
 
-      inside : ((ev : Evidence w x V f v rank mean eqs shape top below_top R K c j) → rank ev.1 < M → Settled R K c j) → (L : List ℕ) (k n : ℕ) (e : Exit) (u : Val) → InChain (f.chain n) e → V (token_outs v f (L ++ k ∷ []) (put (v.value n) (e.slots 0))) j u → rank n ≤ M → (J : List ℕ) → K ≡ J ++ k ∷ []
-          → ((I : List ℕ) × (L ++ k ∷ [] ≡ I ++ k ∷ []) × Walk f (k ∷ R) J c I n) ⊎ ((G : List ℕ) × (m : ℕ) × IsNode G m × Walks f R K c G m × Walk f R G m (L ++ k ∷ []) n) → Settled R K c j
-      inside ih L k n e u ch val less J z (inl (I, q, walk)) =
-          inr (J, k, I, n, e, u, z, walk, ch, subst (λ (y : Exp). V y j u) (token_outs_last w x V f v rank mean eqs shape I k (put (v.value n) (e.slots 0))) (subst (λ (H : List ℕ). V (token_outs v f H (put (v.value n) (e.slots 0))) j u) q val))
-      inside ih L k n e u ch val less J z (inr (G, m, node, walks, rest)) = again' (enters R G m (L ++ k ∷ []) n rest (walk_around f rank shape R K c G m (walks_walk R K c G m walks) a) k L refl)
+      inside : ((ev : Evidence w x V f v rank mean eqs shape top below_top S R K c j) → rank ev.1 < M → Settled S R K c j) → (L : List ℕ) (k n : ℕ) (e : Exit) (u : Val) → InChain (f.chain n) e → V (token_outs v f (L ++ k ∷ []) (put (v.value n) (e.slots 0))) j u → S n e → rank n ≤ M → (J : List ℕ) → K ≡ J ++ k ∷ []
+          → ((I : List ℕ) × (L ++ k ∷ [] ≡ I ++ k ∷ []) × Walk f (k ∷ R) J c I n) ⊎ ((G : List ℕ) × (m : ℕ) × IsNode G m × Walks f R K c G m × Walk f R G m (L ++ k ∷ []) n) → Settled S R K c j
+      inside ih L k n e u ch val said less J z (inl (I, q, walk)) =
+          inr (J, k, I, n, e, u, z, walk, ch, subst (λ (y : Exp). V y j u) (token_outs_last w x V f v rank mean eqs shape I k (put (v.value n) (e.slots 0))) (subst (λ (H : List ℕ). V (token_outs v f H (put (v.value n) (e.slots 0))) j u) q val), said)
+      inside ih L k n e u ch val said less J z (inr (G, m, node, walks, rest)) = again' (enters R G m (L ++ k ∷ []) n rest (walk_around f rank shape R K c G m (walks_walk R K c G m walks) a) k L refl)
         where
-          again' : ((L : List ℕ) × (G ≡ L ++ k ∷ [])) ⊎ (Walks f R G m (k ∷ []) k × Walk f R (k ∷ []) k (L ++ k ∷ []) n) → Settled R K c j
+          again' : ((L : List ℕ) × (G ≡ L ++ k ∷ [])) ⊎ (Walks f R G m (k ∷ []) k × Walk f R (k ∷ []) k (L ++ k ∷ []) n) → Settled S R K c j
           again' (inl (I, q)) = ⊎_elim (λ y. absurd (no_snoc I k (sym y ∙ q)))
               (λ y. let same = (snoc_same [] I m k (sym y ∙ q)).1 in let there : G ≡ k ∷ [] = y ∙ ap (λ (m : ℕ). m ∷ []) same in
               at_loop ih L k n _ u val less (subst₂ (λ (G : List ℕ) (m : ℕ). Walks f R K c G m) there same walks) (subst₂ (λ (G : List ℕ) (m : ℕ). Walk f R G m (L ++ k ∷ []) n) there same rest)) node
           again' (inr (walks', rest')) = at_loop ih L k n _ u val less (walks_then R K c G m (k ∷ []) k walks (walks_walk R G m (k ∷ []) k walks')) rest'
 
-      at_leaf : ((ev : Evidence w x V f v rank mean eqs shape top below_top R K c j) → rank ev.1 < M → Settled R K c j) → (H : List ℕ) (n : ℕ) (e : Exit) (u : Val) → Walk f R K c H n → InChain (f.chain n) e → V (leaf v f H n e 0) j u → rank n < suc M → Settled R K c j
-      at_leaf ih [] n e u walk ch val less = at_block ih n e u ch val (omega arith) (unwalk R K c [] n walk)
-      at_leaf ih (l ∷ H) n e u walk ch val less = snoc (snoc_of l H)
+      at_leaf : ((ev : Evidence w x V f v rank mean eqs shape top below_top S R K c j) → rank ev.1 < M → Settled S R K c j) → (H : List ℕ) (n : ℕ) (e : Exit) (u : Val) → Walk f R K c H n → InChain (f.chain n) e → V (leaf v f H n e 0) j u → S n e → rank n < suc M → Settled S R K c j
+      at_leaf ih [] n e u walk ch val said less = at_block ih n e u ch val said (omega arith) (unwalk R K c [] n walk)
+      at_leaf ih (l ∷ H) n e u walk ch val said less = snoc (snoc_of l H)
         where
-          snoc : IsSnoc (l ∷ H) → Settled R K c j
+          snoc : IsSnoc (l ∷ H) → Settled S R K c j
           snoc (L, k, z) = split (enters R K c (L ++ k ∷ []) n walk' a k L refl)
             where
               walk' : Walk f R K c (L ++ k ∷ []) n
@@ -121,16 +121,16 @@ module _ (w : World) (x : Input) (V : Exp → Index → Val → Type 0) (f : Flo
               val' : V (token_outs v f (L ++ k ∷ []) (put (v.value n) (e.slots 0))) j u
               val' = subst (λ (H : List ℕ). V (token_outs v f H (put (v.value n) (e.slots 0))) j u) z val
 
-              split : ((L : List ℕ) × (K ≡ L ++ k ∷ [])) ⊎ (Walks f R K c (k ∷ []) k × Walk f R (k ∷ []) k (L ++ k ∷ []) n) → Settled R K c j
-              split (inl (J, q)) = inside ih L k n e u ch val' (omega arith) J q (walk_split f rank shape R k K c (L ++ k ∷ []) n walk' J q (a ∙ ap (λ (K : List ℕ). K ++ R) q ∙ append_assoc J (k ∷ []) R))
+              split : ((L : List ℕ) × (K ≡ L ++ k ∷ [])) ⊎ (Walks f R K c (k ∷ []) k × Walk f R (k ∷ []) k (L ++ k ∷ []) n) → Settled S R K c j
+              split (inl (J, q)) = inside ih L k n e u ch val' said (omega arith) J q (walk_split f rank shape R k K c (L ++ k ∷ []) n walk' J q (a ∙ ap (λ (K : List ℕ). K ++ R) q ∙ append_assoc J (k ∷ []) R))
               split (inr (walks, rest)) = at_loop ih L k n _ u val' (omega arith) walks rest
 
   -- a token at an exit in a loop: the header has one in that iteration
-  pub token_first : (h : ℕ) (B : List ℕ) (j : Index) → f.around h ≡ h ∷ B → Evidence w x V f v rank mean eqs shape top below_top (h ∷ B) [] h j → (z : Val) × V (v.value h 0) j z
-  token_first h B j ah ev = pick (settle top (h ∷ B) [] h j ah (λ k l. Ends_refl w x V f v rank mean eqs shape j _) ev (below_top ev.1))
+  pub token_first : (h : ℕ) (B : List ℕ) (j : Index) → f.around h ≡ h ∷ B → Evidence w x V f v rank mean eqs shape top below_top (Any w x V f v rank mean eqs shape top below_top) (h ∷ B) [] h j → (z : Val) × V (v.value h 0) j z
+  token_first h B j ah ev = pick (settle (Any w x V f v rank mean eqs shape top below_top) (λ n e m d. tt) top (h ∷ B) [] h j ah (λ k l. Ends_refl w x V f v rank mean eqs shape j _) ev (below_top ev.1))
     where
-      pick : Settled (h ∷ B) [] h j → (z : Val) × V (v.value h 0) j z
-      pick (inl (z, e, u, c, val)) = keeps_token w x V f v rank mean eqs shape top below_top h (v.value h) (e.slots 0) j u (shape.tokens h e c) val
+      pick : Settled (Any w x V f v rank mean eqs shape top below_top) (h ∷ B) [] h j → (z : Val) × V (v.value h 0) j z
+      pick (inl (z, e, u, c, val, said)) = keeps_token w x V f v rank mean eqs shape top below_top h (v.value h) (e.slots 0) j u (shape.tokens h e c) val
       pick (inr y) = absurd (no_snoc y.0 y.1 y.6)
 
   -- the pass of the loop h inside B
@@ -182,11 +182,11 @@ module _ (w : World) (x : Input) (V : Exp → Index → Val → Type 0) (f : Flo
       Ends_chain w x V f v rank mean eqs shape jR _ _ _ first (placed.1 R (h ∷ F) refl jR (λ a u p. chain_outs c P (h ∷ F) R jR j placed.0 ch a u (p j g)) t s l)
 
   -- what an exit seen from outside gives inside the loops, in their last iterations
-  pub peel : (E F Q P : List ℕ) (c : ℕ) (i jQ jF j : Index) → Placed i (E ++ (F ++ Q)) P c → AgreesTo (length (E ++ (F ++ Q))) i j → Chained E (F ++ Q) jF j → Chained F Q jQ jF
-      → Evidence w x V f v rank mean eqs shape top below_top Q ((P ++ E) ++ F) c jQ → Evidence w x V f v rank mean eqs shape top below_top (F ++ Q) (P ++ E) c jF
-  peel E [] Q P c i jQ jF j placed g che ch ev = subst₂ (λ (K : List ℕ) (j : Index). Evidence w x V f v rank mean eqs shape top below_top Q K c j) (append-nil (P ++ E)) ch ev
-  peel E (h ∷ F) Q P c i jQ jF j placed g che ch ev =
-      inner (peel (E ++ h ∷ []) F Q P c i jQ ch.0 j placed' g' che' ch.2 (subst (λ (K : List ℕ). Evidence w x V f v rank mean eqs shape top below_top Q K c jQ) (sym same) ev))
+  pub peel : (S : ℕ → Exit → Type 0) → OfGoing w x V f v rank mean eqs shape top below_top S → (E F Q P : List ℕ) (c : ℕ) (i jQ jF j : Index) → Placed i (E ++ (F ++ Q)) P c → AgreesTo (length (E ++ (F ++ Q))) i j → Chained E (F ++ Q) jF j → Chained F Q jQ jF
+      → Evidence w x V f v rank mean eqs shape top below_top S Q ((P ++ E) ++ F) c jQ → Evidence w x V f v rank mean eqs shape top below_top S (F ++ Q) (P ++ E) c jF
+  peel S of E [] Q P c i jQ jF j placed g che ch ev = subst₂ (λ (K : List ℕ) (j : Index). Evidence w x V f v rank mean eqs shape top below_top S Q K c j) (append-nil (P ++ E)) ch ev
+  peel S of E (h ∷ F) Q P c i jQ jF j placed g che ch ev =
+      inner (peel S of (E ++ h ∷ []) F Q P c i jQ ch.0 j placed' g' che' ch.2 (subst (λ (K : List ℕ). Evidence w x V f v rank mean eqs shape top below_top S Q K c jQ) (sym same) ev))
     where
       A' : (E ++ h ∷ []) ++ (F ++ Q) ≡ E ++ (h ∷ (F ++ Q))
       A' = append_assoc E (h ∷ []) (F ++ Q)
@@ -206,12 +206,12 @@ module _ (w : World) (x : Input) (V : Exp → Index → Val → Type 0) (f : Flo
       ac : f.around c ≡ (P ++ (E ++ h ∷ [])) ++ (F ++ Q)
       ac = placed'.0 ∙ sym (append_assoc P (E ++ h ∷ []) (F ++ Q))
 
-      inner : Evidence w x V f v rank mean eqs shape top below_top (F ++ Q) (P ++ (E ++ h ∷ [])) c ch.0 → Evidence w x V f v rank mean eqs shape top below_top (h ∷ (F ++ Q)) (P ++ E) c jF
-      inner ev = pick (settle top (F ++ Q) (P ++ (E ++ h ∷ [])) c ch.0 ac (λ k l. far (E ++ h ∷ []) (F ++ Q) P c i ch.0 j placed' g' che' (Node k) 0 l) ev (below_top ev.1))
+      inner : Evidence w x V f v rank mean eqs shape top below_top S (F ++ Q) (P ++ (E ++ h ∷ [])) c ch.0 → Evidence w x V f v rank mean eqs shape top below_top S (h ∷ (F ++ Q)) (P ++ E) c jF
+      inner ev = pick (settle S of top (F ++ Q) (P ++ (E ++ h ∷ [])) c ch.0 ac (λ k l. far (E ++ h ∷ []) (F ++ Q) P c i ch.0 j placed' g' che' (Node k) 0 l) ev (below_top ev.1))
         where
-          pick : Settled (F ++ Q) (P ++ (E ++ h ∷ [])) c ch.0 → Evidence w x V f v rank mean eqs shape top below_top (h ∷ (F ++ Q)) (P ++ E) c jF
+          pick : Settled S (F ++ Q) (P ++ (E ++ h ∷ [])) c ch.0 → Evidence w x V f v rank mean eqs shape top below_top S (h ∷ (F ++ Q)) (P ++ E) c jF
           pick (inl y) = absurd (app_none P E h y.0)
-          pick (inr (L, k, H, n, e, u, z, walk, inch, val)) =
+          pick (inr (L, k, H, n, e, u, z, walk, inch, val, said)) =
               let s = snoc_same (P ++ E) L h k (append_assoc P E (h ∷ []) ∙ z) in
               let ah = (shape.headers c h (P ++ E) (F ++ Q) (placed.0 ∙ sym (append_assoc P E (h ∷ (F ++ Q))))).0 in
               let t = token_out_says w x V f v rank mean eqs shape top below_top h (F ++ Q) _ ch.0 u ah (subst (λ (k : ℕ). V (token_out v f k (token_outs v f H (put (v.value n) (e.slots 0)))) ch.0 u) (sym s.1) val) in
@@ -224,4 +224,5 @@ module _ (w : World) (x : Input) (V : Exp → Index → Val → Type 0) (f : Flo
                 subst₂ (λ (k : ℕ) (L : List ℕ). Walk f (k ∷ (F ++ Q)) L c H n) (sym s.1) (sym s.0) walk,
                 inch,
                 subst (λ (j : Index). V (token_outs v f H (put (v.value n) (e.slots 0))) j t.1.1) (ap (λ (n : ℕ). at_depth ch.0 (length (h ∷ (F ++ Q))) n) same ∙ sym ch.4) t.1.3,
+                said,
               )

@@ -9,7 +9,7 @@ use Rattle.pv_value.specs.declared.number.Num.TheVariants as num
 use Rattle.pv_graph.specs.declared.node.Op.TheVariants as op
 use Rattle.pv_denote.specs.Denote.{Index, at_depth, strict}
 use Rattle.pv_equations.specs.Exp.{Exp, Over, NoExp, one, two, three, made}
-use Rattle.pv_equations.specs.Flow.{Part, put, Exit, Chain, Leave, Test, InChain, Flow, TokenPart, kept, calls, Shape}
+use Rattle.pv_equations.specs.Flow.{Part, put, To, Exit, Chain, Leave, Test, InChain, Flow, TokenPart, kept, calls, Shape}
 use Rattle.pv_equations.specs.Equations.{Target, Node, Back, Finish, Returning, Leaving, Place, On, Again, Header, Gone, Ended, Seen, Joins, IsChain, Values, outs, token_out, leaf, AtPlace, IsExit, IsTree, never_exp, AreEquations}
 use Rattle.pv_equations.specs.Meaning.{Meaning}
 use Rattle.pv_equations.proofs.Walks.{Walk, stop, go, IsNode, IsGoal, Walks, on_rank, walk_around}
@@ -75,7 +75,7 @@ module _ (w : World) (x : Input) (V : Exp → Index → Val → Type 0) (f : Flo
           pick false h = let o = ih b refl h in (o.0, o.1, inr o.2, o.3, o.4)
 
   -- what an exit gives ends there, or is the tree further on
-  stops_or_on : (R : List ℕ) (t : Target) (s : ℕ) (F : List ℕ) (b : ℕ) (e : Exit) (p : Place) (z : Exp) → AtPlace f v R t s F b e p (Some z) → Stops t p ⊎ ((G : List ℕ) × (m : ℕ) × (p ≡ On G m) × (v.tree R t s G m ≡ Some z))
+  pub stops_or_on : (R : List ℕ) (t : Target) (s : ℕ) (F : List ℕ) (b : ℕ) (e : Exit) (p : Place) (z : Exp) → AtPlace f v R t s F b e p (Some z) → Stops t p ⊎ ((G : List ℕ) × (m : ℕ) × (p ≡ On G m) × (v.tree R t s G m ≡ Some z))
   stops_or_on R (Node k) s F b e (On G m) z (inl h) = inl (h.0, h.1)
   stops_or_on R (Node k) s F b e (On G m) z (inr h) = inr (G, m, refl, sym h.1)
   stops_or_on R Back s F b e (On G m) z h = inr (G, m, refl, sym h)
@@ -130,7 +130,7 @@ module _ (w : World) (x : Input) (V : Exp → Index → Val → Type 0) (f : Flo
   Joins_second c (Some a) (Some b) r z (inr n) = (_, n.1)
 
   -- where an exit gives something, so does the chain
-  chain_some : (X : Exit → Option Exp → Type 0) (c : Part → Exp) (ch : Chain) (r : Option Exp) (e : Exit) → IsChain X c ch r → InChain ch e → ((q : Option Exp) → X e q → (z : Exp) × (q ≡ Some z)) → (z : Exp) × (r ≡ Some z)
+  pub chain_some : (X : Exit → Option Exp → Type 0) (c : Part → Exp) (ch : Chain) (r : Option Exp) (e : Exit) → IsChain X c ch r → InChain ch e → ((q : Option Exp) → X e q → (z : Exp) × (q ≡ Some z)) → (z : Exp) × (r ≡ Some z)
   chain_some X c (Leave d) r e k h p = p r (subst (λ (d : Exit). X d r) h k)
   chain_some X c (Test t d rest) r e k (inl h) p = Joins_first (c t) k.0 k.1 r (p k.0 (subst (λ (d : Exit). X d k.0) h k.2)) k.4
   chain_some X c (Test t d rest) r e k (inr h) p = Joins_second (c t) k.0 k.1 r (chain_some X c rest k.1 e k.3 h p) k.4
@@ -192,21 +192,29 @@ module _ (w : World) (x : Input) (V : Exp → Index → Val → Type 0) (f : Flo
   keeps_token b g p j u kept h = (u, h)
   keeps_token b g p j u (calls s ps) h = (made_two _ _ j u h).0
 
-  -- an exit that a walk comes to, with a token taken out of the loops around it
-  abbrev pub Evidence : List ℕ → List ℕ → ℕ → Index → Type 0
-  Evidence R K c j = (H : List ℕ) × (n : ℕ) × (e : Exit) × (u : Val) × Walk f R K c H n × InChain (f.chain n) e × V (leaf v f H n e 0) j u
+  -- what is said of each exit of a block that goes to a block
+  abbrev pub OfGoing : (ℕ → Exit → Type 0) → Type 0
+  OfGoing P = (n : ℕ) (e : Exit) (m : ℕ) → e.dest ≡ To m → P n e
 
-  pub node_evidence : (R : List ℕ) (k : ℕ) (K : List ℕ) (c : ℕ) (j : Index) (u : Val) → f.around c ≡ K ++ R → Leafs R (Node k) 0 K c j u → (o : Evidence R K c j) × (rank o.1 < rank k)
-  node_evidence R k K c j u a (H, n, e, On G m, z, walk, ch, seen, stops, at', val) = (
-    (H, n, e, u, walk, ch, subst (λ (z : Exp). V z j u) (some_inj _ _ (node_leaf w x V f v rank mean eqs shape R 0 H n e G m (Some z) stops.0 (subst (λ (k : ℕ). AtPlace f v R (Node k) 0 H n e (On G m) (Some z)) (sym stops.1) at'))) val),
+  -- an exit that a walk comes to, of which P is said, with a token taken out of the loops around it
+  abbrev pub Evidence : (ℕ → Exit → Type 0) → List ℕ → List ℕ → ℕ → Index → Type 0
+  Evidence P R K c j = (H : List ℕ) × (n : ℕ) × (e : Exit) × (u : Val) × Walk f R K c H n × InChain (f.chain n) e × V (leaf v f H n e 0) j u × P n e
+
+  -- nothing is said of it
+  abbrev pub Any : ℕ → Exit → Type 0
+  Any n e = Unit {0}
+
+  pub node_evidence : (P : ℕ → Exit → Type 0) → OfGoing P → (R : List ℕ) (k : ℕ) (K : List ℕ) (c : ℕ) (j : Index) (u : Val) → f.around c ≡ K ++ R → Leafs R (Node k) 0 K c j u → (o : Evidence P R K c j) × (rank o.1 < rank k)
+  node_evidence P of R k K c j u a (H, n, e, On G m, z, walk, ch, seen, stops, at', val) = (
+    (H, n, e, u, walk, ch, subst (λ (z : Exp). V z j u) (some_inj _ _ (node_leaf w x V f v rank mean eqs shape R 0 H n e G m (Some z) stops.0 (subst (λ (k : ℕ). AtPlace f v R (Node k) 0 H n e (On G m) (Some z)) (sym stops.1) at'))) val, of n e m (seen_to f R H e.dest G m seen).0),
     subst (λ (k : ℕ). rank n < rank k) stops.1 (on_rank f rank shape R H n e G m (walk_around f rank shape R K c H n walk a) ch seen),
   )
-  node_evidence R k K c j u a (H, n, e, Again, z, walk, ch, seen, stops, at', val) = absurd stops
-  node_evidence R k K c j u a (H, n, e, Header, z, walk, ch, seen, stops, at', val) = absurd stops
-  node_evidence R k K c j u a (H, n, e, Gone, z, walk, ch, seen, stops, at', val) = absurd stops
-  node_evidence R k K c j u a (H, n, e, Ended q, z, walk, ch, seen, stops, at', val) = absurd stops
+  node_evidence P of R k K c j u a (H, n, e, Again, z, walk, ch, seen, stops, at', val) = absurd stops
+  node_evidence P of R k K c j u a (H, n, e, Header, z, walk, ch, seen, stops, at', val) = absurd stops
+  node_evidence P of R k K c j u a (H, n, e, Gone, z, walk, ch, seen, stops, at', val) = absurd stops
+  node_evidence P of R k K c j u a (H, n, e, Ended q, z, walk, ch, seen, stops, at', val) = absurd stops
 
-  goal_leaf : (Q : List ℕ) (T : Target) → IsGoal Q T → (H : List ℕ) (n : ℕ) (e : Exit) (p : Place) (z : Exp) → Stops T p → AtPlace f v Q T 0 H n e p (Some z) → z ≡ leaf v f H n e 0
+  pub goal_leaf : (Q : List ℕ) (T : Target) → IsGoal Q T → (H : List ℕ) (n : ℕ) (e : Exit) (p : Place) (z : Exp) → Stops T p → AtPlace f v Q T 0 H n e p (Some z) → z ≡ leaf v f H n e 0
   goal_leaf [] Finish goal H n e (Ended k) z stops at' = some_inj _ _ at'
   goal_leaf (q ∷ B) Back goal H n e Header z stops at' = some_inj _ _ at'
   goal_leaf [] Finish goal H n e (On G m) z stops at' = absurd stops
@@ -219,7 +227,7 @@ module _ (w : World) (x : Input) (V : Exp → Index → Val → Type 0) (f : Flo
   goal_leaf (q ∷ B) Back goal H n e (Ended k) z stops at' = absurd stops
   goal_leaf Q T goal H n e p z stops at' = absurd goal
 
-  pub goal_evidence : (Q : List ℕ) (T : Target) → IsGoal Q T → (K : List ℕ) (c : ℕ) (j : Index) (u : Val) (y : Exp) → f.around c ≡ K ++ Q → v.tree Q T 0 K c ≡ Some y → V y j u → Evidence Q K c j
+  pub goal_evidence : (Q : List ℕ) (T : Target) → IsGoal Q T → (K : List ℕ) (c : ℕ) (j : Index) (u : Val) (y : Exp) → f.around c ≡ K ++ Q → v.tree Q T 0 K c ≡ Some y → V y j u → Evidence Any Q K c j
   goal_evidence Q T goal K c j u y a q h =
       let o = tree_leaf Q T 0 K c j u y a q h in
-      (o.0, o.1, o.2, u, o.5, o.6, subst (λ (z : Exp). V z j u) (goal_leaf Q T goal o.0 o.1 o.2 o.3 o.4 o.8 o.9) o.10)
+      (o.0, o.1, o.2, u, o.5, o.6, subst (λ (z : Exp). V z j u) (goal_leaf Q T goal o.0 o.1 o.2 o.3 o.4 o.8 o.9) o.10, tt)

@@ -1,5 +1,5 @@
 -- Where the token's tree for the end has a value, the run ends.
-use Rattle.std.proofs.Common.{◌≡◌, ◌≢◌, ℕ, zero, suc, ◌+◌, ◌<◌, ◌≤◌, true, List, [], ◌∷◌, ◌++◌, length, Option, Some, ◌⊎◌, inl, inr, refl, sym, ap, ◌∙◌, subst, subst₂, append-nil, append_assoc, length-append, arith, le_refl}
+use Rattle.std.proofs.Common.{◌≡◌, ◌≢◌, ℕ, zero, suc, ◌+◌, ◌<◌, ◌≤◌, Bool, true, false, if◌then◌else◌, List, [], ◌∷◌, ◌++◌, length, Option, Some, None, ◌⊎◌, inl, inr, ⊎_elim, refl, sym, ap, ◌∙◌, subst, subst₂, append-nil, append_assoc, length-append, arith, le_refl}
 use Rattle.std.specs.List.{AllZip}
 use Rattle.pv_value.specs.declared.world.World.{World}
 use Rattle.pv_value.specs.declared.outcome.Input.{Input}
@@ -14,14 +14,14 @@ use Rattle.pv_graph.proofs.NodeLaws.{bind_some}
 use Rattle.pv_denote.specs.Denote.{numbers}
 use Rattle.pv_value.specs.Worlds as worlds
 use Rattle.pv_value.specs.declared.name.Sym.{Sym}
-use Rattle.pv_equations.specs.Exp.{Exp, Over, two, listed, made}
-use Rattle.pv_equations.specs.Flow.{Part, Parts, call_token, put, put_all, PartIs, PartsAre, Kind, Dest, To, End, Exit, InChain, Flow, TokenPart, kept, calls, Heads, Shape, Chooses, Steps, Runs, ends, goes, Starts, Runnable}
-use Rattle.pv_equations.specs.Equations.{Target, Node, Back, Finish, Leaving, Place, On, Again, Header, Gone, Ended, Seen, Values, token_out, token_outs, AtPlace, IsTree, tree_of, never_exp, true_exp, false_exp, AreEquations, first_kid}
+use Rattle.pv_equations.specs.Exp.{Exp, Over, NoExp, two, three, listed, made}
+use Rattle.pv_equations.specs.Flow.{Part, Parts, call_token, put, put_all, PartIs, PartsAre, Kind, Dest, To, End, Exit, InChain, Flow, TokenPart, kept, calls, Heads, Shape, Chain, Leave, Test, Chooses, Steps, Left, Ends, Fails, Waits, Runs, ends, goes, Starts, Runnable}
+use Rattle.pv_equations.specs.Equations.{Target, Node, Back, Finish, Leaving, Place, On, Again, Header, Gone, Ended, Seen, Joins, IsChain, IsExit, Values, outs, leaf, token_out, token_outs, AtPlace, IsTree, tree_of, never_exp, true_exp, false_exp, AreEquations, first_kid}
 use Rattle.pv_equations.specs.Meaning.{Meaning}
 use Rattle.pv_equations.proofs.Moves.{snoc_same, Goes, move}
-use Rattle.pv_equations.proofs.Walks.{Walk, IsNode, OutWalk, IsGoal, walk_around, node_out, header_back}
-use Rattle.pv_equations.proofs.Follow.{some_inj, given_is, AgreesTo, put_all_values, Ends_chain, Follows, agrees_self, agrees_in, Here, chooses_in, goes_on, at_on, step_on, step_in, step_back, step_start}
-use Rattle.pv_equations.proofs.Leaves.{no_snoc, SomeAt, some_exit, some_walk, made_two, token_out_says, Evidence, goal_evidence}
+use Rattle.pv_equations.proofs.Walks.{Walk, stop, go, IsNode, OutWalk, IsGoal, on_rank, walk_rank, walk_around, node_out, header_back}
+use Rattle.pv_equations.proofs.Follow.{some_inj, given_is, seen_to, AgreesTo, put_value, put_all_values, Ends_chain, Follows, agrees_self, agrees_in, Here, chooses_in, goes_on, at_on, step_on, step_in, step_back, step_start}
+use Rattle.pv_equations.proofs.Leaves.{never_none, Stops, no_snoc, stops_or_on, SomeAt, chain_some, some_exit, some_walk, made_two, token_out_says, OfGoing, Evidence, Any, goal_leaf, goal_evidence}
 use Rattle.pv_equations.proofs.Aims.{EndsAt, Settled, settle, token_first, PassIs, Chained, chain_agree, chain_outs, Placed, far, peel}
 use Rattle.pv_equations.proofs.Alive.{goal_token, goal_later, NotNow, pass_no, pass_yes, yes_true, no_false, alive}
 use Rattle.pv_equations.proofs.Lands.{lands_header}
@@ -33,6 +33,20 @@ callend_done w x s (vals.Heap h ∷ us) z e =
     let o = bind_some (worlds.reply w s h a.0) _ z a.2 in
     let y = o.2 in cc
 callend_done w x s us z e = absurd (cc)
+
+-- where a block waits no exit to a block has a token
+going_none : (w : World) (x : Input) (σ : ℕ → Val) (c : Chain) → Waits w x σ c → (e : Exit) (m : ℕ) (z : Val) → InChain c e → e.dest ≡ To m → PartIs w x σ (e.slots 0) z → ⊥
+going_none w x σ (Leave d) waits e m z inch to p = waits.1 z (subst (λ (e : Exit). PartIs w x σ (e.slots 0) z) (sym inch) p)
+going_none w x σ (Test t d rest) waits e m z (inl same) to p =
+    let ended = (waits.0 z (subst (λ (e : Exit). PartIs w x σ (e.slots 0) z) (sym same) p)).0 in
+    let o : End ended.0 ≡ To m = sym ended.1 ∙ ap (λ (e : Exit). e.dest) same ∙ to in
+    absurd (cc)
+going_none w x σ (Test t d rest) waits e m z (inr inch) to p = going_none w x σ rest waits.1 e m z inch to p
+
+-- .. and the last one ends the method
+last_ends : (w : World) (x : Input) (σ : ℕ → Val) (c : Chain) → Waits w x σ c → (e : Exit) × InChain c e × Ends e
+last_ends w x σ (Leave e) waits = (e, refl, waits.0)
+last_ends w x σ (Test t d rest) waits = let l = last_ends w x σ rest waits.1 in (l.0, inr l.1, l.2)
 
 nil_cons : (c : ℕ) (B : List ℕ) → [] ≡ c ∷ B → ⊥
 nil_cons c B e = absurd (cc)
@@ -119,26 +133,121 @@ module _ (w : World) (x : Input) (V : Exp → Index → Val → Type 0) (f : Flo
       let is_done : t.0 ≡ vals.Unit = callend_done w x s a.0 t.0 ended' in
       (vals.Unit, (vals.Unit ∷ vals.Unit ∷ [], (vals.Unit, vals.Unit ∷ [], done, (vals.Unit, [], (a.0, a.1, ended' ∙ ap Some is_done), refl, refl), refl), refl))
 
-  -- an exit of the block has a token
-  exit_value : (F Q : List ℕ) (T : Target) → IsGoal Q T → (jQ j : Index) → Chained w x V f v rank mean eqs shape top below_top F Q jQ j → (c : ℕ) (i : Index) (σ : ℕ → Val) → State F Q T jQ j [] c i σ → (e : Exit) × (u : Val) × InChain (f.chain c) e × V (put (v.value c) (e.slots 0)) j u
-  exit_value F Q T goal jQ j ch c i σ st = pick (settle w x V f v rank mean eqs shape top below_top top (F ++ Q) [] c j st.1 (λ k l. far w x V f v rank mean eqs shape top below_top [] (F ++ Q) [] c i j j at' st.3 refl (Node k) 0 l) ev (below_top ev.1))
+  -- what an exit on the way to the goal shows: an exit of the block has a token, and the same is said of it
+  at_exit : (S : ℕ → Exit → Type 0) → OfGoing w x V f v rank mean eqs shape top below_top S → (F Q : List ℕ) (T : Target) (jQ j : Index) → Chained w x V f v rank mean eqs shape top below_top F Q jQ j → (c : ℕ) (i : Index) (σ : ℕ → Val) → State F Q T jQ j [] c i σ → Evidence w x V f v rank mean eqs shape top below_top S Q F c jQ
+      → (e : Exit) × (u : Val) × InChain (f.chain c) e × V (put (v.value c) (e.slots 0)) j u × S c e
+  at_exit S of F Q T jQ j ch c i σ st seen = pick (settle w x V f v rank mean eqs shape top below_top S of top (F ++ Q) [] c j st.1 (λ k l. far w x V f v rank mean eqs shape top below_top [] (F ++ Q) [] c i j j at' st.3 refl (Node k) 0 l) ev (below_top ev.1))
     where
       at' : Placed w x V f v rank mean eqs shape top below_top i (F ++ Q) [] c
       at' = placed i (F ++ Q) [] c σ st.0 st.1 st.2
 
-      ev : Evidence w x V f v rank mean eqs shape top below_top (F ++ Q) [] c j
-      ev = peel w x V f v rank mean eqs shape top below_top [] F Q [] c i jQ j j at' st.3 refl ch (goal_evidence w x V f v rank mean eqs shape top below_top Q T goal F c jQ st.5.1 st.5.0 st.1 st.5.2 st.5.3)
+      ev : Evidence w x V f v rank mean eqs shape top below_top S (F ++ Q) [] c j
+      ev = peel w x V f v rank mean eqs shape top below_top S of [] F Q [] c i jQ j j at' st.3 refl ch seen
 
-      pick : Settled w x V f v rank mean eqs shape top below_top (F ++ Q) [] c j → (e : Exit) × (u : Val) × InChain (f.chain c) e × V (put (v.value c) (e.slots 0)) j u
-      pick (inl (z, e, u, c, h)) = (e, u, c, h)
+      pick : Settled w x V f v rank mean eqs shape top below_top S (F ++ Q) [] c j → (e : Exit) × (u : Val) × InChain (f.chain c) e × V (put (v.value c) (e.slots 0)) j u × S c e
+      pick (inl (z, e, u, c, h, said)) = (e, u, c, h, said)
       pick (inr y) = absurd (no_snoc y.0 y.1 y.6)
 
+  -- .. so it has one in the machine
+  has_token : (F Q : List ℕ) (T : Target) (jQ j : Index) (c : ℕ) (i : Index) (σ : ℕ → Val) → State F Q T jQ j [] c i σ → (e : Exit) (u : Val) → InChain (f.chain c) e → V (put (v.value c) (e.slots 0)) j u → (z : Val) × PartIs w x σ (e.slots 0) z
+  has_token F Q T jQ j c i σ st e u inch val =
+      token_is c σ j (e.slots 0) u (shape.tokens c e inch) (λ s. st.0.0 s j (subst (λ (A : List ℕ). AgreesTo (length A) i j) (sym st.1) st.3)) st.0.3 (λ s ps z. runnable.args c σ e s ps st.6 inch z) val
+
+  -- of the exits of block c it is this one, or one that goes to a block
+  abbrev Said : ℕ → Exit → ℕ → Exit → Type 0
+  Said c d n e = n ≡ c → (e ≡ d) ⊎ ((m : ℕ) × (e.dest ≡ To m))
+
+  -- a test of block c, taken out of the loops F
+  abbrev test_out : List ℕ → ℕ → Part → Exp
+  test_out F c t = outs v F (put (v.value c) t)
+
+  -- a block on the way to the goal doesn't wait: an exit that the goal's tree shows has a token, and one with a token ends the method
+  -- where its test is false, so that the tree goes on with the exits after it, of which the last is one
+  no_wait : (F Q : List ℕ) (T : Target) → IsGoal Q T → (jQ j : Index) → Chained w x V f v rank mean eqs shape top below_top F Q jQ j → (c : ℕ) (i : Index) (σ : ℕ → Val) → State F Q T jQ j [] c i σ → Waits w x σ (f.chain c) → ⊥
+  no_wait F Q T goal jQ j ch c i σ st wait = tree (eqs.trees Q T 0 F c st.1)
+    where
+      evidence : (d : Exit) (z : Exp) (u : Val) → InChain (f.chain c) d → IsExit f v Q T 0 F c d (Some z) → V z jQ u → Evidence w x V f v rank mean eqs shape top below_top (Said c d) Q F c jQ
+      evidence d z u inch y h = next (stops_or_on w x V f v rank mean eqs shape top below_top Q T 0 F c d y.0 z y.2)
+        where
+          next : Stops T y.0 ⊎ ((G : List ℕ) × (m : ℕ) × (y.0 ≡ On G m) × (v.tree Q T 0 G m ≡ Some z)) → Evidence w x V f v rank mean eqs shape top below_top (Said c d) Q F c jQ
+          next (inl q) = (F, c, d, u, stop F c, inch, subst (λ (z : Exp). V z jQ u) (goal_leaf w x V f v rank mean eqs shape top below_top Q T goal F c d y.0 z q y.2) h, λ same. inl refl)
+          next (inr (G, m, q, some)) =
+              let s = subst (λ (p : Place). Seen f Q F d.dest p) q y.1 in
+              let am = (seen_to f Q F d.dest G m s).1 in
+              let r = goal_evidence w x V f v rank mean eqs shape top below_top Q T goal G m jQ u z am some h in
+              let less = on_rank f rank shape Q F c d G m st.1 inch s in
+              let up = walk_rank f rank shape Q G m r.0 r.1 r.4 am in
+              (r.0, r.1, r.2, r.3, go F c d G m r.0 r.1 inch s r.4, r.5, r.6, λ same. absurd (let z = ap rank same in omega arith))
+
+      token : (d : Exit) (z : Exp) (u : Val) → InChain (f.chain c) d → IsExit f v Q T 0 F c d (Some z) → V z jQ u → (y : Val) × PartIs w x σ (d.slots 0) y
+      token d z u inch y h = found (at_exit (Said c d) (λ n e m to same. inr (m, to)) F Q T jQ j ch c i σ st (evidence d z u inch y h))
+        where
+          which : (e : Exit) → InChain (f.chain c) e → (z : Val) × PartIs w x σ (e.slots 0) z → (e ≡ d) ⊎ ((m : ℕ) × (e.dest ≡ To m)) → (y : Val) × PartIs w x σ (d.slots 0) y
+          which e i t (inl same) = subst (λ (e : Exit). (y : Val) × PartIs w x σ (e.slots 0) y) same t
+          which e i t (inr to) = absurd (going_none w x σ (f.chain c) wait e to.0 t.0 i to.1 t.1)
+
+          found : (e : Exit) × (u : Val) × InChain (f.chain c) e × V (put (v.value c) (e.slots 0)) j u × Said c d c e → (y : Val) × PartIs w x σ (d.slots 0) y
+          found (e, u, i, val, said) = which e i (has_token F Q T jQ j c _ σ st e u i val) (said refl)
+
+      -- a test that is false in the machine is false in the graph
+      false_there : (t : Part) → Fails w x σ t → (u : Val) × V (test_out F c t) jQ u × (truth u ≡ Some false)
+      false_there t (u, is, out) =
+          (u, chain_outs w x V f v rank mean eqs shape top below_top c [] F Q jQ j st.1 ch (put (v.value c) t) u (put_value w x V f v rank mean eqs shape (v.value c) σ j (λ s. st.0.0 s j (subst (λ (A : List ℕ). AgreesTo (length A) i j) (sym st.1) st.3)) t u is), out)
+
+      -- after an exit that ends the method and gives something the last one gives something
+      rest_some : (Q : List ℕ) (T : Target) → IsGoal Q T → (d : Exit) (a : Exp) (rest : Chain) → Ends d → IsExit f v Q T 0 F c d (Some a) → Waits w x σ rest → IsChain (IsExit f v Q T 0 F c) (test_out F c) rest None → ⊥
+      rest_some [] Finish goal d a rest ended y waits none =
+          let l = last_ends w x σ rest waits in
+          let z = chain_some w x V f v rank mean eqs shape top below_top (IsExit f v [] Finish 0 F c) (test_out F c) rest None l.0 none l.1 (λ r q. ended_some r l.0 l.2 q) in
+          absurd (let o = z.1 in cc)
+        where
+          ended_some : (r : Option Exp) (e : Exit) → Ends e → IsExit f v [] Finish 0 F c e r → (z : Exp) × (r ≡ Some z)
+          ended_some r e (k, to) (p, s, at') = (
+            leaf v f F c e 0,
+            subst (λ (p : Place). AtPlace f v [] Finish 0 F c e p r) (subst (λ (d : Dest). Seen f [] F d p) to s) at',
+          )
+      rest_some (q ∷ B) Back goal d a rest (k, to) (p, s, at') waits none =
+          let o : Some a ≡ None = subst (λ (p : Place). AtPlace f v (q ∷ B) Back 0 F c d p (Some a)) (subst (λ (d : Dest). Seen f (q ∷ B) F d p) to s) at' in
+          absurd (cc)
+      rest_some Q T goal d a rest ended y waits none = absurd goal
+
+      along : (ch' : Chain) (r : Option Exp) (y : Exp) (u : Val) → ((e : Exit) → InChain ch' e → InChain (f.chain c) e) → Waits w x σ ch' → IsChain (IsExit f v Q T 0 F c) (test_out F c) ch' r → r ≡ Some y → V y jQ u → ⊥
+      along (Leave e) r y u inch waits k q h = let t = token e y u (inch e refl) (subst (IsExit f v Q T 0 F c e) q k) h in waits.1 t.0 t.1
+      along (Test t d rest) r y u inch waits k q h = sides k.0 k.1 k.2 k.3 k.4 (λ b z h kb. along rest b z u (λ e i. inch e (inr i)) waits.1 kb)
+        where
+          fails : (a : Exp) → IsExit f v Q T 0 F c d (Some a) → V a jQ u → Ends d × Fails w x σ t
+          fails a xa h = let o = token d a u (inch d (inl refl)) xa h in waits.0 o.0 o.1
+
+          sides : (a b : Option Exp) → IsExit f v Q T 0 F c d a → IsChain (IsExit f v Q T 0 F c) (test_out F c) rest b → Joins (test_out F c t) a b r → ((b : Option Exp) (z : Exp) → V z jQ u → IsChain (IsExit f v Q T 0 F c) (test_out F c) rest b → b ≡ Some z → V z jQ u → ⊥) → ⊥
+          sides None b xa kb n on = on b y h kb (sym n ∙ q) h
+          sides (Some a) None xa kb n on =
+              let same : y ≡ a = some_inj y a (sym q ∙ n) in
+              rest_some Q T goal d a rest (fails a xa (subst (λ (y : Exp). V y jQ u) same h)).0 xa waits.1 kb
+          sides (Some a) (Some b) xa kb (inl n) on =
+              let same : y ≡ b = some_inj y a (sym q ∙ n.1) ∙ n.0 in
+              let there = subst (λ (y : Exp). V y jQ u) same h in
+              on (Some b) b there kb refl there
+          sides (Some a) (Some b) xa kb (inr n) on =
+              let m = mean.says op.Phi (three (test_out F c t) a b) jQ u (subst (λ (y : Exp). V y jQ u) (some_inj y _ (sym q ∙ n.1)) h) in
+              pick m.0 m.1 m.2
+            where
+              pick : (t' : Bool) → (u' : Val) × V (test_out F c t) jQ u' × (truth u' ≡ Some t') → V (if t' then a else b) jQ u → ⊥
+              pick true yes' h =
+                  let out = false_there t (fails a xa h).1 in
+                  let same : yes'.0 ≡ out.0 = mean.once (test_out F c t) jQ yes'.0 out.0 yes'.1 out.1 in
+                  let z : Some true ≡ Some false = sym yes'.2 ∙ ap truth same ∙ out.2 in
+                  absurd (cc)
+              pick false other h = on (Some b) b h kb refl h
+
+      tree : IsTree f v Q T 0 F c (v.tree Q T 0 F c) → ⊥
+      tree (inl z) =
+          let m = mean.says op.Never NoExp jQ st.5.1 (subst (λ (y : Exp). V y jQ st.5.1) (some_inj st.5.0 never_exp (sym st.5.2 ∙ z.2)) st.5.3) in
+          never_none w x m.0 st.5.1 m.2
+      tree (inr z) = along (f.chain c) (v.tree Q T 0 F c) st.5.0 st.5.1 (λ e i. i) wait z.1 st.5.2 st.5.3
+
   -- .. so the machine makes a step
-  progress : (F Q : List ℕ) (T : Target) → IsGoal Q T → (jQ j : Index) → Chained w x V f v rank mean eqs shape top below_top F Q jQ j → (c : ℕ) (i : Index) (σ : ℕ → Val) → State F Q T jQ j [] c i σ → (e : Exit) × (τ : ℕ → Val) × Steps w x f c σ e τ
-  progress F Q T goal jQ j ch c i σ st =
-      let o = exit_value F Q T goal jQ j ch c i σ st in
-      let t = token_is c σ j (o.0.slots 0) o.1 (shape.tokens c o.0 o.2) (λ s. st.0.0 s j (subst (λ (A : List ℕ). AgreesTo (length A) i j) (sym st.1) st.3)) st.0.3 (λ s ps z. runnable.args c σ o.0 s ps st.6 o.2 z) o.3 in
-      runnable.moves c σ o.0 t.0 st.6 o.2 t.1
+  progress : (F Q : List ℕ) (T : Target) → IsGoal Q T → (jQ j : Index) → Chained w x V f v rank mean eqs shape top below_top F Q jQ j → (c : ℕ) (i : Index) (σ : ℕ → Val) → State F Q T jQ j [] c i σ → Left w x f c σ
+  progress F Q T goal jQ j ch c i σ st = ⊎_elim (λ left. left) (λ wait. absurd (no_wait F Q T goal jQ j ch c i σ st wait)) (runnable.moves c σ st.6)
 
   -- at the next node the goal's tree gives something
   some_next : (X Q : List ℕ) (T : Target) → IsGoal Q T → (P : List ℕ) (m : ℕ) (i jQ jX : Index) → Placed w x V f v rank mean eqs shape top below_top i (X ++ Q) P m → IsNode P m → AgreesTo (length (X ++ Q)) i jX → Chained w x V f v rank mean eqs shape top below_top X Q jQ jX → NotNow w x V f v rank mean eqs shape top below_top Q jQ → SomeAt w x V f v rank mean eqs shape top below_top Q T 0 (P ++ X) m
@@ -293,20 +402,20 @@ module _ (w : World) (x : Input) (V : Exp → Index → Val → Type 0) (f : Flo
   -- what is known of a loop on the way to the goal: the number of its last iteration, and a token in it
   loop_value : (F Q : List ℕ) (T : Target) → IsGoal Q T → (jQ j : Index) → Chained w x V f v rank mean eqs shape top below_top F Q jQ j → (c : ℕ) (i : Index) (σ : ℕ → Val) → State F Q T jQ j (c ∷ []) c i σ
       → (n : ℕ) × PassIs w x V f v rank mean eqs shape top below_top c (F ++ Q) j n × ((z : Val) × V (v.value c 0) (at_depth j (length (c ∷ (F ++ Q))) n) z)
-  loop_value F Q T goal jQ j ch c i σ st = pick (settle w x V f v rank mean eqs shape top below_top top (F ++ Q) (c ∷ []) c j st.1 (λ k l. far w x V f v rank mean eqs shape top below_top [] (F ++ Q) (c ∷ []) c i j j at' st.3 refl (Node k) 0 l) ev (below_top ev.1))
+  loop_value F Q T goal jQ j ch c i σ st = pick (settle w x V f v rank mean eqs shape top below_top (Any w x V f v rank mean eqs shape top below_top) (λ n e m d. tt) top (F ++ Q) (c ∷ []) c j st.1 (λ k l. far w x V f v rank mean eqs shape top below_top [] (F ++ Q) (c ∷ []) c i j j at' st.3 refl (Node k) 0 l) ev (below_top ev.1))
     where
       at' : Placed w x V f v rank mean eqs shape top below_top i (F ++ Q) (c ∷ []) c
       at' = placed i (F ++ Q) (c ∷ []) c σ st.0 st.1 st.2
 
-      ev : Evidence w x V f v rank mean eqs shape top below_top (F ++ Q) (c ∷ []) c j
-      ev = peel w x V f v rank mean eqs shape top below_top [] F Q (c ∷ []) c i jQ j j at' st.3 refl ch (goal_evidence w x V f v rank mean eqs shape top below_top Q T goal (c ∷ F) c jQ st.5.1 st.5.0 st.1 st.5.2 st.5.3)
+      ev : Evidence w x V f v rank mean eqs shape top below_top (Any w x V f v rank mean eqs shape top below_top) (F ++ Q) (c ∷ []) c j
+      ev = peel w x V f v rank mean eqs shape top below_top (Any w x V f v rank mean eqs shape top below_top) (λ n e m d. tt) [] F Q (c ∷ []) c i jQ j j at' st.3 refl ch (goal_evidence w x V f v rank mean eqs shape top below_top Q T goal (c ∷ F) c jQ st.5.1 st.5.0 st.1 st.5.2 st.5.3)
 
-      pick : Settled w x V f v rank mean eqs shape top below_top (F ++ Q) (c ∷ []) c j → (n : ℕ) × PassIs w x V f v rank mean eqs shape top below_top c (F ++ Q) j n × ((z : Val) × V (v.value c 0) (at_depth j (length (c ∷ (F ++ Q))) n) z)
+      pick : Settled w x V f v rank mean eqs shape top below_top (Any w x V f v rank mean eqs shape top below_top) (F ++ Q) (c ∷ []) c j → (n : ℕ) × PassIs w x V f v rank mean eqs shape top below_top c (F ++ Q) j n × ((z : Val) × V (v.value c 0) (at_depth j (length (c ∷ (F ++ Q))) n) z)
       pick (inl y) = absurd (nil_cons c [] (sym y.0))
-      pick (inr (L, k, H, n, e, u, z, walk, inch, val)) =
+      pick (inr (L, k, H, n, e, u, z, walk, inch, val, said)) =
           let s = snoc_same [] L c k z in
           let t = token_out_says w x V f v rank mean eqs shape top below_top c (F ++ Q) _ j u st.1 (subst (λ (k : ℕ). V (token_out v f k (token_outs v f H (put (v.value n) (e.slots 0)))) j u) (sym s.1) val) in
-          (t.1.0, t.1.2, token_first w x V f v rank mean eqs shape top below_top c (F ++ Q) _ st.1 (H, n, e, t.1.1, subst₂ (λ (k : ℕ) (L : List ℕ). Walk f (k ∷ (F ++ Q)) L c H n) (sym s.1) (sym s.0) walk, inch, t.1.3))
+          (t.1.0, t.1.2, token_first w x V f v rank mean eqs shape top below_top c (F ++ Q) _ st.1 (H, n, e, t.1.1, subst₂ (λ (k : ℕ) (L : List ℕ). Walk f (k ∷ (F ++ Q)) L c H n) (sym s.1) (sym s.0) walk, inch, t.1.3, tt))
 
   -- the iterations of a loop
   run_loop : (D : ℕ) → RunAt D → (F Q : List ℕ) (T : Target) → IsGoal Q T → (jQ j : Index) → NotNow w x V f v rank mean eqs shape top below_top Q jQ → Stack F Q T jQ j → deepest ≤ suc D + length (F ++ Q) → (c : ℕ) → f.around c ≡ c ∷ (F ++ Q) → Laters F Q T jQ j (rank c)

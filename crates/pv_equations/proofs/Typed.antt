@@ -303,7 +303,7 @@ module _ (w : World) (x : Input) where
       runnable : Runnable w x F Sorted
       runnable = record {
         args = λ b σ e s ps st i z. absurd (no_call b e s ps (known b e st.0 i) z);
-        moves = λ b σ e u st i p. moves b σ st;
+        moves = λ b σ st. inl (moves b σ st);
         stays = stays;
       }
 

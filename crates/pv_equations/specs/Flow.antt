@@ -152,9 +152,9 @@ Ends e = (k : Kind) × (e.dest ≡ End k)
 abbrev pub Fails : World → Input → (ℕ → Val) → Part → Type 0
 Fails w x σ t = (u : Val) × PartIs w x σ t u × (truth u ≡ Some false)
 
--- no exit has a token, but for one that would end the method where a test holds that is false
+-- no exit has a token, but for one that ends the method where its test is false; and the last one ends the method
 abbrev pub Waits : World → Input → (ℕ → Val) → Chain → Type 0
-Waits w x σ (Leave e) = (u : Val) → PartIs w x σ (e.slots 0) u → ⊥
+Waits w x σ (Leave e) = Ends e × ((u : Val) → PartIs w x σ (e.slots 0) u → ⊥)
 Waits w x σ (Test t e rest) = ((u : Val) → PartIs w x σ (e.slots 0) u → Ends e × Fails w x σ t) × Waits w x σ rest
 
 -- what is promised of well-typed states, where Typed says which slots at a block are well typed

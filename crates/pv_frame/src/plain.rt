@@ -178,7 +178,7 @@ fn ending(opcode: u8) -> Option<Action>
     Some(action)
 }
 
-/// What an instruction without operands does, `None` where the opcode is none of one.
+/// What an instruction without operands does, `None` at every other opcode.
 pub(crate) fn plain(opcode: u8) -> Option<Action>
     ensures { result ≡ row_of plain_rows opcode }
 {

@@ -61,7 +61,7 @@ impl<T: Drop> From<AllocFailed<T>> for Stop {
 /// Why no frames were inferred.
 #[derive(Clone, Copy, Debug)]
 pub(crate) enum Untyped {
-    /// There are none that agree.
+    /// No frames agree.
     Types,
     Memory,
 }

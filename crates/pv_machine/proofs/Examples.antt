@@ -359,7 +359,7 @@ gt = (refl, refl, refl)
 le : OnOrders comparison.Le true true false
 le = (refl, refl, refl)
 
--- ---- what a world tells
+-- ---- what a world says
 
 -- the field that a symbol stands for: of the home class that is known, or of the class that the symbol names
 home_known : (w : World) (f : Sym) (c : List ℕ) → get w.homes f ≡ Some c → home w f ≡ record f { class = c }

@@ -26,7 +26,7 @@ use Rattle.pv_frame.proofs.FrameLaws.{some_of, no_some, if_some}
 use Rattle.pv_equations.specs.Flow as flow
 use Rattle.pv_equations.specs.Flow.{Part, Parts, Slot, Exit, Chain, Leave, InChain, NamesBelow, AllBelow, InTests}
 use Rattle.pv_runs.specs.Held.{local_place, stack_place, local_slot, stack_slot, Cell, Held, cell_sort, number_part, parts_of, unset, local_part, stack_part, local_cells, stack_cells, held_at, push, of_cell, local_cell, increased_cell, unit_part, clear_part, after_call, with_result, acted_on, acted}
-use Rattle.pv_runs.specs.Chains.{to, throw, give, compared, branch, switch, test_part, end_slots, fault_part, is_zero, narrowed_part, unless_null, within, chain_with, given_chain, last_chain, ends_method, chain_of}
+use Rattle.pv_runs.specs.Chains.{to, throw, give, compared, branch, switch, test_part, end_slots, fault_part, is_zero, narrowed_part, unless_thrown, unless_null, within, chain_with, given_chain, last_chain, ends_method, chain_of}
 use Rattle.pv_runs.specs.Blocks.{acted_along}
 use Rattle.pv_runs.proofs.Options.{mapped, bound}
 use Rattle.pv_runs.proofs.Related.{popped_both, moved_both, taken_found, lists_found}
@@ -181,6 +181,7 @@ module _ (n : ℕ) where
   acted_below (act.StoreElement k) h g cells z b c e = below_of _ g (heap_below h _ b (b.heap, parts_below cells c)) (some_of _ _ e)
   acted_below act.Length h g cells z b c e = below_of _ g (push_below h _ _ b (parts_below cells c)) (some_of _ _ e)
   acted_below (act.Call d f) h g cells z b c e = below_of _ g (result_below h f cells d.result z b c) (some_of _ _ e)
+  acted_below (act.CallOn d f) h g cells z b c e = below_of _ g (result_below h f cells d.result z b c) (some_of _ _ e)
   acted_below a h g cells z b c e = absurd (cc)
 
   -- ---- chains
@@ -252,6 +253,11 @@ module _ (n : ℕ) where
   within_below a i h next x y b z =
       ((x, (tt, tt)), throw_below _ h tt b, ((y, (tt, tt)), throw_below _ h tt b, ((y, ((x, tt), tt)), z, throw_below _ h tt b)))
 
+  thrown_below : (f : Sym) (h : Held) (cells : List Cell) (next : Exit) → 0 < n → HeldBelow h → CellsBelow cells → ExitBelow next → ChainBelow (unless_thrown f h cells next)
+  thrown_below f h cells next z b x y =
+      let args = parts_below cells x in
+      (((b.heap, args), tt), y, throw_below (fault_part f h cells) (after_call h f cells) (b.heap, args) (called_below h f cells z b x))
+
   next_below : (r : Option JType) (a : Action) (h : Held) (cells : List Cell) (next : Exit) (c : Chain) → 0 < n → HeldBelow h → CellsBelow cells → ExitBelow next → chain_with r a h cells next ≡ Some c → ChainBelow c
   next_below r (act.Branch t target) h cells next c z b x y e =
       let q = mapped (λ (x : Part × Bool). branch x (to target h) next) (test_part t cells) c e in
@@ -264,9 +270,8 @@ module _ (n : ℕ) where
   next_below r act.Length h (a ∷ []) next c z b x y e = chain_of_same _ c (null_below a.part h next x.0 b y) e
   next_below r (act.LoadElement k) h (a ∷ i ∷ []) next c z b x y e = chain_of_same _ c (within_below a.part i.part h next x.0 x.1.0 b y) e
   next_below r (act.StoreElement k) h (a ∷ i ∷ v ∷ []) next c z b x y e = chain_of_same _ c (within_below a.part i.part h next x.0 x.1.0 b y) e
-  next_below r (act.Call d f) h cells next c z b x y e =
-      let args = parts_below cells x in
-      chain_of_same _ c (((b.heap, args), tt), y, throw_below (fault_part f h cells) (after_call h f cells) (b.heap, args) (called_below h f cells z b x)) e
+  next_below r (act.Call d f) h cells next c z b x y e = chain_of_same _ c (thrown_below f h cells next z b x y) e
+  next_below r (act.CallOn d f) h (o ∷ cells) next c z b x y e = chain_of_same _ c ((x.0, (tt, tt)), throw_below _ h tt b, thrown_below f h (o ∷ cells) next z b x y) e
   next_below r act.Nop h cells next c z b x y e = chain_of_same _ c y e
   next_below r (act.Push m) h cells next c z b x y e = chain_of_same _ c y e
   next_below r (act.Literal text) h cells next c z b x y e = chain_of_same _ c y e

@@ -1,5 +1,5 @@
 -- What a call does at the end of a block.
-use Rattle.std.proofs.Common.{◌≡◌, ℕ, suc, true, false, List, [], ◌∷◌, Option, Some, None, refl, ap, sym, subst, ◌∙◌, inl, inr}
+use Rattle.std.proofs.Common.{◌≡◌, ℕ, suc, true, false, List, [], ◌∷◌, Option, Some, None, refl, ap, sym, subst, ◌∙◌}
 use Rattle.std.specs.Prelude.{option_map}
 use Rattle.pv_value.specs.declared.number.Num.{Num}
 use Rattle.pv_value.specs.declared.name.Sym.{Sym}
@@ -27,11 +27,10 @@ use Rattle.pv_machine.specs.Machine.{State, called}
 use Rattle.pv_machine.proofs.Values.{of_sort_type}
 use Rattle.pv_graph.specs.declared.node.Op.TheVariants as op
 use Rattle.pv_denote.specs.Denote.{strict, numbers, reply_result, end_part, result_part, fault_part as fault_of_reply, heap_part, over_call}
-use Rattle.pv_equations.specs.Flow as flow
-use Rattle.pv_equations.specs.Flow.{Part, Parts, Slot, Of, NoPart, More, call_token, PartIs, PartsAre, Exit, Chain, Leave, InChain, Chooses}
+use Rattle.pv_equations.specs.Flow.{Part, Of, NoPart, More, call_token, PartIs, PartsAre, Throw, Chain, Leave, Waits}
 use Rattle.pv_runs.specs.Held.{Cell, Held, call_parts, after_call, with_result}
 use Rattle.pv_runs.specs.Matches.{StackIs}
-use Rattle.pv_runs.specs.Chains.{to, throw, fault_part}
+use Rattle.pv_runs.specs.Chains.{to, throw, fault_part, unless_thrown}
 use Rattle.pv_runs.proofs.Ranges.{sort_range}
 use Rattle.pv_runs.proofs.Once.{parts_once}
 use Rattle.pv_runs.proofs.Values.{numbers_of, parts_are}
@@ -88,11 +87,10 @@ module _ (p : Program) (w : World) (x : Input) (σ : ℕ → Val) (world : IsWor
   next_token (Some t) = refl
 
   abbrev chain : Option JType → Chain
-  chain r = flow.Test (Of op.IsClear refl (More (fault_part f h cells) NoPart)) (to (suc s.at) (with_result h f cells r)) (Leave (throw (fault_part f h cells) (after_call h f cells)))
+  chain r = unless_thrown f h cells (to (suc s.at) (with_result h f cells r))
 
-  waiting : (r : Option JType) → worlds.reply w f s.heap nums ≡ None → (e : Exit) (u : Val) → InChain (chain r) e → PartIs w x σ (e.slots 0) u → ⊥
-  waiting r n e u (inl z) t = no_token n u (subst (λ (q : Part). PartIs w x σ q u) (next_token r) (subst (λ (e : Exit). PartIs w x σ (e.slots 0) u) (sym z) t))
-  waiting r n e u (inr z) t = no_token n u (subst (λ (e : Exit). PartIs w x σ (e.slots 0) u) (sym z) t)
+  waiting : (r : Option JType) → worlds.reply w f s.heap nums ≡ None → Waits w x σ (chain r)
+  waiting r n = ((λ u t. absurd (no_token n u (subst (λ (q : Part). PartIs w x σ q u) (next_token r) t))), ((Throw, refl), (λ u t. no_token n u t)))
 
   fault_part_is : (o : Outcome) (e : Fault) → worlds.reply w f s.heap nums ≡ Some o → fault_of_reply (Some o) s.heap ≡ Some (val.Fault e) → PartIs w x σ (fault_part f h cells) (val.Fault e)
   fault_part_is o e r z = (val.Heap s.heap ∷ numbers_of nums, args, fault_is (Some o) r ∙ z)

@@ -7,6 +7,7 @@ use Rattle.pv_value.specs.declared.outcome.Input.{Input}
 use Rattle.pv_value.specs.declared.outcome.Outcome.{Outcome}
 use Rattle.pv_value.specs.declared.outcome.Val.{Val}
 use Rattle.pv_value.specs.declared.name.Sym.{Sym}
+use Rattle.pv_value.specs.declared.descriptor.Descriptor.{Descriptor}
 use Rattle.pv_value.specs.Worlds.{IsWorld}
 use Rattle.pv_pool.specs.Readers.{◌>>=◌}
 use Rattle.pv_frame.specs.declared.sort.Sort.{Sort}
@@ -31,7 +32,7 @@ use Rattle.pv_flow.specs.Exits.{departures}
 use Rattle.pv_flow.proofs.Departing.{target_or_next, goes_to_successors}
 use Rattle.pv_loops.specs.declared.forest.Forest.{Forest}
 use Rattle.pv_equations.specs.Flow as flows
-use Rattle.pv_equations.specs.Flow.{PartIs, Kind, Dest, To, End, Exit, Chain, Leave, InChain, Flow, Chooses, Steps, Parts, call_token, PartsAre}
+use Rattle.pv_equations.specs.Flow.{PartIs, Kind, Dest, To, End, Exit, Chain, Leave, InChain, Flow, Chooses, Steps, Parts, call_token, PartsAre, Ends, Waits}
 use Rattle.pv_equations.specs.Root.{IsOutcome, Next, Goes as Onward, Stops, then as followed, after, MachineEnds, Carries}
 use Rattle.pv_equations.proofs.Follow.{chooses_in}
 use Rattle.pv_equations.proofs.Machine.{after_rest}
@@ -45,7 +46,7 @@ use Rattle.pv_runs.proofs.Typed.{Chained, chained}
 use Rattle.pv_runs.proofs.Departures.{Departs, has_exits, exit_departs}
 use Rattle.pv_runs.proofs.Edges.{number_is, in_numbered, chain_at, goes_place}
 use Rattle.pv_runs.proofs.Tokens.{token_arguments}
-use Rattle.pv_runs.proofs.Once.{part_once, chooses_once}
+use Rattle.pv_runs.proofs.Once.{part_once, chooses_once, waits_on}
 use Rattle.pv_runs.proofs.Lasts.{Leaves, comes, over, waits}
 use Rattle.pv_runs.proofs.Runs.{block_runs, enters, left_slots, left_token, left_heap, left_parts, left_locals, left_stack, Run}
 
@@ -56,6 +57,7 @@ sound_of (act.PutStatic t f) c = c.0
 sound_of (act.GetField t f) c = c.0
 sound_of (act.PutField t f) c = c.0
 sound_of (act.Call d f) c = c
+sound_of (act.CallOn d f) c = (c.0, (c.1.0.params, ap (λ (d : Descriptor). d.params) c.1.1))
 sound_of a c = tt
 
 none_after : (o : Taken Sort) (y : Frame) → (o >>= λ q. None) ≡ Some y → ⊥
@@ -114,6 +116,13 @@ chooses_numbered w x σ blocks (Leave f) e h = ap (numbered_exit blocks) h
 chooses_numbered w x σ blocks (flows.Test t f c) e (u, is, inl (y, same)) = (u, is, inl (y, ap (numbered_exit blocks) same))
 chooses_numbered w x σ blocks (flows.Test t f c) e (u, is, inr (n, h)) = (u, is, inr (n, chooses_numbered w x σ blocks c e h))
 
+ends_numbered : (blocks : List Block) (e : Exit) → Ends e → Ends (numbered_exit blocks e)
+ends_numbered blocks e (k, is) = (k, ap (numbered_dest blocks) is)
+
+waits_numbered : (w : World) (x : Input) (σ : ℕ → Val) (blocks : List Block) (c : Chain) → Waits w x σ c → Waits w x σ (numbered blocks c)
+waits_numbered w x σ blocks (Leave e) h = (ends_numbered blocks e h.0, h.1)
+waits_numbered w x σ blocks (flows.Test t e c) h = ((λ u i. let z = h.0 u i in (ends_numbered blocks e z.0, z.1)), waits_numbered w x σ blocks c h.1)
+
 -- ---- what a block does
 
 module _ (p : Program) (clean : IsCleanProgram p) (w : World) (world : IsWorld w) (x : Input) (frames : List (Option Frame)) (well_typed : AreFrames p frames) (blocks : List Block) (flow : IsFlow p blocks) (forest : Forest) where
@@ -128,7 +137,7 @@ module _ (p : Program) (clean : IsCleanProgram p) (w : World) (world : IsWorld w
   pub data Does (b : ℕ) (σ : ℕ → Val) (s : State) : Type 0 where
     moves : (e : Exit) (m : ℕ) (τ : ℕ → Val) (n : ℕ) (t : State) → Steps w x f b σ e τ → e.dest ≡ To m → after (steps p w) (suc n) s ≡ Onward t → Here m τ t → Does b σ s
     stops : (e : Exit) (k : Kind) (τ : ℕ → Val) (n : ℕ) (o : Outcome) → Steps w x f b σ e τ → e.dest ≡ End k → after (steps p w) n s ≡ Stops o → IsOutcome k τ o → Does b σ s
-    idles : ((e : Exit) (u : Val) → InChain (f.chain b) e → PartIs w x σ (e.slots 0) u → ⊥) → ((o : Outcome) → MachineEnds (steps p w) s o → ⊥) → Does b σ s
+    idles : Waits w x σ (f.chain b) → ((o : Outcome) → MachineEnds (steps p w) s o → ⊥) → Does b σ s
 
   typed_after : (n : ℕ) (s t : State) → IsTypedState frames s → after (steps p w) n s ≡ Onward t → IsTypedState frames t
   typed_after n s t h e = stays_typed frames p w s world (λ k a at. sound_of a (clean k a at)) well_typed.agrees h n t (back_to p w _ _ (same_after p w n s) t e)
@@ -182,7 +191,7 @@ module _ (p : Program) (clean : IsCleanProgram p) (w : World) (world : IsWorld w
   left b σ s h n u reach now st (over e o ch k) =
       stops (numbered_exit blocks e) k.kind k.slots (suc n) o (chosen b σ h.0 h.1 e ch, k.parts) (ap (numbered_dest blocks) k.dest) (after_next p w n s u (Stops o) reach (ap next_of st)) k.outcome
   left b σ s h n u reach now st (waits none) = idles
-      (λ e v i is. let d = among b h.0 h.1 e i in none d.0 v d.1 (subst (λ (e : Exit). PartIs w x σ (e.slots 0) v) (sym d.2) is))
+      (subst (λ (c : Chain). Waits w x σ c) (sym (chain_is b h.0 h.1)) (waits_numbered w x σ blocks (chained_at b h.0 h.1).chain none))
       (λ o z.
       let r = after_rest State (steps p w) n z.0 s u o reach z.1 in
       absurd (let y = stays_on r.0 u (ap next_of st) in let k = r.2 in cc))
@@ -242,7 +251,7 @@ module _ (p : Program) (clean : IsCleanProgram p) (w : World) (world : IsWorld w
               let place : k ≡ m = to_same k m (sym z ∙ ap (λ (c : Exit). c.dest) same.0 ∙ d) in
               (n, t, r, subst (λ (m : ℕ). Here m τ t) place (subst (λ (ρ : ℕ → Val). Here k ρ t) same.1 there))
           go (stops c k ρ n o y z r out) = absurd (let same = same_exit b σ ρ τ c e y st in let q : End k ≡ To m = sym z ∙ ap (λ (c : Exit). c.dest) same.0 ∙ d in cc)
-          go (idles none never) = absurd (none e (τ 0) (chooses_in w x σ (f.chain b) e st.0) (st.1 0))
+          go (idles none never) = absurd (waits_on w x σ (f.chain b) e (τ 0) none st.0 (st.1 0))
 
       finishes : (b : ℕ) (σ τ : ℕ → Val) (e : Exit) (k : Kind) (s : State) → Here b σ s → Steps w x f b σ e τ → e.dest ≡ End k → (n : ℕ) × (o : Outcome) × (after (steps p w) n s ≡ Stops o) × IsOutcome k τ o
       finishes b σ τ e k s h st d = go (does b σ s h)
@@ -253,7 +262,7 @@ module _ (p : Program) (clean : IsCleanProgram p) (w : World) (world : IsWorld w
               let same = same_exit b σ ρ τ c e y st in
               let kind : l ≡ k = end_same l k (sym z ∙ ap (λ (c : Exit). c.dest) same.0 ∙ d) in
               (n, o, r, subst (λ (k : Kind). IsOutcome k τ o) kind (subst (λ (ρ : ℕ → Val). IsOutcome l ρ o) same.1 out))
-          go (idles none never) = absurd (none e (τ 0) (chooses_in w x σ (f.chain b) e st.0) (st.1 0))
+          go (idles none never) = absurd (waits_on w x σ (f.chain b) e (τ 0) none st.0 (st.1 0))
 
       not_stuck : (b : ℕ) (σ : ℕ → Val) (s : State) (o : Outcome) → Here b σ s → MachineEnds (steps p w) s o → (e : Exit) × (τ : ℕ → Val) × Steps w x f b σ e τ
       not_stuck b σ s o h z = go (does b σ s h)

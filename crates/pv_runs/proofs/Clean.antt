@@ -1,7 +1,7 @@
 -- The actions of a program are clean.
 use Rattle.std.proofs.Common.{◌≡◌, ℕ, zero, suc, ◌+◌, true, false, List, [], ◌∷◌, Option, Some, None, refl, sym, subst, inl, inr, lit<, lit≤}
 use Rattle.std.specs.Int.{w8, w16, w32}
-use Rattle.std.specs.Prelude.{◌==◌, ◌||◌, ◌⊎◌, FitsSigned, option_map, if◌then◌else◌, slice_get}
+use Rattle.std.specs.Prelude.{◌==◌, ◌||◌, FitsSigned, option_map, if◌then◌else◌, slice_get}
 use Rattle.std.specs.List.{AllZip, AllByRecursion}
 use Rattle.pv_value.specs.declared.name.Sym.{Sym}
 use Rattle.pv_value.specs.declared.descriptor.JType.{JType}
@@ -23,7 +23,7 @@ use Rattle.pv_insn.specs.Codes.{AreFrom, Resolves, IsPlaced}
 use Rattle.pv_frame.specs.declared.used.Use.{Use}
 use Rattle.pv_frame.specs.declared.used.Use.TheVariants as used
 use Rattle.pv_frame.specs.declared.action.Action.{Action}
-use Rattle.pv_frame.specs.Actions.{plain_rows, local_rows, branch_rows, field_rows, row_of, loads_narrow, loads_wide, use_of_constant, use_of_member, use_of, IsUse, IsFloatless, LoadsConstant, AccessesField, CallsStatic, ActsWith, Acts}
+use Rattle.pv_frame.specs.Actions.{plain_rows, local_rows, branch_rows, field_rows, row_of, loads_narrow, loads_wide, use_of_constant, use_of_member, use_of, IsUse, IsFloatless, LoadsConstant, UsesMember, ActsWith, Acts}
 use Rattle.pv_frame.specs.declared.program.Program.{Program}
 use Rattle.pv_frame.specs.Programs.{IsAt, Does, IsProgramOf}
 use Rattle.pv_class.specs.declared.file.ClassFile.{ClassFile}
@@ -31,6 +31,7 @@ use Rattle.pv_class.specs.declared.file.Method.{Method}
 use Rattle.pv_frame.proofs.FrameLaws.{some_of, no_some}
 use Rattle.pv_value.specs.Spelled.{field_type}
 use Rattle.pv_value.proofs.Spelling.{field_spelled}
+use Rattle.pv_value.proofs.ReceiverSymbols.{receivers_apart}
 use Rattle.pv_denote.proofs.Typing.{wider}
 use Rattle.pv_runs.specs.Matches.{IsClean}
 use Rattle.pv_runs.proofs.Ranges.{signed_range}
@@ -126,6 +127,7 @@ opcode_fits raws from at i o (Some form.Local) r rest b l = subst FitsInsn (sym 
 opcode_fits raws from at i o (Some form.Increment) r rest b l = subst FitsInsn (sym (resolves_as raws from i r _ b.is l)) tt
 opcode_fits raws from at i o (Some form.Index1) r rest b l = subst FitsInsn (sym (resolves_as raws from i r _ b.is l)) tt
 opcode_fits raws from at i o (Some form.Index2) r rest b l = subst FitsInsn (sym (resolves_as raws from i r _ b.is l)) tt
+opcode_fits raws from at i o (Some form.IndexAndShort) r rest b l = subst FitsInsn (sym (resolves_as raws from i r _ b.is l)) tt
 opcode_fits raws from at i o (Some form.Branch2) r rest b l = subst FitsInsn (sym (resolves_as raws from i r _ b.is l).2) tt
 opcode_fits raws from at i o (Some form.Branch4) r rest b l = subst FitsInsn (sym (resolves_as raws from i r _ b.is l).2) tt
 opcode_fits raws from at i o (Some form.Table) r rest (inl b) l = subst FitsInsn (sym (resolves_as raws from i r _ b.is l).is) tt
@@ -150,9 +152,10 @@ constant_clean pool opcode (constant.Text i) a f h = subst IsClean (sym h.1.2) t
 constant_clean pool opcode (constant.Long n) a f h = subst IsClean (sym h.1) tt
 constant_clean pool opcode c a f h = elim h [ ]
 
-member_clean : (opcode : ℕ) (m : Member) (a : Action) → AccessesField opcode m a ⊎ CallsStatic opcode m a → IsClean a
+member_clean : (opcode : ℕ) (m : Member) (a : Action) → UsesMember opcode m a → IsClean a
 member_clean opcode m a (inl h) = subst IsClean (sym h.is) (row_has (λ access. (t : JType) (f : Sym) → IsFloatless t → field_type f.desc ≡ Some t → IsClean (access t f)) field_rows field_clean opcode h.access h.row h.type m.sym h.floatless ((field_spelled m.sym.desc h.type).1 h.typed))
-member_clean opcode m a (inr h) = subst IsClean (sym h.is) h.typed
+member_clean opcode m a (inr (inl h)) = subst IsClean (sym h.is) h.typed
+member_clean opcode m a (inr (inr h)) = subst IsClean (sym h.is) (receivers_apart.typed h.form m.sym h.desc h.typed, (h.desc, refl))
 
 with_clean : (pool : List Entry) (opcode : ℕ) (u : Use) (a : Action) → FitsUse u → ActsWith pool opcode u a → IsClean a
 with_clean pool opcode (used.Constant c) a f h = constant_clean pool opcode c a f h

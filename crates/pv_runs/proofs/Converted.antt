@@ -1,5 +1,5 @@
 -- A method's equations have the outcomes of its runs.
-use Rattle.std.proofs.Common.{◌≡◌, ℕ, zero, suc, ◌<◌, List, [], ◌∷◌, length, Option, Some, sym, subst, ap, ◌∙◌, ◌↔◌, arith}
+use Rattle.std.proofs.Common.{◌≡◌, ℕ, zero, suc, ◌<◌, List, [], ◌∷◌, length, Option, Some, sym, subst, ap, ◌∙◌, ◌↔◌, ◌⊎◌, inl, inr, arith}
 use Rattle.std.specs.List.{AllByRecursion}
 use Rattle.pv_value.specs.declared.world.World.{World}
 use Rattle.pv_value.specs.declared.outcome.Input.{Input}
@@ -28,7 +28,7 @@ use Rattle.pv_denote.specs.Meaning.{Value}
 use Rattle.pv_graph.specs.Unfold.{UnfoldsAs}
 use Rattle.pv_graph.specs.Graphs.{Graph, form_at}
 use Rattle.pv_equations.specs.Exp.{Exp}
-use Rattle.pv_equations.specs.Flow.{PartIs, To, Exit, InChain, Flow, Steps, Runnable}
+use Rattle.pv_equations.specs.Flow.{To, Exit, Flow, Steps, Left, Waits, Runnable}
 use Rattle.pv_equations.specs.Equations.{Values, form_of, AreEquations}
 use Rattle.pv_equations.specs.Root.{root_of, after, MachineEnds, Finishes}
 use Rattle.pv_equations.proofs.Law.{graph_machine}
@@ -55,13 +55,13 @@ module _ (p : Program) (clean : IsCleanProgram p) (w : World) (world : IsWorld w
   runnable : Runnable w x f Typed
   runnable = record { args = λ b σ e c ps t i z. arguments p clean w world x frames well_typed blocks flow forest b σ t.0 e c ps t.1 i z; moves = on; stays = stays }
     where
-      on : (b : ℕ) (σ : ℕ → Val) (e : Exit) (u : Val) → Typed b σ → InChain (f.chain b) e → PartIs w x σ (e.slots 0) u → (d : Exit) × (τ : ℕ → Val) × Steps w x f b σ d τ
-      on b σ e u t i h = go (does p clean w world x frames well_typed blocks flow forest b σ t.0 t.1)
+      on : (b : ℕ) (σ : ℕ → Val) → Typed b σ → Left w x f b σ ⊎ Waits w x σ (f.chain b)
+      on b σ t = go (does p clean w world x frames well_typed blocks flow forest b σ t.0 t.1)
         where
-          go : Does p clean w world x frames well_typed blocks flow forest b σ t.0 → (d : Exit) × (τ : ℕ → Val) × Steps w x f b σ d τ
-          go (moves c m ρ n s y q r there) = (c, ρ, y)
-          go (stops c l ρ n o y q r out) = (c, ρ, y)
-          go (idles none never) = absurd (none e u i h)
+          go : Does p clean w world x frames well_typed blocks flow forest b σ t.0 → Left w x f b σ ⊎ Waits w x σ (f.chain b)
+          go (moves c m ρ n s y q r there) = inl (c, ρ, y)
+          go (stops c l ρ n o y q r out) = inl (c, ρ, y)
+          go (idles none never) = inr none
 
       stays : (b m : ℕ) (σ τ : ℕ → Val) (e : Exit) → Typed b σ → Steps w x f b σ e τ → e.dest ≡ To m → Typed m τ
       stays b m σ τ e t st d = let r = (carries p clean w world x frames well_typed blocks flow forest).goes_on b m σ τ e t.0 t.1 st d in (r.1, r.3)

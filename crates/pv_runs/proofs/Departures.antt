@@ -103,6 +103,9 @@ module _ (r : Option JType) (h g : Held) (k : ℕ) (c : Chain) where
       let at = act.StoreElement z in
       are_exits k at h (a ∷ i ∷ x ∷ []) _ c (fails at (a ∷ i ∷ x ∷ []) _, (fails at (a ∷ i ∷ x ∷ []) _, (only_next at (a ∷ i ∷ x ∷ []) y, (fails at (a ∷ i ∷ x ∷ []) _, tt)))) e
   next_exits (act.Call d f) cells y e = are_exits k (act.Call d f) h cells _ c (only_next (act.Call d f) cells y, ((_, after_call h f cells, refl, inr (f, refl)), tt)) e
+  next_exits (act.CallOn d f) (o ∷ cells) y e =
+      let at = act.CallOn d f in
+      are_exits k at h (o ∷ cells) _ c (fails at (o ∷ cells) _, (only_next at (o ∷ cells) y, ((_, after_call h f (o ∷ cells), refl, inr (f, refl)), tt))) e
   next_exits act.Nop cells y e = are_exits k act.Nop h cells _ c (only_next act.Nop cells y, tt) e
   next_exits (act.Push n) cells y e = are_exits k (act.Push n) h cells _ c (only_next (act.Push n) cells y, tt) e
   next_exits (act.Literal text) cells y e = are_exits k (act.Literal text) h cells _ c (only_next (act.Literal text) cells y, tt) e

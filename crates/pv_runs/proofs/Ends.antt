@@ -11,6 +11,7 @@ use Rattle.pv_value.specs.declared.heap.Kind.{Kind as ElementKind}
 use Rattle.pv_value.specs.declared.heap.Loc.TheVariants.{Elem}
 use Rattle.pv_value.specs.declared.descriptor.JType.{JType}
 use Rattle.pv_value.specs.declared.descriptor.JType.TheVariants as jtype
+use Rattle.pv_value.specs.declared.descriptor.Descriptor.{Descriptor}
 use Rattle.pv_value.specs.declared.operation.ScalarOp.{ScalarOp}
 use Rattle.pv_value.specs.declared.operation.ScalarOp.TheVariants.{I2b, I2c, I2s}
 use Rattle.pv_value.specs.declared.world.World.{World}
@@ -25,6 +26,7 @@ use Rattle.pv_value.specs.Heaps.{read, written}
 use Rattle.pv_value.specs.Worlds as worlds
 use Rattle.pv_value.specs.Worlds.{IsWorld}
 use Rattle.pv_value.specs.Narrowing.{shown, kept, as_type, field_place, element_type}
+use Rattle.pv_frame.specs.declared.sort.Sort.{Sort}
 use Rattle.pv_frame.specs.declared.sort.Sort.TheVariants as sort
 use Rattle.pv_frame.specs.declared.action.Test.{Test}
 use Rattle.pv_frame.specs.declared.action.Action.{Action}
@@ -41,16 +43,16 @@ use Rattle.pv_denote.specs.Denote.{strict}
 use Rattle.pv_denote.proofs.Typing.{wider, low_fits}
 use Rattle.pv_equations.specs.Flow as flow
 use Rattle.pv_equations.specs.Flow.{Part, Of, NoPart, More, PartIs, Exit, Chain, Leave, Chooses}
-use Rattle.pv_runs.specs.Held.{Cell, Held, cell_sort, unit_part, null_part, acted_on, after_call, with_result}
+use Rattle.pv_runs.specs.Held.{Cell, Held, cell_sort, unit_part, null_part, acted_on, with_result}
 use Rattle.pv_runs.specs.Matches.{InRange, IsClean, EndsWell}
 use Rattle.pv_runs.proofs.Ranges.{shown_range, length_range, boolean_is}
-use Rattle.pv_runs.specs.Chains.{to, throw, give, fault_part, aeq, is_zero, test_part, branch, narrowed_part, unless_null, within, chain_with, given_chain, last_chain, ends_method, chain_of}
+use Rattle.pv_runs.specs.Chains.{to, throw, give, aeq, is_zero, test_part, branch, narrowed_part, unless_thrown, unless_null, within, chain_with, given_chain, last_chain, ends_method, chain_of}
 use Rattle.pv_runs.proofs.Options.{bound}
 use Rattle.pv_runs.proofs.States.{IsSimple}
 use Rattle.pv_runs.proofs.Acts.{M, Operands, takes_both, simple_goes, pushed_goes, heap_goes}
 use Rattle.pv_runs.proofs.Tests.{yes, no, same_test, suc_not_zero, null_tests, branch_asks}
 use Rattle.pv_runs.proofs.Calls.{call_leaves}
-use Rattle.pv_runs.proofs.Lasts.{Leaves, thrown, given_back, given_none, goes_there, goes_next, branch_leaves, switch_chooses, null_leaves, some_leaves, null_fault, not_null, divide_leaves, field_read, length_read, element_read, field_written, element_written, within_leaves}
+use Rattle.pv_runs.proofs.Lasts.{Leaves, thrown, given_back, given_none, goes_there, goes_next, branch_leaves, switch_chooses, null_first, some_first, null_leaves, some_leaves, null_fault, not_null, divide_leaves, field_read, length_read, element_read, field_written, element_written, within_leaves}
 
 module _ (p : Program) (w : World) (x : Input) (σ : ℕ → Val) where
   -- the chain, and what is held after the action
@@ -193,6 +195,18 @@ module _ (p : Program) (w : World) (x : Input) (σ : ℕ → Val) where
         → acted_on a h cells ≡ Some g → Some (Leave (to (suc s.at) g)) ≡ Some c → Done s a nums c
     simple_leaves a s h g nums cells c i k m all es e d = subst (λ (c : Chain). Done s a nums c) (some_of _ _ d) (goes_next p w x σ (Leave (to (suc s.at) g)) s g (done p w s a nums) (simple_goes p w x σ a s h g nums cells i k m all es e) refl)
 
+    -- null throws before the call
+    call_on_leaves : (d' : Descriptor) (f : Sym) (s : State) (h g : Held) (nums : List Num) (cells : List Cell) (c : Chain) (sorts : List Sort) → IsClean (act.CallOn d' f) → M p w x σ s h → Operands p w x σ nums cells → map sort_of nums ≡ sort.Ref ∷ sorts
+        → acted_on (act.CallOn d' f) h cells ≡ Some g → chain_with p.desc.result (act.CallOn d' f) h cells (to (suc s.at) g) ≡ Some c → Done s (act.CallOn d' f) nums c
+    call_on_leaves d' f s h g (num.Ref zero ∷ nums) (o ∷ cells) c sorts k m all es e d =
+        at_chain (done p w s (act.CallOn d' f) (num.Ref zero ∷ nums)) (λ g. flow.Test (aeq o.part null_part) (throw (Of op.FNull refl NoPart) h) (unless_thrown f h (o ∷ cells) (to (suc s.at) g)))
+        (with_result h f (o ∷ cells) d'.result) g c e d (null_first p w x σ s h o.part _ m all.0.is)
+    call_on_leaves d' f s h g (num.Ref (suc r) ∷ nums) (o ∷ cells) c sorts k m all es e d =
+        at_chain (done p w s (act.CallOn d' f) (num.Ref (suc r) ∷ nums)) (λ g. flow.Test (aeq o.part null_part) (throw (Of op.FNull refl NoPart) h) (unless_thrown f h (o ∷ cells) (to (suc s.at) g)))
+        (with_result h f (o ∷ cells) d'.result) g c e d
+        (some_first p w x σ h o.part r _ _ all.0.is (call_leaves p w x σ world unit s h f d' (num.Ref (suc r) ∷ nums) (o ∷ cells) m all k.0 (worlds.reply w f s.heap (num.Ref (suc r) ∷ nums)) refl))
+    call_on_leaves d' f s h g nums cells c sorts k m all es e d = absurd (cc)
+
     next_leaves : (a : Action) (s : State) (h g : Held) (nums : List Num) (cells : List Cell) (c : Chain) → IsClean a → M p w x σ s h → Operands p w x σ nums cells → map sort_of nums ≡ takes a
         → acted_on a h cells ≡ Some g → chain_with p.desc.result a h cells (to (suc s.at) g) ≡ Some c → Done s a nums c
     next_leaves (act.Branch t target) s h g nums cells c k m all es e d = branch_all t target s h g nums cells c m all es e d
@@ -208,8 +222,8 @@ module _ (p : Program) (w : World) (x : Input) (σ : ℕ → Val) where
     next_leaves (act.StoreElement y) s h g nums cells c k m all es e d = store_leaves y s h g nums cells c m all es e d
     next_leaves (act.Call d' f) s h g nums cells c k m all es e d =
         at_chain (done p w s (act.Call d' f) nums)
-        (λ g. flow.Test (Of op.IsClear refl (More (fault_part f h cells) NoPart)) (to (suc s.at) g) (Leave (throw (fault_part f h cells) (after_call h f cells))))
-        (with_result h f cells d'.result) g c e d (call_leaves p w x σ world unit s h f d' nums cells m all k (worlds.reply w f s.heap nums) refl)
+        (λ g. unless_thrown f h cells (to (suc s.at) g)) (with_result h f cells d'.result) g c e d (call_leaves p w x σ world unit s h f d' nums cells m all k (worlds.reply w f s.heap nums) refl)
+    next_leaves (act.CallOn d' f) s h g nums cells c k m all es e d = call_on_leaves d' f s h g nums cells c _ k m all (es ∙ ap (λ (d : Descriptor). map sort_of_type d.params) k.1.1) e d
     next_leaves act.Nop s h g nums cells c k m all es e d = simple_leaves act.Nop s h g nums cells c tt k m all es e d
     next_leaves (act.Push n) s h g nums cells c k m all es e d = simple_leaves (act.Push n) s h g nums cells c tt k m all es e d
     next_leaves (act.Literal text) s h g nums cells c k m all es e d = simple_leaves (act.Literal text) s h g nums cells c tt k m all es e d

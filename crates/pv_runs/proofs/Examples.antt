@@ -9,6 +9,7 @@ use Rattle.pv_value.specs.declared.heap.Kind.TheVariants as kind
 use Rattle.pv_value.specs.declared.descriptor.JType.{JType}
 use Rattle.pv_value.specs.declared.descriptor.JType.TheVariants.{I, J, A}
 use Rattle.pv_value.specs.declared.operation.ScalarOp.TheVariants.{Iadd, Idiv}
+use Rattle.pv_value.specs.Receivers.{with_receiver}
 use Rattle.pv_frame.specs.declared.sort.Sort.{Sort}
 use Rattle.pv_frame.specs.declared.sort.Sort.TheVariants.{Int, Long, Ref, Unknown}
 use Rattle.pv_frame.specs.declared.action.Action.{Action}
@@ -23,8 +24,8 @@ use Rattle.pv_loops.specs.declared.forest.Loop.{Loop}
 use Rattle.pv_graph.specs.declared.node.Op.TheVariants as op
 use Rattle.pv_equations.specs.Flow as flow
 use Rattle.pv_equations.specs.Flow.{Part, Slot, Of, NoPart, More, Dest, To, End, Return, Throw, Chain, Leave, call_token}
-use Rattle.pv_runs.specs.Held.{unit_part, clear_part, int_part, local_slot, stack_slot}
-use Rattle.pv_runs.specs.Chains.{two_parts, ieq, ilt}
+use Rattle.pv_runs.specs.Held.{unit_part, clear_part, null_part, int_part, local_slot, stack_slot}
+use Rattle.pv_runs.specs.Chains.{two_parts, ieq, ilt, aeq}
 use Rattle.pv_runs.specs.Blocks.{block_chain}
 use Rattle.pv_runs.specs.Carrying.{always_carried, writes_in, carries}
 use Rattle.pv_runs.proofs.Departures.{exits_of}
@@ -131,6 +132,30 @@ call_heaps f = refl
 
 call_faults : (f : Sym) → at_exits 1 (call_chain f) ≡ clear_part ∷ Of (op.CallFault f) refl call_operands ∷ []
 call_faults f = refl
+
+-- a call on a receiver, of a method with an int: null throws, with the token and the heap from before the call; else it is as a call of
+-- which the receiver is the first argument
+abbrev call_on_chain : Sym → Chain
+call_on_chain f = block_chain (method (A ∷ I ∷ []) None 2 (act.Load Ref 0 ∷ act.Load Int 1 ∷ act.CallOn (with_receiver (record { params = I ∷ []; result = None })) f ∷ act.Give None ∷ [])) (framed [] (Ref ∷ Int ∷ []) ∷ [])
+    (record { first = 0; last = 2; exits = exit.Throw ∷ exit.To 1 ∷ exit.Throw ∷ [] } ∷ record { first = 3; last = 3; exits = exit.Return ∷ [] } ∷ []) 0
+
+abbrev call_on_operands : flow.Parts
+call_on_operands = More (Slot 3) (two_parts (Slot (local_slot 0)) (Slot (local_slot 1)))
+
+call_on_tests : (f : Sym) → tests (call_on_chain f) ≡ aeq (Slot (local_slot 0)) null_part ∷ Of op.IsClear refl (More (Of (op.CallFault f) refl call_on_operands) NoPart) ∷ []
+call_on_tests f = refl
+
+call_on_dests : (f : Sym) → dests (call_on_chain f) ≡ End Throw ∷ To 1 ∷ End Throw ∷ []
+call_on_dests f = refl
+
+call_on_tokens : (f : Sym) → at_exits 0 (call_on_chain f) ≡ Slot 0 ∷ call_token f call_on_operands ∷ call_token f call_on_operands ∷ []
+call_on_tokens f = refl
+
+call_on_heaps : (f : Sym) → at_exits 3 (call_on_chain f) ≡ Slot 3 ∷ Of (op.CallHeap f) refl call_on_operands ∷ Of (op.CallHeap f) refl call_on_operands ∷ []
+call_on_heaps f = refl
+
+call_on_faults : (f : Sym) → at_exits 1 (call_on_chain f) ≡ Of op.FNull refl NoPart ∷ clear_part ∷ Of (op.CallFault f) refl call_on_operands ∷ []
+call_on_faults f = refl
 
 -- if (a > b) ..: it asks whether b is less than a, and goes to the target on yes
 abbrev greater_chain : Chain

@@ -117,6 +117,7 @@ acted_leaves (act.LoadElement k) h g cells t e = leaves_both (act.LoadElement k)
 acted_leaves (act.StoreElement k) h g cells t e = leaves_locals (act.StoreElement k) h _ g refl refl (some_of _ _ e)
 acted_leaves act.Length h g cells t e = leaves_both act.Length h _ g refl refl (some_of _ _ e)
 acted_leaves (act.Call d f) h g cells t e = leaves_locals (act.Call d f) h _ g refl (result_locals h f cells d.result) (some_of _ _ e)
+acted_leaves (act.CallOn d f) h g cells t e = leaves_locals (act.CallOn d f) h _ g refl (result_locals h f cells d.result) (some_of _ _ e)
 acted_leaves a h g cells t e = absurd (cc)
 
 -- ---- slots

@@ -32,7 +32,7 @@ use Rattle.pv_machine.specs.Machine.{State, Now, running, ended, goes, throws, p
 use Rattle.pv_graph.specs.declared.node.Op.TheVariants as op
 use Rattle.pv_denote.specs.Denote.{strict}
 use Rattle.pv_equations.specs.Flow as flow
-use Rattle.pv_equations.specs.Flow.{Part, Slot, Of, NoPart, More, PartIs, PartsAre, Kind, Return, Throw, Dest, To, End, Exit, Chain, Leave, InChain, Chooses}
+use Rattle.pv_equations.specs.Flow.{Part, Slot, Of, NoPart, More, PartIs, PartsAre, Kind, Return, Throw, Dest, To, End, Exit, Chain, Leave, Chooses, Waits}
 use Rattle.pv_equations.specs.Root.{IsOutcome}
 use Rattle.pv_runs.specs.Held.{slots, Cell, Held, unit_part, null_part, int_part, parts_of, push}
 use Rattle.pv_runs.specs.Matches.{StackIs}
@@ -53,11 +53,11 @@ module _ (p : Program) (w : World) (x : Input) (σ : ℕ → Val) where
     pub parts : (s : ℕ) → PartIs w x σ (e.slots s) (slots s)
     pub outcome : IsOutcome kind slots o
 
-  -- the exit that the tests choose is the one that the machine takes; or it waits for a call that isn't in the table, and no exit has a token
+  -- the exit that the tests choose is the one that the machine takes; or it waits for a call that isn't in the table
   pub data Leaves (c : Chain) : Option Now → Type 0 where
     comes : (m : ℕ) (g : Held) (t : State) → Chooses w x σ c (to m g) → t.at ≡ m → M p w x σ t g → Leaves c (Some (running t))
     over : (e : Exit) (o : Outcome) → Chooses w x σ c e → EndsSo e o → Leaves c (Some (ended o))
-    waits : ((e : Exit) (u : Val) → InChain c e → PartIs w x σ (e.slots 0) u → ⊥) → Leaves c None
+    waits : Waits w x σ c → Leaves c None
 
   unit_is : PartIs w x σ unit_part val.Unit
   unfolding strict
@@ -143,9 +143,22 @@ module _ (p : Program) (w : World) (x : Input) (σ : ℕ → Val) where
   not_arith : fault.Arith ≢ fault.Clear
   not_arith e = absurd (cc)
 
-  -- null throws
+  -- where the first test is false, the others decide
+  after_no : (t q : Part) (h : Held) (rest : Chain) (now : Option Now) → Tests w x σ t false → Leaves rest now → Leaves (flow.Test t (throw q h) rest) now
+  after_no t q h rest now n (comes m g u ch at y) = comes m g u (no w x σ t (throw q h) (to m g) rest n ch) at y
+  after_no t q h rest now n (over e o ch k) = over e o (no w x σ t (throw q h) e rest n ch) k
+  after_no t q h rest now n (waits r) = waits ((λ u i. ((Throw, refl), (n.value, n.is, n.says))), r)
+
+  -- null throws, whatever the other tests are
+  pub null_first : (s : State) (h : Held) (q : Part) (rest : Chain) → M p w x σ s h → PartIs w x σ q (val.Num (num.Ref 0)) → Leaves (flow.Test (aeq q null_part) (throw (Of op.FNull refl NoPart) h) rest) (Some (throws s fault.Null))
+  null_first s h q rest m i = thrown _ s h (Of op.FNull refl NoPart) fault.Null m null_fault not_null (yes w x σ (aeq q null_part) (throw (Of op.FNull refl NoPart) h) rest (null_tests w x σ q 0 i))
+
+  -- .. and where it isn't null they decide
+  pub some_first : (h : Held) (q : Part) (r : ℕ) (rest : Chain) (now : Option Now) → PartIs w x σ q (val.Num (num.Ref (suc r))) → Leaves rest now → Leaves (flow.Test (aeq q null_part) (throw (Of op.FNull refl NoPart) h) rest) now
+  some_first h q r rest now i l = after_no (aeq q null_part) (Of op.FNull refl NoPart) h rest now (same_test w x σ (aeq q null_part) (suc r == 0) false (suc_not_zero r) (null_tests w x σ q (suc r) i)) l
+
   pub null_leaves : (s : State) (h : Held) (q : Part) (e : Exit) → M p w x σ s h → PartIs w x σ q (val.Num (num.Ref 0)) → Leaves (unless_null q h e) (Some (throws s fault.Null))
-  null_leaves s h q e m i = thrown _ s h (Of op.FNull refl NoPart) fault.Null m null_fault not_null (yes w x σ (aeq q null_part) (throw (Of op.FNull refl NoPart) h) (Leave e) (null_tests w x σ q 0 i))
+  null_leaves s h q e m i = null_first s h q (Leave e) m i
 
   pub some_leaves : (q : Part) (h : Held) (r : ℕ) (e : Exit) → PartIs w x σ q (val.Num (num.Ref (suc r))) → Chooses w x σ (unless_null q h e) e
   some_leaves q h r e i = no w x σ (aeq q null_part) (throw (Of op.FNull refl NoPart) h) e (Leave e) (same_test w x σ _ _ false (suc_not_zero r) (null_tests w x σ q (suc r) i)) refl

@@ -1,10 +1,10 @@
--- A part has one value, and the tests choose one exit.
-use Rattle.std.proofs.Common.{◌≡◌, ℕ, true, false, List, ◌∷◌, Some, ◌⊎◌, ap, sym, ◌∙◌, inl, inr}
+-- A part has one value, and the tests choose one exit; where a block waits they choose none with a token.
+use Rattle.std.proofs.Common.{◌≡◌, ℕ, true, false, List, ◌∷◌, Some, ◌⊎◌, ap, sym, subst, ◌∙◌, inl, inr}
 use Rattle.pv_value.specs.declared.world.World.{World}
 use Rattle.pv_value.specs.declared.outcome.Input.{Input}
 use Rattle.pv_value.specs.declared.outcome.Val.{Val}
 use Rattle.pv_denote.specs.Denote.{strict, truth}
-use Rattle.pv_equations.specs.Flow.{Part, Parts, Slot, Of, NoPart, More, PartIs, PartsAre, Exit, Chain, Leave, Test, Chooses}
+use Rattle.pv_equations.specs.Flow.{Part, Parts, Slot, Of, NoPart, More, PartIs, PartsAre, Exit, Chain, Leave, Test, Chooses, Waits}
 
 module _ (w : World) (x : Input) (σ : ℕ → Val) where
   mutual
@@ -32,3 +32,12 @@ module _ (w : World) (x : Input) (σ : ℕ → Val) where
       go z (inr p) (inr q) ih = ih p.1 q.1
       go z (inl p) (inr q) ih = absurd (let y : truth a.0 ≡ truth b.0 = ap truth z in let k = p.0 in let l = q.0 in cc)
       go z (inr p) (inl q) ih = absurd (let y : truth a.0 ≡ truth b.0 = ap truth z in let k = p.0 in let l = q.0 in cc)
+
+  -- where a block waits for a call, no exit with a token is chosen
+  pub waits_on : (c : Chain) (e : Exit) (v : Val) → Waits w x σ c → Chooses w x σ c e → PartIs w x σ (e.slots 0) v → ⊥
+  waits_on (Leave d) e v h ch i = h.1 v (subst (λ (e : Exit). PartIs w x σ (e.slots 0) v) (sym ch) i)
+  waits_on (Test t d c) e v h (u, is, inl (holds, same)) i =
+      let fails = (h.0 v (subst (λ (e : Exit). PartIs w x σ (e.slots 0) v) (sym same) i)).1 in
+      let one = ap truth (part_once t u fails.0 is fails.1) in
+      absurd (let f = fails.2 in cc)
+  waits_on (Test t d c) e v h (u, is, inr (n, ch)) i = waits_on c e v h.1 ch i

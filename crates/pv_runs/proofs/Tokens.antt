@@ -20,7 +20,7 @@ use Rattle.pv_machine.specs.Machine.{State}
 use Rattle.pv_equations.specs.Flow as flow
 use Rattle.pv_equations.specs.Flow.{Part, Parts, Slot, Of, NoPart, More, call_token, PartIs, PartsAre, Exit, Chain, Leave, InChain}
 use Rattle.pv_runs.specs.Held.{Cell, Held, cell_sort, unset, increased_cell, local_cell, push, call_parts, with_result, acted_on}
-use Rattle.pv_runs.specs.Chains.{to, branch, switch, test_part, chain_with, given_chain, last_chain, ends_method, chain_of}
+use Rattle.pv_runs.specs.Chains.{to, branch, switch, unless_thrown, test_part, chain_with, given_chain, last_chain, ends_method, chain_of}
 use Rattle.pv_runs.proofs.Options.{mapped, bound}
 use Rattle.pv_runs.proofs.Values.{numbers_of, parts_are}
 use Rattle.pv_runs.proofs.Acts.{M, takes_both}
@@ -57,6 +57,7 @@ acted_token (act.LoadElement k) h g cells e = same_as h cells _ g (inl refl) (so
 acted_token (act.StoreElement k) h g cells e = same_as h cells _ g (inl refl) (some_of _ _ e)
 acted_token act.Length h g cells e = same_as h cells _ g (inl refl) (some_of _ _ e)
 acted_token (act.Call d f) h g cells e = same_as h cells _ g (inr (f, result_token h f cells d.result)) (some_of _ _ e)
+acted_token (act.CallOn d f) h g cells e = same_as h cells _ g (inr (f, result_token h f cells d.result)) (some_of _ _ e)
 acted_token a h g cells e = absurd (cc)
 
 -- each exit of a chain
@@ -84,6 +85,9 @@ switch_each : (h : Held) (cells : List Cell) (q : Part) (default : ℕ) (cases :
 switch_each h cells q default [] = leave_each h cells (to default h) (inl refl)
 switch_each h cells q default (c ∷ cases) = test_each h cells _ (to c.target h) (switch q default cases h) (inl refl) (switch_each h cells q default cases)
 
+thrown_each : (h : Held) (f : Sym) (cells : List Cell) (n : Exit) → Kept h cells (n.slots 0) → Each h cells (unless_thrown f h cells n)
+thrown_each h f cells n k = test_each h cells _ n _ k (leave_each h cells _ (inr (f, refl)))
+
 next_each : (r : Option JType) (a : Action) (h g : Held) (cells : List Cell) (k : ℕ) (c : Chain) → Kept h cells g.token → chain_with r a h cells (to k g) ≡ Some c → Each h cells c
 next_each r (act.Branch t target) h g cells k c y e = let q = mapped (λ (x : Part × Bool). branch x (to target h) (to k g)) (test_part t cells) c e in subst (Each h cells) q.2 (branch_each h cells q.0 (to target h) (to k g) (inl refl) y)
 next_each r (act.Jump target) h g cells k c y e = each_is h cells _ c (leave_each h cells (to target h) (inl refl)) e
@@ -96,7 +100,8 @@ next_each r (act.LoadElement z) h g (a ∷ i ∷ []) k c y e =
     each_is h (a ∷ i ∷ []) _ c (test_each h (a ∷ i ∷ []) _ _ _ (inl refl) (test_each h (a ∷ i ∷ []) _ _ _ (inl refl) (test_each h (a ∷ i ∷ []) _ (to k g) _ y (leave_each h (a ∷ i ∷ []) _ (inl refl))))) e
 next_each r (act.StoreElement z) h g (a ∷ i ∷ x ∷ []) k c y e =
     each_is h (a ∷ i ∷ x ∷ []) _ c (test_each h (a ∷ i ∷ x ∷ []) _ _ _ (inl refl) (test_each h (a ∷ i ∷ x ∷ []) _ _ _ (inl refl) (test_each h (a ∷ i ∷ x ∷ []) _ (to k g) _ y (leave_each h (a ∷ i ∷ x ∷ []) _ (inl refl))))) e
-next_each r (act.Call d f) h g cells k c y e = each_is h cells _ c (test_each h cells _ (to k g) _ y (leave_each h cells _ (inr (f, refl)))) e
+next_each r (act.Call d f) h g cells k c y e = each_is h cells _ c (thrown_each h f cells (to k g) y) e
+next_each r (act.CallOn d f) h g (o ∷ cells) k c y e = each_is h (o ∷ cells) _ c (test_each h (o ∷ cells) _ _ _ (inl refl) (thrown_each h f (o ∷ cells) (to k g) y)) e
 next_each r act.Nop h g cells k c y e = each_is h cells _ c (leave_each h cells (to k g) y) e
 next_each r (act.Push n) h g cells k c y e = each_is h cells _ c (leave_each h cells (to k g) y) e
 next_each r (act.Literal text) h g cells k c y e = each_is h cells _ c (leave_each h cells (to k g) y) e

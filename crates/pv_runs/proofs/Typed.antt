@@ -4,6 +4,7 @@ use Rattle.std.specs.Prelude.{map, option_map, slice_get, slice_set, Contains}
 use Rattle.std.specs.List.{AllByRecursion}
 use Rattle.pv_pool.specs.Readers.{◌>>=◌}
 use Rattle.pv_value.specs.declared.descriptor.JType.{JType}
+use Rattle.pv_value.specs.declared.descriptor.Descriptor.{Descriptor}
 use Rattle.pv_frame.specs.declared.sort.Sort.{Sort}
 use Rattle.pv_frame.specs.declared.sort.Sort.TheVariants as sort
 use Rattle.pv_frame.specs.declared.action.Test.{Test}
@@ -14,7 +15,7 @@ use Rattle.pv_frame.specs.declared.program.Program.{Program}
 use Rattle.pv_frame.specs.declared.frame.Frame.{Frame}
 use Rattle.pv_frame.specs.Programs.{IsAt}
 use Rattle.pv_frame.specs.Stacks.{Taken, popped, moved, has_room, set_local}
-use Rattle.pv_frame.specs.Effects.{sort_of_word, sorts_of_result, test_takes, takes, successors}
+use Rattle.pv_frame.specs.Effects.{sort_of_type, sort_of_word, sorts_of_result, test_takes, takes, successors}
 use Rattle.pv_frame.specs.Frames.{same, holds, frame_done, frame_after, Flows, IsFrameAt, LeadsTo, IsEnd, Finds, GoesOn, Reached, AreFrames}
 use Rattle.pv_frame.specs.Frames as frame
 use Rattle.pv_frame.proofs.FrameLaws.{some_of, no_some, if_some, fits_same, popped_sorts, flows_flows, goes_from}
@@ -93,6 +94,10 @@ three_cells (c ∷ cells) s t u e =
     let d = two_cells cells t u (let z : map cell_sort cells ≡ t ∷ u ∷ [] = cc in z) in
     (c, d.0, d.1, ap (λ (cs : List Cell). c ∷ cs) d.2)
 
+more_cells : (cells : List Cell) (s : Sort) (sorts : List Sort) → map cell_sort cells ≡ s ∷ sorts → (c : Cell) × (rest : List Cell) × (cells ≡ c ∷ rest)
+more_cells [] s sorts e = absurd (cc)
+more_cells (c ∷ cells) s sorts e = (c, cells, refl)
+
 call_acts : (r : Option JType) (h : Held) (f : _) (cells : List Cell) → sorts_held (with_result h f cells r) ≡ frame.pushed (sorts_of_result r) (sorts_held h)
 call_acts None h f cells = refl
 call_acts (Some t) h f cells = refl
@@ -161,6 +166,7 @@ module _ (h : Held) where
   done_sorts (act.StoreElement k) cells f es e = stays (act.StoreElement k) cells f _ refl refl e
   done_sorts act.Length cells f es e = pushes act.Length cells f _ _ refl e
   done_sorts (act.Call d s) cells f es e = record { after = with_result h s cells d.result; is = refl; sorts = call_acts d.result h s cells ∙ some_of _ _ e }
+  done_sorts (act.CallOn d s) cells f es e = record { after = with_result h s cells d.result; is = refl; sorts = call_acts d.result h s cells ∙ some_of _ _ e }
 
 -- the operands of an action are held
 record Pops (a : Action) (h : Held) : Type 0 where
@@ -212,6 +218,7 @@ next_some r (act.PutField t f) h cells n i e s = let x = two_cells cells _ _ s i
 next_some r (act.LoadElement k) h cells n i e s = let x = two_cells cells _ _ s in (_, ap (λ (cs : List Cell). chain_with r (act.LoadElement k) h cs n) x.2)
 next_some r (act.StoreElement k) h cells n i e s = let x = three_cells cells _ _ _ s in (_, ap (λ (cs : List Cell). chain_with r (act.StoreElement k) h cs n) x.3)
 next_some r act.Length h cells n i e s = let x = one_cell cells _ s in (_, ap (λ (cs : List Cell). chain_with r act.Length h cs n) x.1)
+next_some r (act.CallOn d f) h cells n i e s = let x = more_cells cells _ _ (s ∙ ap (λ (d : Descriptor). map sort_of_type d.params) i.1.1) in (_, ap (λ (cs : List Cell). chain_with r (act.CallOn d f) h cs n) x.2)
 next_some r (act.Give t) h cells n i e s = absurd (cc)
 next_some r act.Throw h cells n i e s = absurd (cc)
 next_some r a h cells n i e s = (_, refl)

@@ -50,7 +50,9 @@ module _ (w : World) (x : Input) (σ : ℕ → Val) where
     pub heap : PartIs w x σ h.heap (val.Heap s.heap)
     pub token : PartIs w x σ h.token val.Unit
 
--- what an action of a program says of itself: no int is pushed that is out of range, and no reference but null; a division has two operands of the word of its value, fields and callees are typed by their descriptors, without floats and doubles, and a receiver is a parameter
+-- what an action of a program says of itself: no int is pushed that is out of range, and no reference but null; a division has two operands
+-- of the word of its value; a field is typed by its descriptor, and is neither a float nor a double; and a callee is typed by its descriptor,
+-- where a receiver is the first parameter
 abbrev pub IsClean : Action → Type 0
 IsClean (act.Push (num.Int n)) = FitsSigned w32 n
 IsClean (act.Push (num.Ref r)) = r ≡ 0

@@ -56,7 +56,6 @@ whole_kind kind.Slots = tested (codes "slots") refl
 whole_kind kind.Float = tested (codes "float") refl
 whole_kind kind.Code = tested (codes "code") refl
 whole_kind kind.Subroutine = tested (codes "subroutine") refl
-whole_kind kind.ReceiverCall = tested (codes "receiver-call") refl
 whole_kind kind.Dynamic = tested (codes "dynamic") refl
 whole_kind kind.Allocation = tested (codes "allocation") refl
 whole_kind kind.RefStore = tested (codes "ref-store") refl

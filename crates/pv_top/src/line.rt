@@ -116,7 +116,6 @@ fn kind_word(kind: CauseKind) -> &'static [u8]
         CauseKind::Float => b"float",
         CauseKind::Code => b"code",
         CauseKind::Subroutine => b"subroutine",
-        CauseKind::ReceiverCall => b"receiver-call",
         CauseKind::Dynamic => b"dynamic",
         CauseKind::Allocation => b"allocation",
         CauseKind::RefStore => b"ref-store",

@@ -1,0 +1,5 @@
+use Rattle.pv_pool.proofs.Unmarked.{names_apart}
+use Rattle.pv_pool.proofs.laws.law_names.Goals as goal
+
+pub returns : goal.returns
+returns c = names_apart

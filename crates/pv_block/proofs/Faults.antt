@@ -1,5 +1,5 @@
 -- The sorts of a call's fault and of its receiver.
-use Rattle.std.proofs.Common.{◌≡◌, ℕ, List, ◌∷◌, length, ◌<◌, Option, Some, ap, ◌∙◌, subst, get_or}
+use Rattle.std.proofs.Common.{ℕ, List, ◌∷◌, length, ◌<◌, Option, ap, ◌∙◌, subst, get_or}
 use Rattle.std.specs.Prelude.{map}
 use Rattle.pv_value.specs.declared.name.Sym.{Sym}
 use Rattle.pv_value.specs.declared.descriptor.Descriptor.{Descriptor}

@@ -2,10 +2,10 @@
 """Compares the values of roots with the machine's runs, on random methods.
 
 It works on the program that `cd crates/cases && rt run < stdin` leaves. A method is a few blocks of random actions
-on ints, longs, an array, a field, a static field and a call, each of which branches on to later blocks, or returns
-or throws. With --loops it has loops up to three deep, tested at the top, at the bottom, or entered at a test below,
+on ints, longs, an array, a field, a static field and calls, static ones and on a receiver, each of which branches on
+to later blocks, or returns or throws. With --loops it has loops up to three deep, tested at the top, at the bottom, or entered at a test below,
 which are left from inside too; each iteration counts itself in the static field. For random arguments, heaps and
-replies of the call the program says how the machine's run of the method ends (`machine`) and what the value of its
+replies of one call the program says how the machine's run of the method ends (`machine`) and what the value of its
 root is (`root`): the two lines must be the same, and None where the call has no reply.
 
     tests/roots.py [--loops] [SEED [METHODS [ARGUMENTS]]]      by default 1, 2000 methods, 10 lists of arguments each
@@ -24,9 +24,9 @@ STEPS = 3000
 SECONDS = 5
 
 # Of the constant pool's entries: the field f of A, an int, as a static one and as one of an object, and the method
-# f of A, without parameters and result.
-ENTRIES = "010001+'I+0C00050008+0900020009+010003+'()V+0C0005000B+0A0002000C"
-FIELD, CALL = 0x0A, 0x0D
+# f of A, without parameters and result, of a class and of an interface.
+ENTRIES = "010001+'I+0C00050008+0900020009+010003+'()V+0C0005000B+0A0002000C+0B0002000C"
+FIELD, CALL, INTERFACE_CALL = 0x0A, 0x0D, 0x0E
 
 # The parameters: two ints, a long, an array of ints and an object, then locals of the method's own.
 PARAMS = "IIJ[ILA%3B"
@@ -40,6 +40,8 @@ LONG_OPS = [0x61, 0x65, 0x69, 0x7F, 0x81, 0x83]
 INT_DIVISIONS, LONG_DIVISIONS = [0x6C, 0x70], [0x6D, 0x71]
 LONG_SHIFTS = [0x79, 0x7B, 0x7D]
 UNARY = [0x74, 0x91, 0x92, 0x93]
+# a static call, and one on the object by invokevirtual, invokespecial and invokeinterface
+CALLS = [(0xB8, 0, CALL), (0x19, OBJECT, 0xB6, 0, CALL), (0x19, OBJECT, 0xB7, 0, CALL), (0x19, OBJECT, 0xB9, 0, INTERFACE_CALL, 1, 0)]
 INT_TESTS = list(range(0x9F, 0xA5))
 ZERO_TESTS = list(range(0x99, 0x9F))
 
@@ -144,7 +146,7 @@ def act(r, b, known, counted=False):
         push_int(r, b, known)
         b.put(0x4F)
     else:
-        b.put(*r.choice([(0xB8, 0, CALL), (0x00,), (0x15, 0, 0x59, 0x58), (0x15, 0, 0x15, 1, 0x5F, 0x57, 0x57)]))
+        b.put(*r.choice([(0x00,), (0x15, 0, 0x59, 0x58), (0x15, 0, 0x15, 1, 0x5F, 0x57, 0x57)] + CALLS))
 
 
 def method(r):
@@ -342,8 +344,10 @@ def setting(r):
         if r.random() < 0.5:
             steps.append(f"put {place} {r.randrange(-9, 10)}")
     if r.random() < 0.8:
-        reply = r.choice([f"throws A f ()V {r.randrange(1, 9)}", f"returns A f ()V - static:A:f:I {r.randrange(-9, 10)}"])
-        steps.append(reply)
+        form = r.choice(["", "%FFv", "%FFs", "%FFi"])
+        callee, given = (f"A f{form} (Ljava/lang/Object%3B)V", f" {thing}R") if form else ("A f ()V", "")
+        left = f"static:A:f:I {r.randrange(-9, 10)}"
+        steps.append(r.choice([f"throws {callee} {r.randrange(1, 9)}{given}", f"returns {callee} - {left}{given}"]))
     steps += [f"get {place}" for place in ("static:A:f:I", "field:4:A:f:I", "int:3:0", "int:3:1", "int:3:2")]
     return args, "; ".join(steps)
 
@@ -375,7 +379,7 @@ def main():
     lines = []
     for _ in range(count):
         code = looped(r) if loops else method(r)
-        text = f"pool=6,{ENTRIES} f,({PARAMS})I,0009,40,{LOCALS + 4 * loops},{code.hex().upper()}"
+        text = f"pool=7,{ENTRIES} f,({PARAMS})I,0009,40,{LOCALS + 4 * loops},{code.hex().upper()}"
         for _ in range(lists):
             args, steps = setting(r)
             lines.append(f"{STEPS} {args}; {text}; {steps}")

@@ -8,7 +8,8 @@ ghost use Rattle.std.specs.Prelude.{◌≡◌, ◌⊎◌, IfOk, List, ℕ};
 ghost use Rattle.punthizha.specs.CommandLine.{after_name, bytes_of};
 ghost use Rattle.pv_base.specs.Outside.{Rose};
 ghost use Rattle.pv_top.specs.Words.{IsValidate, IsNoCommand, bad_words, texts};
-ghost use Rattle.pv_top.specs.Run.{Answered, AskedFor, EachEquivalent, Says};
+ghost use Rattle.pv_top.specs.Promise.{EachEquivalent};
+ghost use Rattle.pv_top.specs.Run.{Answered, AskedFor, Says};
 
 use pv_base::{Files, HostFiles, HostSink, OpenGate, Sink};
 use pv_top::{Status, run};

@@ -1,12 +1,13 @@
 //! The table of the words that name calls.
 
-use crate::answers::{Answer, NoAnswer};
-use crate::bench::Bench;
-use crate::pools::Asked;
-use crate::{
-    axioms, bases, classes, codes, flows, frames, graphs, leasts, loops, machine, outside, pools,
-    roots, runs, trees, values,
-};
+use crate::{outside, runs};
+use cases_files::pools::Asked;
+use cases_files::{classes, codes, pools};
+use cases_graphs::{axioms, bases, graphs, leasts, loops, trees};
+use cases_methods::{flows, frames, machine, roots};
+use cases_words::answers::{Answer, NoAnswer};
+use cases_words::bench::Bench;
+use cases_words::values;
 use std::rt::Files;
 use std::thread::Threads;
 

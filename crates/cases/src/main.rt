@@ -13,34 +13,14 @@
 //! with.
 #![tactic(auto)]
 
-mod answers;
-mod axioms;
-mod bases;
-mod bench;
 mod calls;
-mod classes;
-mod codes;
-mod flows;
-mod frames;
-mod graphs;
-mod leasts;
-mod loops;
-mod machine;
-mod meanings;
 mod outside;
-mod pools;
 mod repeats;
-mod roots;
-mod rules;
 mod runs;
-mod samples;
-mod settings;
-mod spelling;
-mod trees;
-mod values;
 
-use answers::{Answer, NoAnswer};
-use bench::Bench;
+use cases_files::samples;
+use cases_words::answers::{Answer, NoAnswer};
+use cases_words::bench::Bench;
 use pv_base::{HostSink, Sink};
 use std::alloc::AllocError;
 use std::io::{self, BufRead, BufReader};

@@ -12,9 +12,9 @@
 //! STEP is `fetch NAME LIMIT`, which answers the bytes as a text, `place NAME BYTES`, on a store in memory
 //! `asked`, which answers the calls so far, and on real files `remove NAME`.
 
-use crate::answers::{Answer, List, NoAnswer, said, shown};
-use crate::bench::{Bench, number, words};
-use crate::values::{escaped, read_name};
+use cases_words::answers::{Answer, List, NoAnswer, said, shown};
+use cases_words::bench::{Bench, number, words};
+use cases_words::values::{escaped, read_name};
 use pv_base::{Asked, Files, HostFiles, MemFiles, MemSink, Sink, put_all, take_all};
 use pv_value::Name;
 use std::alloc::Global;

@@ -7,9 +7,9 @@
 //!
 //! The answer has each answer once, after how often it came in a row.
 
-use crate::answers::{Answer, List, NoAnswer};
-use crate::bench::Bench;
 use crate::calls;
+use cases_words::answers::{Answer, List, NoAnswer};
+use cases_words::bench::Bench;
 use std::alloc::{AllocError, Global};
 use std::rt::Files;
 use std::thread::Threads;

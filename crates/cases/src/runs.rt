@@ -9,9 +9,9 @@
 //! A WORD is `""` for the empty one. A SETTING is words `NAME=BYTES`, which are files, `fail=2,6`, the
 //! numbers of the calls that fail, and first `room=9`, the bytes that the sink has room for.
 
-use crate::answers::{Answer, NoAnswer, shown};
-use crate::bench::{Bench, number, words};
 use crate::outside::{asked_text, read_files};
+use cases_words::answers::{Answer, NoAnswer, shown};
+use cases_words::bench::{Bench, number, words};
 use pv_base::{Files, MemFiles, MemSink, OpenGate};
 use pv_top::{Status, run};
 use pv_value::Name;

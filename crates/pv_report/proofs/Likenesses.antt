@@ -12,7 +12,7 @@ use Rattle.pv_value.specs.declared.memory.Memory.{Memory}
 use Rattle.pv_class.specs.declared.file.ClassFile.{ClassFile}
 use Rattle.pv_report.specs.declared.verdict.Verdict.{Verdict}
 use Rattle.pv_report.specs.declared.verdict.Verdict.TheVariants.{Missing, NoCode, Refused, Equivalent, Apart}
-use Rattle.pv_report.specs.Verdicts.{IsVerdict, IsVerdictOn}
+use Rattle.pv_report.specs.Verdicts.{LackRoots, IsVerdict, IsVerdictOn}
 use Rattle.pv_report.specs.Partners.{IsPartner}
 use Rattle.pv_report.specs.Judging.{IsVerdictAt, IsVerdictOnPlaces, IsLikeAt}
 use Rattle.pv_report.specs.declared.partners.Likeness.{Likeness}
@@ -106,6 +106,14 @@ no_partner m others entries is at p partner =
   where
     alike : likeness_of p ≡ likeness_of m
     alike = rw (partner.like.name, partner.like.desc, partner.like.static) refl
+
+-- a verdict without two roots is one
+pub verdict_lacking : (f : ClassFile) (m : Method) (g : ClassFile) (p : Method) (v : Verdict) → LackRoots f m g p v → IsVerdictOn f m g p v
+verdict_lacking f m g p Missing is = is
+verdict_lacking f m g p (NoCode s) is = is
+verdict_lacking f m g p (Refused s cause) is = is
+verdict_lacking f m g p Equivalent is = absurd is
+verdict_lacking f m g p Apart is = absurd is
 
 pub as_verdict : (f g : ClassFile) (m p : Method) (v : Verdict) → IsPartner m g.methods p → IsVerdictOn f m g p v → IsVerdict f g m v
 as_verdict f g m p Missing partner on = absurd on

@@ -1,11 +1,10 @@
 -- Flows with the same values are one flow, and so are those of a method by two forests of its loops.
-use Rattle.std.proofs.Common.{◌≡◌, ◌↔◌, ◌==◌, ℕ, zero, suc, List, [], ◌∷◌, length, Option, Some, None, refl, sym, ap, subst, ◌∙◌, arith}
+use Rattle.std.proofs.Common.{◌≡◌, ◌==◌, ℕ, zero, suc, List, [], ◌∷◌, length, Option, Some, None, refl, ap, ◌∙◌, arith}
 use Rattle.std.specs.Prelude.{slice_get, slice_index_or, ◌||◌, if◌then◌else◌}
 use Rattle.std.specs.List.{AllZip, list_any}
 use mathlib.Core.HLevel.{is_prop→PathP}
 use mathlib.Core.Sum.{⊎_set}
 use native.Mathlib.Nat.{ℕ_set}
-use Rattle.pv_value.specs.declared.descriptor.JType.{JType}
 use Rattle.pv_frame.specs.declared.program.Program.{Program}
 use Rattle.pv_frame.specs.declared.frame.Frame.{Frame}
 use Rattle.pv_flow.specs.declared.block.Block.{Block}
@@ -15,16 +14,9 @@ use Rattle.pv_loops.specs.declared.forest.TheConstants.{MAX_DEPTH}
 use Rattle.pv_loops.specs.Forests.{IsSameForest, IsSameLoop}
 use Rattle.pv_loops.specs.Ranks.{header_and, headers_from}
 use Rattle.pv_graph.specs.Ops.{Shape, plain, shape}
-use Rattle.pv_graph.specs.Graphs.{Graph}
-use Rattle.pv_graph.specs.Unfold.{UnfoldsAs}
-use Rattle.pv_graph.specs.Forms.{Form}
-use Rattle.pv_equations.specs.Exp.{Exp}
 use Rattle.pv_equations.specs.Flow.{Flow}
-use Rattle.pv_equations.specs.Equations.{Values, AreEquations, form_of}
-use Rattle.pv_equations.specs.Root.{root_of}
 use Rattle.pv_runs.specs.Carrying.{always_carried, writes_in, members_of}
 use Rattle.pv_runs.specs.Methods.{flow_of}
-use Rattle.pv_build.specs.Unfolded.{IsUnfolded}
 
 -- ---- flows
 

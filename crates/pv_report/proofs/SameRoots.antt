@@ -1,7 +1,7 @@
 -- Two roots in one graph unfold equally, or they do in none; and a sealed graph has its nodes.
-use Rattle.std.proofs.Common.{◌≡◌, ◌↔◌, ◌==◌, ℕ, ◌<◌, List, length, Bool, true, Option, sym, ap, subst, ◌∙◌}
-use Rattle.std.proofs.lemmas.Bool.Decides.{Decides-eqb}
-use Rattle.std.specs.Prelude.{IsTrue}
+use Rattle.std.proofs.Common.{◌≡◌, ◌↔◌, ℕ, ◌<◌, List, length, true, Option, sym, ap, subst, ◌∙◌}
+use Rattle.std.specs.Prelude.{IfOk, Result, Ok, Err}
+use Rattle.pv_value.specs.declared.memory.Memory.{Memory}
 use Rattle.pv_class.specs.declared.file.ClassFile.{ClassFile}
 use Rattle.pv_class.specs.declared.file.Method.{Method}
 use Rattle.pv_class.proofs.CodeBytes.{HasBytes}
@@ -18,7 +18,7 @@ use Rattle.pv_loops.specs.Forests.{IsForest, IsSameForest}
 use Rattle.pv_loops.proofs.Unique.{one_forest}
 use Rattle.pv_graph.specs.declared.node.Node.{Node}
 use Rattle.pv_graph.specs.declared.node.OpSort.TheVariants.{R}
-use Rattle.pv_graph.specs.Unfold.{UnfoldEqually, UnfoldsAs}
+use Rattle.pv_graph.specs.Unfold.{UnfoldsAs}
 use Rattle.pv_graph.specs.Graphs.{Graph, IsGraph, IsWellMade, form_at}
 use Rattle.pv_graph.specs.Calls.{IsOpenTheta, empty_graph, Sealed}
 use Rattle.pv_graph.proofs.CallLaws.{empty_made}
@@ -29,7 +29,9 @@ use Rattle.pv_terms.proofs.Growing.{sorted_within}
 use Rattle.pv_runs.specs.Methods.{flow_of}
 use Rattle.pv_build.specs.Unfolded.{IsUnfolded}
 use Rattle.pv_build.specs.Conversion.{Form, IsRootOf}
-use Rattle.pv_report.specs.Roots.{HaveRoots, Alike, IsWhole}
+use Rattle.pv_alike.specs.Least.{Rooted, IsLeast, IsLeastOf}
+use Rattle.pv_alike.proofs.LeastLaws.{least_one}
+use Rattle.pv_report.specs.Roots.{HaveRoots, Alike, HaveLeast, IsWhole}
 use Rattle.pv_report.proofs.SameFlows.{same_flow, alike_flows}
 use Rattle.pv_report.proofs.SameMeanings.{solved}
 
@@ -105,10 +107,25 @@ sealed_nodes g h s = ap (λ (k : Graph). k.nodes) s.sealed
 pub sealed_within : (g h : Graph) (n : ℕ) → Sealed g h → n < length g.nodes → n < length h.nodes
 sealed_within g h n s lt = subst (λ (xs : List Node). n < length xs) (sym (sealed_nodes g h s)) lt
 
--- whether numbers are equal, said of equal numbers
-pub compared : (a b r s : ℕ) (P : Type 0) → a ≡ r → b ≡ s → (r ≡ s) ↔ P → IsTrue (a == b) ↔ P
-compared a b r s P p q same = (λ t. same.0 (sym p ∙ (Decides-eqb a b).0 t ∙ q), λ is. (Decides-eqb a b).1 (p ∙ same.1 is ∙ sym q))
+-- two numbers are equal where those that they are equal to are
+pub compared : (a b r s : ℕ) (P : Type 0) → a ≡ r → b ≡ s → (r ≡ s) ↔ P → (a ≡ b) ↔ P
+compared a b r s P p q same = (λ t. same.0 (sym p ∙ t ∙ q), λ is. p ∙ same.1 is ∙ sym q)
 
--- nodes that unfold equally in a sealed graph did so before
-pub sealed_unfold : (g h : Graph) (a b : ℕ) (alike : Bool) → Sealed g h → IsTrue alike ↔ UnfoldEqually (form_at h.nodes) a b → IsTrue alike ↔ UnfoldEqually (form_at g.nodes) a b
-sealed_unfold g h a b alike s one = subst (λ (xs : List Node). IsTrue alike ↔ UnfoldEqually (form_at xs) a b) (sealed_nodes g h s) one
+-- ---- the least graph of two roots
+
+-- the least graph of nodes of a sealed graph was theirs before
+least_kept : (g h : Graph) (a b : ℕ) (l : Rooted) → Sealed g h → IsLeastOf h a b l → IsLeastOf g a b l
+least_kept g h a b l s is = record {
+  least = subst (λ (xs : List Node). IsLeast xs a b l.graph.nodes l.first l.second) (sealed_nodes g h s) is.least;
+  sealed = is.sealed;
+  base = is.base;
+  made = is.made;
+}
+
+pub answer_kept : (g h : Graph) (a b : ℕ) (r : Result Rooted Memory) → Sealed g h → IfOk r (λ l. IsLeastOf h a b l) → IfOk r (λ l. IsLeastOf g a b l)
+answer_kept g h a b (Ok l) s is = least_kept g h a b l s is
+answer_kept g h a b (Err e) s is = is
+
+-- its roots are one exactly where the two unfold equally
+pub alike_least : (first : ClassFile) (m : Method) (second : ClassFile) (p : Method) (l : Rooted) (h : HaveLeast first m second p l) → (l.first ≡ l.second) ↔ Alike h.roots
+alike_least first m second p l h = least_one h.least.least

@@ -1,5 +1,5 @@
 -- What is said of two files that were fetched.
-use Rattle.std.specs.Prelude.{◌≡◌, ◌<◌, ℕ, List, Some, Result, length, slice_get}
+use Rattle.std.specs.Prelude.{◌≡◌, ◌<◌, ℕ, List, Some, Result, Ok, Err, length, slice_get}
 use Rattle.std.specs.List.{AllZip, flat_map}
 use Rattle.pv_class.specs.declared.file.Method.{Method}
 use Rattle.pv_class.specs.declared.file.ClassFile.{ClassFile}
@@ -13,7 +13,9 @@ use Rattle.pv_report.specs.declared.report.Fetched.TheVariants.{Bytes, TooLong}
 use Rattle.pv_report.specs.declared.report.Judgement.{Judgement}
 use Rattle.pv_report.specs.declared.report.Judgement.TheVariants as judgement
 use Rattle.pv_report.specs.declared.verdict.Verdict.{Verdict}
-use Rattle.pv_report.specs.Verdicts.{IsVerdict, IsVerdictOn}
+use Rattle.pv_alike.specs.Least.{Rooted}
+use Rattle.pv_report.specs.Roots.{HaveLeast}
+use Rattle.pv_report.specs.Verdicts.{LackRoots, IsVerdict, IsVerdictOn}
 use Rattle.pv_report.specs.Partners.{IsLike}
 use Rattle.pv_report.specs.Lines.{line_text}
 use Rattle.pv_report.specs.Report.{lines_of, AreEquivalent, Judged}
@@ -42,6 +44,15 @@ IsVerdictAt first place second v = (m : Method) → slice_get first.methods plac
 -- the verdict on two methods at their places
 abbrev pub IsVerdictOnPlaces : ClassFile → ℕ → ClassFile → ℕ → Verdict → Type 0
 IsVerdictOnPlaces first place second other v = (m p : Method) → slice_get first.methods place ≡ Some m → slice_get second.methods other ≡ Some p → IsVerdictOn first m second p v
+
+-- the least graph of the roots of two methods, or the verdict where they don't both have a root
+abbrev pub IsLeastOn : ClassFile → Method → ClassFile → Method → Result Rooted Verdict → Type 0
+IsLeastOn first m second p (Ok l) = HaveLeast first m second p l
+IsLeastOn first m second p (Err v) = LackRoots first m second p v
+
+-- so it is for two methods at their places
+abbrev pub IsLeastOnPlaces : ClassFile → ℕ → ClassFile → ℕ → Result Rooted Verdict → Type 0
+IsLeastOnPlaces first place second other found = (m p : Method) → slice_get first.methods place ≡ Some m → slice_get second.methods other ≡ Some p → IsLeastOn first m second p found
 
 -- the method at this place is like this one
 abbrev pub IsLikeAt : Method → List Method → ℕ → Type 0

@@ -6,6 +6,7 @@ use Rattle.pv_graph.specs.Unfold.{UnfoldEqually}
 use Rattle.pv_graph.specs.Graphs.{Graph, IsWellMade, form_at}
 use Rattle.pv_graph.specs.Calls.{IsFinished}
 use Rattle.pv_build.specs.Conversion.{IsRootOf}
+use Rattle.pv_alike.specs.Least.{Rooted, IsLeastOf}
 
 -- both methods have their roots in a graph
 pub record HaveRoots (first : ClassFile) (m : Method) (second : ClassFile) (p : Method) : Type 0 where
@@ -23,3 +24,8 @@ Alike r = UnfoldEqually (form_at r.graph.nodes) r.root r.other
 pub record IsWhole (g : Graph) : Type 0 where
   pub made : IsWellMade g
   pub finished : IsFinished g
+
+-- the least graph of both roots
+pub record HaveLeast (first : ClassFile) (m : Method) (second : ClassFile) (p : Method) (l : Rooted) : Type 0 where
+  pub roots : HaveRoots first m second p
+  pub least : IsLeastOf roots.graph roots.root roots.other l

@@ -13,15 +13,19 @@ use Rattle.pv_report.specs.Roots.{HaveRoots, Alike}
 abbrev pub HasCode : Method → Type 0
 HasCode m = (code : Code) × (m.code ≡ Some code)
 
--- the verdict on a method of a class and its partner in another
+-- why a method of a class and its partner in another don't both have a root
+abbrev pub LackRoots : ClassFile → Method → ClassFile → Method → Verdict → Type 0
+LackRoots first m second p (verdict.NoCode side.First) = m.code ≡ None
+LackRoots first m second p (verdict.NoCode side.Second) = HasCode m × (p.code ≡ None)
+LackRoots first m second p (verdict.Refused side.First cause) = HasCode p × Meets first m cause
+LackRoots first m second p (verdict.Refused side.Second cause) = Form first m × Meets second p cause
+LackRoots first m second p v = ⊥
+
+-- the verdict on the two
 abbrev pub IsVerdictOn : ClassFile → Method → ClassFile → Method → Verdict → Type 0
-IsVerdictOn first m second p verdict.Missing = ⊥
-IsVerdictOn first m second p (verdict.NoCode side.First) = m.code ≡ None
-IsVerdictOn first m second p (verdict.NoCode side.Second) = HasCode m × (p.code ≡ None)
-IsVerdictOn first m second p (verdict.Refused side.First cause) = HasCode p × Meets first m cause
-IsVerdictOn first m second p (verdict.Refused side.Second cause) = Form first m × Meets second p cause
 IsVerdictOn first m second p verdict.Equivalent = (r : HaveRoots first m second p) × Alike r
 IsVerdictOn first m second p verdict.Apart = (r : HaveRoots first m second p) × (Alike r → ⊥)
+IsVerdictOn first m second p v = LackRoots first m second p v
 
 -- the verdict on a method of the first class
 abbrev pub IsVerdict : ClassFile → ClassFile → Method → Verdict → Type 0

@@ -19,4 +19,4 @@ mod verdict;
 
 pub use laws::law_lines;
 pub use report::{Fetched, Judgement, judge};
-pub use verdict::{Side, Verdict};
+pub use verdict::{Side, Verdict, least_roots};

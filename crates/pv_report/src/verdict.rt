@@ -2,15 +2,14 @@
 
 ghost use Rattle.std.specs.Prelude.{◌≡◌, ◌↔◌, ◌<◌, length, slice_get, true, Some, IfOk, IsTrue};
 ghost use Rattle.pv_class.specs.declared.file.Method.{Method};
-ghost use Rattle.pv_graph.specs.Unfold.{UnfoldEqually};
-ghost use Rattle.pv_graph.specs.Graphs.{form_at};
+ghost use Rattle.pv_alike.specs.Least.{IsLeastOf};
 ghost use Rattle.pv_report.specs.Roots.{IsWhole};
 ghost use Rattle.pv_report.specs.Verdicts.{HasCode};
-ghost use Rattle.pv_report.specs.Judging.{IsRead, IsVerdictAt, IsVerdictOnPlaces};
+ghost use Rattle.pv_report.specs.Judging.{IsRead, IsLeastOnPlaces, IsVerdictAt, IsVerdictOnPlaces};
 ghost use Rattle.pv_report.specs.Partnering.{IsIndexOf};
 
 use crate::partners::{Partners, partner_of};
-use pv_alike::least;
+use pv_alike::{Least, least};
 use pv_build::convert;
 use pv_class::ClassFile;
 use pv_frame::{Cause, Refused};
@@ -83,42 +82,63 @@ fn verdict_with(
     requires partner { partner < length second.now.methods }
     ensures { IfOk result (λ verdict. IsVerdictOnPlaces first.now method second.now partner verdict) }
 {
-    if !has_code(first, method) {
-        return Ok(Verdict::NoCode(Side::First));
-    }
-    if !has_code(second, partner) {
-        return Ok(Verdict::NoCode(Side::Second));
-    }
-    let mut g = Graph::new(alloc);
-    let one = match convert(alloc, first, method, &mut g) {
-        Ok(root) => root,
-        Err(Refused::Cause(cause)) => return Ok(Verdict::Refused(Side::First, cause)),
-        Err(Refused::Memory) => return Err(Memory),
+    let roots = match least_roots(alloc, first, method, second, partner)? {
+        Ok(roots) => roots,
+        Err(verdict) => return Ok(verdict),
     };
-    let two = match convert(alloc, second, partner, &mut g) {
-        Ok(root) => root,
-        Err(Refused::Cause(cause)) => return Ok(Verdict::Refused(Side::Second, cause)),
-        Err(Refused::Memory) => return Err(Memory),
-    };
-    let alike = are_alike(alloc, g, one, two)?;
-    if alike {
+    if roots.first() == roots.second() {
         Ok(Verdict::Equivalent)
     } else {
         Ok(Verdict::Apart)
     }
 }
 
-// Whether two nodes of an open graph unfold equally.
-fn are_alike(alloc: Global, mut g: Graph, one: NodeId, two: NodeId) -> Result<bool, Memory>
+/// The least graph of the roots of two methods, each at its place in its class; or the verdict on them where they
+/// don't both have a root.
+pub fn least_roots(
+    alloc: Global,
+    first: &ClassFile,
+    method: usize,
+    second: &ClassFile,
+    partner: usize,
+) -> Result<Result<Least, Verdict>, Memory>
+    requires first { IsRead first.now }
+    requires second { IsRead second.now }
+    requires there { method < length first.now.methods }
+    requires partner { partner < length second.now.methods }
+    ensures { IfOk result (λ found. IsLeastOnPlaces first.now method second.now partner found) }
+{
+    if !has_code(first, method) {
+        return Ok(Err(Verdict::NoCode(Side::First)));
+    }
+    if !has_code(second, partner) {
+        return Ok(Err(Verdict::NoCode(Side::Second)));
+    }
+    let mut g = Graph::new(alloc);
+    let one = match convert(alloc, first, method, &mut g) {
+        Ok(root) => root,
+        Err(Refused::Cause(cause)) => return Ok(Err(Verdict::Refused(Side::First, cause))),
+        Err(Refused::Memory) => return Err(Memory),
+    };
+    let two = match convert(alloc, second, partner, &mut g) {
+        Ok(root) => root,
+        Err(Refused::Cause(cause)) => return Ok(Err(Verdict::Refused(Side::Second, cause))),
+        Err(Refused::Memory) => return Err(Memory),
+    };
+    let roots = sealed_least(alloc, g, one, two)?;
+    Ok(Ok(roots))
+}
+
+// The least graph of two nodes of an open graph.
+fn sealed_least(alloc: Global, mut g: Graph, one: NodeId, two: NodeId) -> Result<Least, Memory>
     requires whole { IsWhole g }
     requires open { g.is_open ≡ true }
     requires one { one < length g.nodes }
     requires two { two < length g.nodes }
-    ensures { IfOk result (λ alike. IsTrue alike ↔ UnfoldEqually (form_at g.nodes) one two) }
+    ensures { IfOk result (λ l. IsLeastOf g one two l) }
 {
     if !g.seal() {
         unreachable!();
     }
-    let roots = least(alloc, &g, one, two)?;
-    Ok(roots.first() == roots.second())
+    least(alloc, &g, one, two)
 }

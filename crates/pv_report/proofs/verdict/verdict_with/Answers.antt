@@ -1,67 +1,19 @@
-use Rattle.std.proofs.Common.{◌≡◌, true, rules, ◌∙◌}
-use Rattle.pv_graph.specs.declared.node.OpSort.TheVariants.{R}
-use Rattle.pv_terms.proofs.Growing.{sorted_within}
-use Rattle.pv_report.proofs.ReadClasses.{code_there}
-use Rattle.pv_report.proofs.SameRoots.{new_made, new_open, root_kept, grown_whole, still_open}
+use Rattle.pv_report.specs.Roots.{Alike, HaveLeast}
+use Rattle.pv_report.proofs.Likenesses.{verdict_lacking}
+use Rattle.pv_report.proofs.SameRoots.{alike_least, compared}
 use Rattle.pv_report.proofs.verdict.verdict_with.Goals as goal
 
-pub convert-requires-clause-code : goal.convert-requires-clause-code
-convert-requires-clause-code c =
-    let yes : c.has_code.result ≡ true = search rules in
-    code_there c.args.first.now c.args.method c.requires.first c.requires.there (λ m at. (c.has_code.ensures m at).0 yes)
+pub returns-in-Err : goal.returns-in-Err
+returns-in-Err c m p here there = verdict_lacking c.args.first.now m c.args.second.now p c.in-Err.verdict (rw c.in-Err.is at (c.in_ok-roots.ensures m p here there))
 
-pub convert-requires-2-clause-code : goal.convert-requires-2-clause-code
-convert-requires-2-clause-code c =
-    let yes : c.has_code-2.result ≡ true = search rules in
-    code_there c.args.second.now c.args.partner c.requires.second c.requires.partner (λ m at. (c.has_code-2.ensures m at).0 yes)
+pub returns-then-first-second : goal.returns-then-first-second
+returns-then-first-second c m p here there =
+    let least : HaveLeast c.args.first.now m c.args.second.now p c.in-Ok.roots = rw c.in-Ok.is at (c.in_ok-roots.ensures m p here there) in
+    let one = compared c.first.result c.second.result c.in-Ok.roots.first c.in-Ok.roots.second (Alike least.roots) c.first.ensures c.second.ensures (alike_least c.args.first.now m c.args.second.now p c.in-Ok.roots least) in
+    (least.roots, one.0 c.if-first-second.true)
 
-pub convert-requires-clause-made : goal.convert-requires-clause-made
-convert-requires-clause-made c = new_made c.new-g.result c.new-g.ensures
-
-pub convert-requires-clause-open : goal.convert-requires-clause-open
-convert-requires-clause-open c = new_open c.new-g.result c.new-g.ensures
-
-pub convert-requires-2-clause-made : goal.convert-requires-2-clause-made
-convert-requires-2-clause-made c = c.in-Ok.ensures.enlarges.made (new_made c.new-g.result c.new-g.ensures)
-
-pub convert-requires-2-clause-open : goal.convert-requires-2-clause-open
-convert-requires-2-clause-open c = c.in-Ok.ensures.enlarges.open_ ∙ new_open c.new-g.result c.new-g.ensures
-
-pub are_alike-requires-clause-whole : goal.are_alike-requires-clause-whole
-are_alike-requires-clause-whole c = grown_whole c.new-g.result c.convert.new.g c.convert-2.new.g c.new-g.ensures c.in-Ok.ensures.enlarges c.in-Ok-convert.ensures.enlarges
-
-pub are_alike-requires-clause-open : goal.are_alike-requires-clause-open
-are_alike-requires-clause-open c = still_open c.new-g.result c.convert.new.g c.convert-2.new.g c.new-g.ensures c.in-Ok.ensures.enlarges c.in-Ok-convert.ensures.enlarges
-
-pub are_alike-requires-clause-one : goal.are_alike-requires-clause-one
-are_alike-requires-clause-one c = sorted_within c.convert-2.new.g c.in-Ok.root R c.in-Ok-convert.ensures.enlarges.graph (c.in-Ok-convert.ensures.enlarges.extends.sorts c.in-Ok.root R c.in-Ok.ensures.sort)
-
-pub are_alike-requires-clause-two : goal.are_alike-requires-clause-two
-are_alike-requires-clause-two c = sorted_within c.convert-2.new.g c.in-Ok-convert.root R c.in-Ok-convert.ensures.enlarges.graph c.in-Ok-convert.ensures.sort
-
-pub returns-then-alike : goal.returns-then-alike
-returns-then-alike c m p here there = (
-  record {
-    graph = c.convert-2.new.g;
-    root = c.in-Ok.root;
-    other = c.in-Ok-convert.root;
-    one = root_kept c.convert.new.g c.convert-2.new.g c.in-Ok.root c.args.first.now m c.in-Ok.ensures.enlarges.graph c.in-Ok.ensures.sort c.in-Ok-convert.ensures.enlarges (c.in-Ok.ensures.converted m here);
-    two = c.in-Ok-convert.ensures.converted p there;
-  },
-  c.in_ok-alike.ensures.0 c.if-alike.true,
-)
-
-pub returns-else-alike : goal.returns-else-alike
-returns-else-alike c m p here there = (
-  record {
-    graph = c.convert-2.new.g;
-    root = c.in-Ok.root;
-    other = c.in-Ok-convert.root;
-    one = root_kept c.convert.new.g c.convert-2.new.g c.in-Ok.root c.args.first.now m c.in-Ok.ensures.enlarges.graph c.in-Ok.ensures.sort c.in-Ok-convert.ensures.enlarges (c.in-Ok.ensures.converted m here);
-    two = c.in-Ok-convert.ensures.converted p there;
-  },
-  λ equal. let yes = c.in_ok-alike.ensures.1 equal in let no = c.if-alike.false in absurd (cc),
-)
-
-pub returns-in-Err-Cause-convert : goal.returns-in-Err-Cause-convert
-returns-in-Err-Cause-convert c m p here there = ((c.in-Ok.ensures.converted m here).form, rw c.in-Err-Cause-convert.cause-is (rw c.in-Err-Cause-convert.field-0-is at (c.in-Err-Cause-convert.ensures.converted p there)))
+pub returns : goal.returns
+returns c m p here there =
+    let least : HaveLeast c.args.first.now m c.args.second.now p c.in-Ok.roots = rw c.in-Ok.is at (c.in_ok-roots.ensures m p here there) in
+    let one = compared c.first.result c.second.result c.in-Ok.roots.first c.in-Ok.roots.second (Alike least.roots) c.first.ensures c.second.ensures (alike_least c.args.first.now m c.args.second.now p c.in-Ok.roots least) in
+    (least.roots, λ alike. c.if-first-second.false (one.1 alike))

@@ -1,5 +1,0 @@
-use Rattle.cases.proofs.Cycles.{DifferBelow}
-use Rattle.cases.proofs.rules.are_distinct.Given as goal
-
-abbrev pub invariant-loop-n : goal.invariant-loop-n
-invariant-loop-n l = DifferBelow l.nodes l.n

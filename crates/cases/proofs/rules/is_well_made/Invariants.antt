@@ -1,5 +1,0 @@
-use Rattle.cases.proofs.Cycles.{AllFall}
-use Rattle.cases.proofs.rules.is_well_made.Given as goal
-
-abbrev pub invariant-loop-n : goal.invariant-loop-n
-invariant-loop-n l = AllFall l.graph.nodes l.n

@@ -1,5 +1,0 @@
-use Rattle.cases.proofs.Cycles.{AllRise}
-use Rattle.cases.proofs.rules.rise.Given as goal
-
-abbrev pub invariant-loop-n : goal.invariant-loop-n
-invariant-loop-n l = AllRise l.nodes l.n

@@ -1,9 +1,0 @@
-use Rattle.cases.specs.Rules.{KidStaysBelow}
-use Rattle.cases.proofs.Cycles.{each_more, each_all}
-use Rattle.cases.proofs.rules.stays_below.Goals as goal
-
-pub loop-place-preserved : goal.loop-place-preserved
-loop-place-preserved c = each_more (λ p k. KidStaysBelow c.args.n c.args.e c.args.node.now.op p k) c.as_slice-kids.result.now c.loop-place.place c.loop-place-test.true c.loop-place.invariant (c.kid_stays_below.ensures c.if-not-kid_stays_below.false)
-
-pub returns : goal.returns
-returns c says = each_all (λ p k. KidStaysBelow c.args.n c.args.e c.args.node.now.op p k) c.as_slice-kids.result.now c.args.node.now.kids c.loop-place.place c.as_slice-kids.ensures c.loop-place-test.false c.loop-place.invariant

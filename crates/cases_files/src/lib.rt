@@ -1,0 +1,11 @@
+//! Cases of the layers that read class files: pools, classes and codes.
+//!
+//! Each module has the lines of one layer; `samples` makes class files of methods, and `spelling` is the way back
+//! from instructions to bytes. It stands on `cases_words` and on the layers up to `pv_class` and `pv_insn`.
+#![tactic(auto)]
+
+pub mod classes;
+pub mod codes;
+pub mod pools;
+pub mod samples;
+pub mod spelling;

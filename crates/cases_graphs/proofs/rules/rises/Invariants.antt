@@ -1,0 +1,6 @@
+use Rattle.std.specs.Prelude.{◌≡◌, ◌⊎◌, ℕ, ◌<◌, Some, slice_get}
+use Rattle.cases_graphs.specs.Rules.{IsLater}
+use Rattle.cases_graphs.proofs.rules.rises.Given as goal
+
+abbrev pub invariant-loop-place : goal.invariant-loop-place
+invariant-loop-place l = (p k : ℕ) → p < l.place → slice_get l.kids p ≡ Some k → (l.n < k) ⊎ IsLater l.node.op p

@@ -12,11 +12,11 @@ use Rattle.pv_steps.specs.Steps.{Step, OpenBlock, blocks}
 use Rattle.pv_steps.specs.Right.{Instances, Right}
 use Rattle.pv_steps.specs.Accepted.{AllRight, LastStates, IsConcluded, first_steps, Rejects}
 use Rattle.pv_steps.specs.Facts.{Holds}
-use Rattle.pv_steps.specs.Laws.{AcceptedSame, AcceptedLeast, AcceptedNotRejected, RejectedOnce}
+use Rattle.pv_steps.specs.Laws.{AreSound, AcceptedSame, AcceptedLeast, AcceptedNotRejected, RejectedOnce}
 use Rattle.pv_steps.proofs.Growing.{extends_self, after_grown}
 use Rattle.pv_steps.proofs.Section.{section_holds, graph_there}
 
-pub accepted_same : (Instance : Instances) → AcceptedSame Instance
+pub accepted_same : (Instance : Instances) → AreSound Instance → AcceptedSame Instance
 accepted_same Instance sound g a b steps made sealed low low' derives w x world input i = go derives.1.1
   where
     go : (a ≡ b) ⊎ LastStates (reverse steps) a b → SameAt (form_at g.nodes) w x i a b
@@ -33,7 +33,7 @@ accepted_same Instance sound g a b steps made sealed low low' derives w x world 
           λ z. (kept a low w x i v).0 ((same v).1 ((kept b low' w x i v).1 z)),
         )
 
-pub accepted_least : (Instance : Instances) → AcceptedLeast Instance
+pub accepted_least : (Instance : Instances) → AreSound Instance → AcceptedLeast Instance
 accepted_least Instance sound g a b l steps made sealed is derives w x world input i =
     let within = least_within is.least in
     let same = accepted_same Instance sound l.graph l.first l.second steps is.made is.sealed within.first within.second derives w x world input i in

@@ -1,6 +1,8 @@
 //! The tables of axioms, and the axiom with a number.
 
-ghost use Rattle.std.specs.Prelude.{◌≡◌, ◌↔◌, IfOk, IsTrue, MatchOption, map};
+ghost use Rattle.std.specs.List.{find};
+ghost use Rattle.std.specs.Option.{option_copied};
+ghost use Rattle.std.specs.Prelude.{◌≡◌, ◌↔◌, ◌==◌, IfOk, IsTrue, MatchOption};
 ghost use Rattle.pv_pattern.specs.Seen.{axiom_seen};
 ghost use Rattle.pv_axioms.specs.Entries.{HasNone, Instance, IsEntry, axioms};
 
@@ -31,9 +33,9 @@ impl Model for Axioms {
     ghost invariant = { λ a. AreTables a.scalar.items a.loops.items a.heap.items };
 }
 
-// The axiom with a number, where this table has one.
-fn find(table: &[Axiom], number: u32) -> Option<&Axiom>
-    ensures { MatchOption result (HasNone (map axiom_seen table.now) number) (λ a. IsEntry (map axiom_seen table.now) number (axiom_seen a.now)) }
+// The first axiom of a table that has this number.
+fn entry(table: &[Axiom], number: u32) -> Option<&Axiom>
+    ensures { option_copied result ≡ find (λ a. a.number == number) table.now }
 {
     table.iter().find(|axiom| axiom.number == number)
 }
@@ -52,9 +54,10 @@ impl Axioms {
     pub fn axiom(&self, number: u32) -> Option<&Axiom>
         ensures { MatchOption result (HasNone axioms number) (λ a. IsEntry axioms number (axiom_seen a.now)) }
     {
-        let found = find(&self.scalar, number);
-        let found = found.or(find(&self.loops, number));
-        found.or(find(&self.heap, number))
+        let scalar = entry(&self.scalar, number);
+        let loops = entry(&self.loops, number);
+        let heap = entry(&self.heap, number);
+        scalar.or(loops.or(heap))
     }
 
     /// Whether two nodes are the sides of an instance of the axiom with a number: under a substitution, and

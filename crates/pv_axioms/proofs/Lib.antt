@@ -1,0 +1,4 @@
+pub mod Numbers
+pub mod Sides
+pub mod Sound
+pub mod Finding

@@ -1,0 +1,4 @@
+//! The text of certificates.
+#![tactic(auto)]
+
+mod table;

@@ -1,0 +1,3 @@
+-- laws that other crates cite
+-- for the proofs of this crate
+pub mod NameLaws

@@ -1,3 +1,6 @@
--- laws that other crates cite
 -- for the proofs of this crate
 pub mod NameLaws
+pub mod Making
+pub mod FormatLaws
+pub mod NumberLaws
+pub mod TextLaws

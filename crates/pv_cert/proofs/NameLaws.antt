@@ -8,9 +8,11 @@ use Rattle.pv_value.specs.declared.heap.Kind.{Kind}
 use Rattle.pv_value.specs.declared.heap.Kind.TheVariants as kind
 use Rattle.pv_graph.specs.declared.node.OpSort.{OpSort}
 use Rattle.pv_graph.specs.declared.node.OpSort.TheVariants as sort
+use Rattle.pv_cert.specs.declared.table.Row.{Row}
+use Rattle.pv_cert.specs.declared.table.Row.TheVariants as row
 use Rattle.pv_cert.specs.declared.table.Head.{Head}
 use Rattle.pv_cert.specs.declared.table.Head.TheVariants as head
-use Rattle.pv_cert.specs.Names.{named, heads, sorts, kinds, head_name, sort_name, kind_name, head_of, sort_of, kind_of}
+use Rattle.pv_cert.specs.Names.{named, heads, sorts, kinds, rows, row_name, row_of, head_name, sort_name, kind_name, head_of, sort_of, kind_of}
 
 one_more : {A : Type 0} (b : Bool) (x a : A) (more : Option A) → cond b (Some x) more ≡ Some a → ((b ≡ true) × (x ≡ a)) ⊎ (more ≡ Some a)
 one_more true x a more e = inl (refl, cc)
@@ -33,6 +35,9 @@ sort_is word s e = named_is sort_name sorts word s e
 
 pub kind_is : (word : List ℕ) (k : Kind) → kind_of word ≡ Some k → kind_name k ≡ word
 kind_is word k e = named_is kind_name kinds word k e
+
+pub row_is : (word : List ℕ) (r : Row) → row_of word ≡ Some r → row_name r ≡ word
+row_is word r e = named_is row_name rows word r e
 
 scalar_again : (o : ScalarOp) → head_of (head_name (head.Scalar o)) ≡ Some (head.Scalar o)
 scalar_again scalar.Iadd = refl
@@ -125,3 +130,14 @@ kind_again kind.Ref = refl
 kind_again kind.Byte = refl
 kind_again kind.Char = refl
 kind_again kind.Short = refl
+
+pub row_again : (r : Row) → row_of (row_name r) ≡ Some r
+row_again row.Node = refl
+row_again row.Axiom = refl
+row_again row.Flip = refl
+row_again row.Chain = refl
+row_again row.Set = refl
+row_again row.Open = refl
+row_again row.Close = refl
+row_again row.Assume = refl
+row_again row.Finish = refl

@@ -1,2 +1,4 @@
 -- what public contracts and laws say
 pub mod Names
+pub mod Formats
+pub mod Tokens

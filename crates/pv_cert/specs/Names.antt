@@ -7,6 +7,8 @@ use Rattle.pv_value.specs.declared.heap.Kind.{Kind}
 use Rattle.pv_value.specs.declared.heap.Kind.TheVariants as kind
 use Rattle.pv_graph.specs.declared.node.OpSort.{OpSort}
 use Rattle.pv_graph.specs.declared.node.OpSort.TheVariants as sort
+use Rattle.pv_cert.specs.declared.table.Row.{Row}
+use Rattle.pv_cert.specs.declared.table.Row.TheVariants as row
 use Rattle.pv_cert.specs.declared.table.Head.{Head}
 use Rattle.pv_cert.specs.declared.table.Head.TheVariants as head
 
@@ -103,6 +105,18 @@ kind_name kind.Byte = codes "Byte"
 kind_name kind.Char = codes "Char"
 kind_name kind.Short = codes "Short"
 
+-- the first word of a step
+abbrev pub row_name : Row → List ℕ
+row_name row.Node = codes "node"
+row_name row.Axiom = codes "axiom"
+row_name row.Flip = codes "flip"
+row_name row.Chain = codes "chain"
+row_name row.Set = codes "set"
+row_name row.Open = codes "open"
+row_name row.Close = codes "close"
+row_name row.Assume = codes "assume"
+row_name row.Finish = codes "finish"
+
 abbrev pub heads : List Head
 heads =
     head.Int
@@ -182,6 +196,9 @@ sorts = sort.I ∷ sort.L ∷ sort.A ∷ sort.N ∷ sort.F ∷ sort.T ∷ sort.H
 abbrev pub kinds : List Kind
 kinds = kind.Int ∷ kind.Long ∷ kind.Ref ∷ kind.Byte ∷ kind.Char ∷ kind.Short ∷ []
 
+abbrev pub rows : List Row
+rows = row.Node ∷ row.Axiom ∷ row.Flip ∷ row.Chain ∷ row.Set ∷ row.Open ∷ row.Close ∷ row.Assume ∷ row.Finish ∷ []
+
 -- the member of a list that has this name
 abbrev pub named : {A : Type 0} → (A → List ℕ) → List A → List ℕ → Option A
 named name all word = find (λ a. bytes_eq (name a) word) all
@@ -194,3 +211,6 @@ sort_of word = named sort_name sorts word
 
 abbrev pub kind_of : List ℕ → Option Kind
 kind_of word = named kind_name kinds word
+
+abbrev pub row_of : List ℕ → Option Row
+row_of word = named row_name rows word

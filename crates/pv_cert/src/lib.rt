@@ -1,4 +1,7 @@
 //! The text of certificates.
 #![tactic(auto)]
 
+mod cert;
 mod table;
+
+pub use cert::{Cert, CertFault, Section, Sections};

@@ -1,7 +1,7 @@
 //! The words of closed sets: the names of operations, the letters of sorts and the kinds of elements.
 
 ghost use Rattle.std.specs.Prelude.{◌≡◌};
-ghost use Rattle.pv_cert.specs.Names.{scalar_name, head_name, sort_name, kind_name, head_of, sort_of, kind_of};
+ghost use Rattle.pv_cert.specs.Names.{scalar_name, head_name, sort_name, kind_name, row_name, head_of, sort_of, kind_of, row_of};
 
 use pv_graph::OpSort;
 use pv_value::{Kind, ScalarOp};
@@ -46,6 +46,20 @@ pub enum Head {
     CallRes,
     CallFault,
     CallHeap,
+}
+
+/// The row of a step.
+#[derive(Clone, Copy, Debug, PartialEq, Eq)]
+pub enum Row {
+    Node,
+    Axiom,
+    Flip,
+    Chain,
+    Set,
+    Open,
+    Close,
+    Assume,
+    Finish,
 }
 
 static HEADS: [Head; 69] = [
@@ -138,6 +152,18 @@ static KINDS: [Kind; 6] = [
     Kind::Byte,
     Kind::Char,
     Kind::Short,
+];
+
+static ROWS: [Row; 9] = [
+    Row::Node,
+    Row::Axiom,
+    Row::Flip,
+    Row::Chain,
+    Row::Set,
+    Row::Open,
+    Row::Close,
+    Row::Assume,
+    Row::Finish,
 ];
 
 fn scalar_name(op: ScalarOp) -> &'static [u8]
@@ -255,6 +281,23 @@ pub fn kind_name(kind: Kind) -> &'static [u8]
     }
 }
 
+/// The first word of a step.
+pub fn row_name(row: Row) -> &'static [u8]
+    ensures { result.now ≡ row_name row }
+{
+    match row {
+        Row::Node => b"node",
+        Row::Axiom => b"axiom",
+        Row::Flip => b"flip",
+        Row::Chain => b"chain",
+        Row::Set => b"set",
+        Row::Open => b"open",
+        Row::Close => b"close",
+        Row::Assume => b"assume",
+        Row::Finish => b"finish",
+    }
+}
+
 /// The operation with this name, if there is one.
 pub fn head_of(word: &[u8]) -> Option<Head>
     ensures { result ≡ head_of word.now }
@@ -274,4 +317,11 @@ pub fn kind_of(word: &[u8]) -> Option<Kind>
     ensures { result ≡ kind_of word.now }
 {
     KINDS.iter().copied().find(|kind| kind_name(*kind) == word)
+}
+
+/// The row with this first word, if there is one.
+pub fn row_of(word: &[u8]) -> Option<Row>
+    ensures { result ≡ row_of word.now }
+{
+    ROWS.iter().copied().find(|row| row_name(*row) == word)
 }

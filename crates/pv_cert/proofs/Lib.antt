@@ -4,3 +4,5 @@ pub mod Making
 pub mod FormatLaws
 pub mod NumberLaws
 pub mod TextLaws
+pub mod ParameterLaws
+pub mod OperationLaws

@@ -2,3 +2,5 @@
 pub mod Names
 pub mod Formats
 pub mod Tokens
+pub mod Parameters
+pub mod Operations

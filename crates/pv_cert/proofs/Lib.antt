@@ -6,3 +6,5 @@ pub mod NumberLaws
 pub mod TextLaws
 pub mod ParameterLaws
 pub mod OperationLaws
+pub mod ReasonLaws
+pub mod StepLaws

@@ -4,3 +4,4 @@ pub mod Formats
 pub mod Tokens
 pub mod Parameters
 pub mod Operations
+pub mod StepLines

@@ -8,3 +8,6 @@ pub mod ParameterLaws
 pub mod OperationLaws
 pub mod ReasonLaws
 pub mod StepLaws
+pub mod WordLaws
+pub mod LineLaws
+pub mod Following

@@ -5,3 +5,6 @@ pub mod Tokens
 pub mod Parameters
 pub mod Operations
 pub mod StepLines
+pub mod Lines
+pub mod Reading
+pub mod Faults

@@ -11,3 +11,4 @@ pub mod StepLaws
 pub mod WordLaws
 pub mod LineLaws
 pub mod Following
+pub mod CertLaws

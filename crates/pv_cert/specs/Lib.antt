@@ -8,3 +8,5 @@ pub mod StepLines
 pub mod Lines
 pub mod Reading
 pub mod Faults
+pub mod Certificates
+pub mod BadCerts

@@ -2,6 +2,7 @@
 #![tactic(auto)]
 
 mod cert;
+mod number;
 mod table;
 
 pub use cert::{Cert, CertFault, Section, Sections};

@@ -4,6 +4,7 @@ pub mod Making
 pub mod FormatLaws
 pub mod NumberLaws
 pub mod TextLaws
+pub mod FrontSteps
 pub mod ParameterLaws
 pub mod OperationLaws
 pub mod ReasonLaws

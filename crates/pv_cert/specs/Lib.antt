@@ -10,3 +10,5 @@ pub mod Reading
 pub mod Faults
 pub mod Certificates
 pub mod BadCerts
+-- the vocabulary of private functions
+pub mod Fronts

@@ -4,5 +4,6 @@
 mod cert;
 mod number;
 mod table;
+mod text;
 
 pub use cert::{Cert, CertFault, Section, Sections};

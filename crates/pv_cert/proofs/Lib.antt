@@ -1,0 +1,15 @@
+-- for the proofs of this crate
+pub mod NameLaws
+pub mod Making
+pub mod FormatLaws
+pub mod NumberLaws
+pub mod TextLaws
+pub mod FrontSteps
+pub mod ParameterLaws
+pub mod OperationLaws
+pub mod ReasonLaws
+pub mod StepLaws
+pub mod WordLaws
+pub mod LineLaws
+pub mod Following
+pub mod CertLaws

@@ -1,0 +1,10 @@
+use Rattle.std.proofs.Common.{◌≡◌, ◌++◌, length}
+use Rattle.std.specs.Option.{option_map}
+use Rattle.pv_cert.specs.Tokens.{read_some_shown}
+use Rattle.pv_cert.proofs.text.some_shown.Given as goal
+
+abbrev pub invariant-loop-rest : goal.invariant-loop-rest
+invariant-loop-rest l = option_map (λ more. l.bytes.items ++ more) (read_some_shown l.rest) ≡ read_some_shown l.word
+
+abbrev pub decreases-loop-rest : goal.decreases-loop-rest
+decreases-loop-rest l = length l.rest

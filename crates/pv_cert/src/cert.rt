@@ -1,0 +1,75 @@
+//! Certificates, and why a text is not one.
+
+ghost use Rattle.std.specs.Prelude.{◌≡◌};
+
+use pv_steps::Steps;
+use pv_value::Name;
+use std::marker::Model;
+use thiserror::Error;
+
+/// What is shown of one method, step by step.
+#[derive(Debug, Drop)]
+pub struct Section {
+    pub name: Name,
+    pub desc: Name,
+    pub steps: Steps,
+}
+
+/// A list of sections.
+#[derive(Debug, Drop)]
+pub struct Sections {
+    items: Vec<Section>,
+}
+
+impl Model for Sections {
+    ghost use Rattle.std.specs.Prelude.{List};
+    ghost use Rattle.pv_cert.specs.declared.cert.Section.{Section};
+
+    ghost Value = { List Section };
+
+    ghost view = { λ s. s.items.items };
+}
+
+impl From<Vec<Section>> for Sections {
+    ghost use Rattle.std.specs.Prelude.{◌≡◌};
+
+    ghost from_gives = { λ items list. list ≡ items.items };
+
+    fn from(items: Vec<Section>) -> Sections {
+        Sections { items }
+    }
+}
+
+impl Sections {
+    /// The sections in order.
+    pub fn as_slice(&self) -> &[Section]
+        ensures { result.now ≡ self.now }
+    {
+        &self.items
+    }
+}
+
+/// A certificate: the digests of the two class files of which it speaks, and its sections.
+#[derive(Debug, Drop)]
+pub struct Cert {
+    pub first: [u8; 32],
+    pub second: [u8; 32],
+    pub sections: Sections,
+}
+
+/// Why a text is no certificate.
+#[derive(Clone, Copy, Debug, PartialEq, Eq, Error)]
+pub enum CertFault {
+    /// The last line doesn't end with a line feed, or the last section has no `end`.
+    #[error("truncated")]
+    Truncated,
+    /// One of the first three lines is missing or isn't a line of the header.
+    #[error("bad header")]
+    Header,
+    /// The first line that may not stand where it does, counted from 1 over the text.
+    #[error("bad line {0}")]
+    Step(usize),
+    /// There is no memory; this says nothing of the text.
+    #[error("out of memory")]
+    Memory,
+}

@@ -4,7 +4,6 @@ use Rattle.std.specs.List.{find}
 use Rattle.std.specs.Option.{option_copied, option_or}
 use Rattle.std.proofs.Common.{inl, inr, refl, Bor, cond, sym, ap, ◌∙◌, subst, arith}
 use Rattle.std.proofs.lemmas.Bool.Decides.{nat_tests}
-use Rattle.std.proofs.lemmas.Option.{same_Some}
 use Rattle.pv_value.specs.declared.memory.Memory.{Memory}
 use Rattle.pv_graph.specs.Walks.{In}
 use Rattle.pv_graph.specs.Graphs.{Graph}
@@ -64,9 +63,9 @@ finds_or xs ys n None None h i = λ a e. elim (in_either xs ys a e.entry) [ inl 
 finds_in : (table : List Axiom) (seen : List patterns.Axiom) (n : ℕ) (r : Option (Bor Axiom)) → map axiom_seen table ≡ seen → option_copied r ≡ find (λ (a : Axiom). a.number == n) table → Finds seen n (option_copied r)
 finds_in table seen n r is e = subst (λ (q : List patterns.Axiom). Finds q n (option_copied r)) is (subst (Finds (map axiom_seen table) n) (sym e) (finds table n))
 
-behind : (n : ℕ) (r : Option (Bor Axiom)) → Finds axioms n (option_copied r) → MatchOption r (HasNone axioms n) (λ a. IsEntry axioms n (axiom_seen a.now))
-behind n None h = h
-behind n (Some a) h = h
+of_copied : (n : ℕ) (r : Option (Bor Axiom)) → Finds axioms n (option_copied r) → MatchOption r (HasNone axioms n) (λ a. IsEntry axioms n (axiom_seen a.now))
+of_copied n None h = h
+of_copied n (Some a) h = h
 
 copied_or : (r s : Option (Bor Axiom)) → option_copied (option_or r s) ≡ option_or (option_copied r) (option_copied s)
 copied_or None s = refl
@@ -77,16 +76,16 @@ pub found : (scalar loops heap : List Axiom) → AreTables scalar loops heap →
     → option_copied s ≡ find (λ (a : Axiom). a.number == n) loops → option_copied t ≡ find (λ (a : Axiom). a.number == n) heap → u ≡ option_or s t → v ≡ option_or r u
     → MatchOption v (HasNone axioms n) (λ a. IsEntry axioms n (axiom_seen a.now))
 found scalar loops heap are n r s t u v e f h two three =
-    behind n v
+    of_copied n v
     (subst (Finds axioms n) (sym (ap option_copied (three ∙ ap (option_or r) two) ∙ copied_or r (option_or s t) ∙ ap (option_or (option_copied r)) (copied_or s t)))
     (finds_or scalar_axioms (loop_axioms ++ heap_axioms) n (option_copied r) (option_or (option_copied s) (option_copied t)) (finds_in scalar scalar_axioms n r are.scalars e)
     (finds_or loop_axioms heap_axioms n (option_copied s) (option_copied t) (finds_in loops loop_axioms n s are.loops_ f) (finds_in heap heap_axioms n t are.heaps h))))
 
 -- ---- instances
 
--- whether two nodes are an instance of the entry with a number
-pub entry_tells : (g : Graph) (assumed : List ℕ) (n : ℕ) (subst_ : List ℕ) (l r : ℕ) (a : patterns.Axiom) → IsEntry axioms n a → (told : Result Bool Memory)
-    → IfOk told (λ yes. IsTrue yes ↔ IsInstance g assumed a subst_ l r) → IfOk told (λ yes. IsTrue yes ↔ Instance g assumed n subst_ l r)
+-- a test of the entry with a number is one of all entries with it
+pub entry_tells : (g : Graph) (assumed : List ℕ) (n : ℕ) (subst_ : List ℕ) (l r : ℕ) (a : patterns.Axiom) → IsEntry axioms n a → (answer : Result Bool Memory)
+    → IfOk answer (λ yes. IsTrue yes ↔ IsInstance g assumed a subst_ l r) → IfOk answer (λ yes. IsTrue yes ↔ Instance g assumed n subst_ l r)
 entry_tells g assumed n subst_ l r a e (Ok it) h =
     (λ t. (a, e, h.0 t), λ i. h.1 (subst (λ (b : patterns.Axiom). IsInstance g assumed b subst_ l r) (one_entry n i.0 a i.1 e) i.2))
 entry_tells g assumed n subst_ l r a e (Err memory) h = tt

@@ -2,3 +2,4 @@ pub mod Numbers
 pub mod Sides
 pub mod Sound
 pub mod Finding
+pub mod SameNodes

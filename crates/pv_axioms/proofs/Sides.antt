@@ -1,12 +1,12 @@
 -- Both sides of an instance are nodes: the left one has an operation, and so has the right one, or it is a variable of the left.
-use Rattle.std.specs.Prelude.{◌≡◌, ◌⊎◌, ℕ, ◌<◌, Bool, true, false, ◌&&◌, ◌||◌, List, [], ◌∷◌, length, Option, Some, slice_get, ◌==◌, refl}
+use Rattle.std.specs.Prelude.{◌≡◌, ◌⊎◌, ℕ, ◌<◌, Bool, true, false, ◌&&◌, ◌||◌, List, [], ◌∷◌, length, Some, slice_get, ◌==◌, refl}
 use Rattle.std.proofs.Common.{inl, inr, sym, ap, ◌∙◌, subst, arith}
 use Rattle.std.proofs.lemmas.Bool.Decides.{nat_tests}
 use Rattle.std.proofs.lemmas.Option.{slice_get_within, same_Some}
 use Rattle.pv_value.specs.declared.descriptor.JType.{JType}
 use Rattle.pv_value.specs.declared.descriptor.JType.TheVariants as jtype
 use Rattle.pv_graph.specs.declared.node.Op.{Op}
-use Rattle.pv_graph.specs.Forms.{Form, form}
+use Rattle.pv_graph.specs.Forms.{form}
 use Rattle.pv_graph.specs.Walks.{In}
 use Rattle.pv_graph.specs.Graphs.{Graph, form_at, IsGraph}
 use Rattle.pv_graph.proofs.NodeLaws.{kid_within, node_at}

@@ -1,5 +1,5 @@
 -- The axioms are sound, and each binds its names.
-use Rattle.std.specs.Prelude.{◌≡◌, List, [], ◌∷◌, ◌++◌, refl}
+use Rattle.std.specs.Prelude.{List, [], ◌∷◌, ◌++◌, refl}
 use Rattle.std.specs.List.{AllByRecursion}
 use Rattle.std.proofs.Common.{inl, inr, subst}
 use Rattle.pv_graph.specs.Walks.{In}

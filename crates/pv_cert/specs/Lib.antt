@@ -12,3 +12,4 @@ pub mod Certificates
 pub mod BadCerts
 -- the vocabulary of private functions
 pub mod Fronts
+pub mod Seen

@@ -3,6 +3,7 @@
 
 mod cert;
 mod number;
+mod operation;
 mod table;
 mod text;
 

@@ -5,6 +5,7 @@ pub mod FormatLaws
 pub mod NumberLaws
 pub mod TextLaws
 pub mod FrontSteps
+pub mod Splitting
 pub mod ParameterLaws
 pub mod OperationLaws
 pub mod ReasonLaws

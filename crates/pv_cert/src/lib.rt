@@ -4,6 +4,8 @@
 mod cert;
 mod number;
 mod operation;
+mod reason;
+mod split;
 mod table;
 mod text;
 

@@ -6,6 +6,7 @@ pub mod NumberLaws
 pub mod TextLaws
 pub mod FrontSteps
 pub mod Splitting
+pub mod ListSteps
 pub mod ParameterLaws
 pub mod OperationLaws
 pub mod ReasonLaws

@@ -29,6 +29,10 @@ abbrev pub take_one : {S A : Type 0} → (S → Option A) → List S → Option 
 take_one reads [] = None
 take_one reads (s ∷ text) = option_map (λ a. (a, text)) (reads s)
 
+-- two symbols, and the rest of the text
+abbrev pub take_two : {S A : Type 0} → (S → Option A) → List S → Option ((A × A) × List S)
+take_two reads text = option_and_then (λ a. option_map (λ b. ((a.0, b.0), b.1)) (take_one reads a.1)) (take_one reads text)
+
 abbrev pub one : {A : Type 0} → Whole ℕ A → Format (List ℕ) A
 one w = record { fits = w.fits; spells = λ a. w.spells a ∷ []; takes = take_one w.reads }
 

@@ -2,6 +2,7 @@
 #![tactic(auto)]
 
 mod cert;
+mod lists;
 mod number;
 mod operation;
 mod reason;

@@ -1,6 +1,6 @@
 //! The words of operations.
 
-ghost use Rattle.std.specs.Prelude.{◌≡◌, IfOk};
+ghost use Rattle.std.specs.Prelude.{◌≡◌, ◌<◌, length, IfOk, IfSome};
 ghost use Rattle.std.specs.Option.{option_map};
 ghost use Rattle.pv_cert.specs.Parameters.{number, int, long, text, sort, kind, sym, argument};
 ghost use Rattle.pv_cert.specs.Operations.{params_of, take_op};
@@ -15,7 +15,8 @@ use std::alloc::Global;
 
 /// The number at the front, and the words after it.
 pub fn take_number<'w>(words: &'w [&'w [u8]]) -> Option<(u32, &'w [&'w [u8]])>
-    ensures { option_map (λ p. (p.0, texts p.1.now)) result ≡ number.takes (texts words.now) }
+    ensures takes { option_map (λ p. (p.0, texts p.1.now)) result ≡ number.takes (texts words.now) }
+    ensures shorter { IfSome result (λ p. length p.1.now < length words.now) }
 {
     match words {
         [] => None,

@@ -1,6 +1,6 @@
 //! Facts and reasons.
 
-ghost use Rattle.std.specs.Prelude.{◌≡◌};
+ghost use Rattle.std.specs.Prelude.{◌≡◌, ◌<◌, length, IfSome};
 ghost use Rattle.std.specs.Option.{option_map};
 ghost use Rattle.pv_cert.specs.StepLines.{fact_word, fact, reason_word, reason, reason_in_set};
 ghost use Rattle.pv_cert.specs.Formats.{take_one};
@@ -46,7 +46,8 @@ fn read_reason_in_set(word: &[u8]) -> Option<Reason>
 
 /// The fact at the front, and the words after it.
 pub fn take_fact<'w>(words: &'w [&'w [u8]]) -> Option<(Fact, &'w [&'w [u8]])>
-    ensures { option_map (λ p. (p.0, texts p.1.now)) result ≡ fact.takes (texts words.now) }
+    ensures takes { option_map (λ p. (p.0, texts p.1.now)) result ≡ fact.takes (texts words.now) }
+    ensures shorter { IfSome result (λ p. length p.1.now < length words.now) }
 {
     match words {
         [] => None,
@@ -72,7 +73,8 @@ pub fn take_reason<'w>(words: &'w [&'w [u8]]) -> Option<(Reason, &'w [&'w [u8]])
 
 /// The reason in a set at the front, and the words after it.
 pub fn take_reason_in_set<'w>(words: &'w [&'w [u8]]) -> Option<(Reason, &'w [&'w [u8]])>
-    ensures { option_map (λ p. (p.0, texts p.1.now)) result ≡ take_one reason_in_set.reads (texts words.now) }
+    ensures takes { option_map (λ p. (p.0, texts p.1.now)) result ≡ take_one reason_in_set.reads (texts words.now) }
+    ensures shorter { IfSome result (λ p. length p.1.now < length words.now) }
 {
     match words {
         [] => None,

@@ -25,15 +25,10 @@ pub fn lines_of(alloc: Global, body: &[u8]) -> Result<Vec<&[u8]>, AllocError>
 }
 
 /// The parts of words that stand between semicolons.
-pub fn parts_of<'w>(
-    alloc: Global,
-    words: &'w [&'w [u8]],
-) -> Result<Vec<&'w [&'w [u8]]>, AllocError>
+pub fn parts_of<'w>(alloc: Global, words: &'w [&'w [u8]]) -> Result<Vec<&'w [&'w [u8]]>, AllocError>
     ensures { IfOk result (λ v. map (λ part. texts part.now) v.items ≡ slice_split is_semicolon (texts words.now)) }
 {
-    words
-        .split(|word| *word == b";".as_slice())
-        .collect(alloc)
+    words.split(|word| *word == b";".as_slice()).collect(alloc)
 }
 
 /// What stands before the first point of a word, and after it.

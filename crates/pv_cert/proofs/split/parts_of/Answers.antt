@@ -9,5 +9,5 @@ use Rattle.pv_cert.proofs.split.parts_of.Goals as goal
 pub returns : goal.returns
 returns c =
     collected is_semicolon c.args.words.now c.collect.result
-      (map_from_collect _ c.collect.ensures.ran
-        (YieldsList-from_slice_split _ (λ (w : Bor (List ℕ)). is_semicolon w.now) c.args.words.now c.split.ensures.rest c.split.ensures.done c.split.ensures.closure (λ x r q k. search (rules, tests))))
+    (map_from_collect _ c.collect.ensures.ran
+    (YieldsList-from_slice_split _ (λ (w : Bor (List ℕ)). is_semicolon w.now) c.args.words.now c.split.ensures.rest c.split.ensures.done c.split.ensures.closure (λ x r q k. search (rules, tests))))

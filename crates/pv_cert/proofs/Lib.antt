@@ -7,6 +7,7 @@ pub mod TextLaws
 pub mod FrontSteps
 pub mod Splitting
 pub mod ListSteps
+pub mod SetSteps
 pub mod ParameterLaws
 pub mod OperationLaws
 pub mod ReasonLaws

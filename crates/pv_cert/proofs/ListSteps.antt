@@ -1,6 +1,6 @@
 -- One member of a list after the other.
-use Rattle.std.proofs.Common.{◌≡◌, ℕ, ◌<◌, List, [], ◌∷◌, ◌++◌, length, take, drop, ◌-◌, ◌≤◌, suc, ◌+◌, Option, Some, None, refl, sym, ap, ◌∙◌, append_assoc, arith}
-use Rattle.std.proofs.lemmas.List.{drop-drop, length-drop, take_all}
+use Rattle.std.proofs.Common.{◌≡◌, ℕ, ◌<◌, List, [], ◌∷◌, ◌++◌, length, get_or, map, take, drop, ◌-◌, ◌≤◌, suc, ◌+◌, Option, Some, None, refl, sym, ap, ◌∙◌, append_assoc, arith}
+use Rattle.std.proofs.lemmas.List.{drop-drop, length-drop, take_all, at_drop_more}
 use Rattle.std.specs.Option.{option_map, option_and_then}
 use Rattle.std.specs.Borrow.{Bor}
 use Rattle.pv_cert.specs.Seen.{texts}
@@ -161,3 +161,28 @@ some_left words at lt = some_texts (drop at words) (omega (arith, length-drop at
 pub pairs_end : {A : Type 0} (read : List ℕ → Option A) (done : List (A × A)) (words : Words) (at : ℕ) (r : Option (List (A × A))) → at < length words → option_map (λ more. done ++ more) (read_pairs read (texts (drop at words))) ≡ r → None ≡ take_two read (from_place words at) → None ≡ r
 pairs_end read done words at r lt so_far front =
     sym (pairs_stop read done (texts (drop at words)) r (some_left words at lt) so_far (front ∙ ap (take_two read) (place_is words at)))
+
+-- ---- by an index
+
+one_first : {S A : Type 0} (read : S → Option A) (s : S) (text : List S) (a : A) → read s ≡ Some a → ◌≡◌ {A = Option (A × List S)} (Some (a, text)) (take_one read (s ∷ text))
+one_first read s text a e = ap (option_map (beside text)) (sym e)
+
+pub each_index : {S A : Type 0} (read : S → Option A) (done next : List A) (text : List S) (i : ℕ) (d : S) (a : A) (r : Option (List A)) → i < length text → option_map (λ more. done ++ more) (read_each read (drop i text)) ≡ r → read (get_or text i d) ≡ Some a → next ≡ done ++ a ∷ [] → option_map (λ more. next ++ more) (read_each read (drop (i + 1) text)) ≡ r
+each_index read done next text i d a r lt so_far here e =
+    each_step read done next (get_or text i d ∷ drop (i + 1) text) (drop (i + 1) text) a r
+    (ap (option_map (λ more. done ++ more)) (sym (at_drop_more (read_each read) text i d lt)) ∙ so_far)
+    (one_first read (get_or text i d) (drop (i + 1) text) a here) e
+
+pub index_stop : {S A : Type 0} (read : S → Option A) (done : List A) (text : List S) (i : ℕ) (d : S) (r : Option (List A)) → i < length text → option_map (λ more. done ++ more) (read_each read (drop i text)) ≡ r → read (get_or text i d) ≡ None → None ≡ r
+index_stop read done text i d r lt so_far here =
+    sym (each_stop read done (get_or text i d ∷ drop (i + 1) text) r (λ e. absurd (cc))
+    (ap (option_map (λ more. done ++ more)) (sym (at_drop_more (read_each read) text i d lt)) ∙ so_far)
+    (ap (option_map (beside (drop (i + 1) text))) (sym here)))
+
+pub each_map : {S T A : Type 0} (read : T → Option A) (f : S → T) (text : List S) → read_each (λ s. read (f s)) text ≡ read_each read (map f text)
+each_map read f [] = refl
+each_map {S} {T} {A} read f (s ∷ text) = by_first (read (f s)) (each_map read f text)
+  where
+    by_first : (o : Option A) → read_each (λ s. read (f s)) text ≡ read_each read (map f text) → option_and_then (λ a. option_map (λ more. a ∷ more) (read_each (λ s. read (f s)) text)) o ≡ option_and_then (λ a. option_map (λ more. a ∷ more) (read_each read (map f text))) o
+    by_first None e = refl
+    by_first (Some a) e = ap (option_map (λ more. a ∷ more)) e

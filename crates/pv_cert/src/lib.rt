@@ -7,6 +7,7 @@ mod number;
 mod operation;
 mod reason;
 mod split;
+mod step;
 mod table;
 mod text;
 

@@ -153,3 +153,34 @@ fn read_congruence<'w>(alloc: Global, words: &'w [&'w [u8]]) -> Result<Option<Co
         reasons,
     }))
 }
+
+// Each part, as two nodes with reasons.
+fn each_congruence<'w>(
+    alloc: Global,
+    parts: &'w [&'w [&'w [u8]]],
+) -> Result<Option<Vec<Congruence>>, Memory>
+    ensures { IfOk result (λ r. option_map (λ v. v.items) r ≡ read_each (λ part. congruence.reads (texts part.now)) parts.now) }
+{
+    let mut list = Vec::new(alloc);
+    for part in parts {
+        let Some(congruence) = read_congruence(alloc, part)? else {
+            return Ok(None);
+        };
+        list.push(congruence)?;
+    }
+    Ok(Some(list))
+}
+
+/// All of these words, as at least one pair of nodes with reasons, with semicolons between them.
+pub fn read_congruences<'w>(
+    alloc: Global,
+    words: &'w [&'w [u8]],
+) -> Result<Option<Congruences>, Memory>
+    ensures { IfOk result (λ r. r ≡ set_words.reads (texts words.now)) }
+{
+    let parts = parts_of(alloc, words)?;
+    match each_congruence(alloc, &parts)? {
+        None => Ok(None),
+        Some(list) => Ok(Some(Congruences::from(list))),
+    }
+}

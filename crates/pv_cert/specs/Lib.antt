@@ -13,3 +13,4 @@ pub mod BadCerts
 -- the vocabulary of private functions
 pub mod Fronts
 pub mod Seen
+pub mod Written

@@ -10,5 +10,6 @@ mod split;
 mod step;
 mod table;
 mod text;
+mod writing;
 
 pub use cert::{Cert, CertFault, Section, Sections};

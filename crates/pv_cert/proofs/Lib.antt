@@ -1,3 +1,5 @@
+-- laws that other crates cite
+pub mod EachText
 -- for the proofs of this crate
 pub mod NameLaws
 pub mod Making

@@ -1,5 +1,5 @@
 -- Laws of the text of certificates: each text is the spelling of one certificate, or it has one fault.
-use Rattle.std.proofs.Common.{◌≡◌, ◌⊎◌, ℕ, List, Result, Ok, Err, refl, sym, ap, ◌∙◌, inl, inr}
+use Rattle.std.proofs.Common.{◌≡◌, ◌⊎◌, ℕ, List, Result, Ok, Err, refl, ap, ◌∙◌, inl, inr}
 use Rattle.pv_cert.specs.declared.cert.Cert.{Cert}
 use Rattle.pv_cert.specs.declared.cert.CertFault.{CertFault}
 use Rattle.pv_cert.specs.Certificates.{Fits, spelled, read_text}
@@ -21,9 +21,9 @@ spelled_once c d fits other same = same_cert (read_text (spelled c)) c d (text_a
 
 pub faults_once : FaultsOnce
 faults_once = record {
-    one = λ text e f p q. same_fault (read_text text) e f (bad_text_again text e p) (bad_text_again text f q);
-    none = λ c f fits bad. apart (read_text (spelled c)) c f (text_again c fits) (bad_text_again (spelled c) f bad);
-  }
+  one = λ text e f p q. same_fault (read_text text) e f (bad_text_again text e p) (bad_text_again text f q);
+  none = λ c f fits bad. apart (read_text (spelled c)) c f (text_again c fits) (bad_text_again (spelled c) f bad);
+}
 
 by_result : (text : List ℕ) (r : Result Cert CertFault) → read_text text ≡ r → ((c : Cert) × Fits c × (text ≡ spelled c)) ⊎ ((f : CertFault) × BadCert text f)
 by_result text (Ok c) e = let b = text_back text c e in inl (c, b.0, b.1)

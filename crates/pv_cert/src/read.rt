@@ -4,7 +4,6 @@ ghost use Rattle.std.specs.Prelude.{◌≡◌, IfOk};
 ghost use Rattle.std.specs.Option.{option_map};
 ghost use Rattle.pv_cert.specs.Lines.{title_words, read_title_words, read_title, read_step_line};
 ghost use Rattle.pv_cert.specs.Reading.{next};
-
 ghost use Rattle.pv_cert.specs.Places.{seen_place};
 ghost use Rattle.pv_cert.specs.Seen.{texts};
 
@@ -17,10 +16,7 @@ use pv_value::{Memory, Name};
 use std::alloc::Global;
 
 // All of these words, as a name and a descriptor.
-fn read_two_texts<'w>(
-    alloc: Global,
-    words: &'w [&'w [u8]],
-) -> Result<Option<(Name, Name)>, Memory>
+fn read_two_texts<'w>(alloc: Global, words: &'w [&'w [u8]]) -> Result<Option<(Name, Name)>, Memory>
     ensures { IfOk result (λ r. r ≡ title_words.reads (texts words.now)) }
 {
     let Some((name, words)) = take_text(alloc, words)? else {

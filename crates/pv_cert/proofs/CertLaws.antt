@@ -1,10 +1,10 @@
 -- A text is read to a certificate exactly where it is its spelling, and to a fault exactly where that is there.
-use Rattle.std.proofs.Common.{◌≡◌, ◌≢◌, ℕ, ◌<◌, Bool, true, false, cond, eqb, ltb, List, [], ◌∷◌, ◌++◌, map, Option, Some, None, Result, Ok, Err, refl, sym, ap, subst, ◌∙◌, append_assoc, arith, ◌⊎◌, inl, inr}
+use Rattle.std.proofs.Common.{◌≡◌, ◌≢◌, ℕ, ◌<◌, Bool, true, false, cond, eqb, ltb, List, [], ◌∷◌, ◌++◌, map, Option, Some, None, Result, Ok, Err, refl, sym, ap, subst, ◌∙◌, append_assoc, arith, inl, inr}
 use Rattle.std.specs.Prelude.{codes}
 use Rattle.std.specs.Option.{option_map, option_and_then}
 use Rattle.std.specs.List.{flat_map, AllByRecursion, slice_split, onto_first}
 use Rattle.std.specs.Str.{bytes_eq}
-use Rattle.std.proofs.lemmas.Bool.{ltb-true, eqb-true, eqb-false, ne_eqb, and_parts, cond-true, cond-false, cases_Bool}
+use Rattle.std.proofs.lemmas.Bool.{ltb-true, eqb-true, eqb-false, ne_eqb, and_parts, cond-true}
 use Rattle.std.proofs.lemmas.Slice.Eq.{bytes_eq-Decides}
 use Rattle.std.proofs.lemmas.List.{append-nil}
 use Rattle.pv_steps.specs.declared.step.Step.{Step}
@@ -16,9 +16,8 @@ use Rattle.pv_cert.specs.Formats.{join}
 use Rattle.pv_cert.specs.Tokens.{digest}
 use Rattle.pv_cert.specs.Parameters.{Words}
 use Rattle.pv_cert.specs.StepLines.{StepFits, step_words}
-use Rattle.pv_cert.specs.Lines.{line_of, words_of, step_line, title_line, TitleFits}
-use Rattle.pv_cert.specs.Reading.{end_line, section_lines, SectionFits, Place, between, read_lines}
-use Rattle.pv_cert.specs.Faults.{Outside, BadLines}
+use Rattle.pv_cert.specs.Lines.{line_of, words_of, step_line, title_line}
+use Rattle.pv_cert.specs.Reading.{end_line, section_lines, SectionFits, between, read_lines}
 use Rattle.pv_cert.specs.Certificates.{version_line, digest_line, header, cert_lines, text_of, spelled, Fits, is_feed, body_of, read_digest_words, read_digest_line, read_header, cert_of, read_after_header, read_body, read_text}
 use Rattle.pv_cert.specs.BadCerts.{IsCut, AreLines, HasHeader, BadSections, BadCert}
 use Rattle.pv_cert.proofs.Making.{found, mapped}

@@ -1,5 +1,5 @@
 -- Lines are read to sections exactly where they are the lines of those sections.
-use Rattle.std.proofs.Common.{◌≡◌, ℕ, ◌+◌, Bool, true, false, cond, List, [], ◌∷◌, ◌++◌, length, map, Option, Some, None, Result, Ok, Err, refl, sym, ap, subst, ◌∙◌, append_assoc, arith, add_assoc, add-zero, suc, ◌⊎◌, inl, inr}
+use Rattle.std.proofs.Common.{◌≡◌, ℕ, ◌+◌, Bool, true, false, cond, List, [], ◌∷◌, ◌++◌, length, map, Option, Some, None, Result, Ok, Err, refl, sym, ap, subst, ◌∙◌, append_assoc, arith, add-zero, suc, ◌⊎◌, inl, inr}
 use Rattle.std.specs.Option.{option_map}
 use Rattle.std.specs.List.{flat_map, AllByRecursion}
 use Rattle.std.specs.Str.{bytes_eq}
@@ -11,8 +11,8 @@ use Rattle.pv_cert.specs.declared.cert.CertFault.{CertFault}
 use Rattle.pv_cert.specs.declared.cert.CertFault.TheVariants as fault
 use Rattle.pv_cert.specs.StepLines.{StepFits}
 use Rattle.pv_cert.specs.Lines.{TitleFits, title_line, step_line, read_title, read_step_line}
-use Rattle.pv_cert.specs.Reading.{end_line, section_lines, SectionFits, Place, between, inside, section_of, next, ended, or_fault, read_lines}
-use Rattle.pv_cert.specs.Faults.{Spot, Outside, Within, May, Leads, FirstBad, BadLines}
+use Rattle.pv_cert.specs.Reading.{end_line, section_lines, SectionFits, Place, between, inside, section_of, next, or_fault, read_lines}
+use Rattle.pv_cert.specs.Faults.{Spot, Outside, Within, May, Leads, BadLines}
 use Rattle.pv_cert.proofs.LineLaws.{title_again, title_back, step_line_again, step_line_back, end_is_no_step}
 
 abbrev Lines : Type 0

@@ -3,7 +3,6 @@ use Rattle.std.proofs.Common.{◌≡◌, ℕ, Bool, true, false, cond, eqb, List
 use Rattle.std.specs.Option.{option_map, option_and_then}
 use Rattle.pv_cert.specs.Tokens.{is_plain, pair_value, escaped, plain_on, read_some_shown, read_hex}
 use Rattle.pv_cert.specs.Fronts.{plain_front, front_of, pair_front}
-use Rattle.pv_cert.proofs.Making.{mapped}
 
 -- a byte and more, as a front and more
 abbrev with_front : (List ℕ → Option (List ℕ)) → Option (ℕ × List ℕ) → Option (List ℕ)

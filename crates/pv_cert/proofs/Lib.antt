@@ -1,3 +1,5 @@
+-- laws that other crates cite
+pub mod EachText
 -- for the proofs of this crate
 pub mod NameLaws
 pub mod Making
@@ -5,6 +7,9 @@ pub mod FormatLaws
 pub mod NumberLaws
 pub mod TextLaws
 pub mod FrontSteps
+pub mod Splitting
+pub mod ListSteps
+pub mod SetSteps
 pub mod ParameterLaws
 pub mod OperationLaws
 pub mod ReasonLaws

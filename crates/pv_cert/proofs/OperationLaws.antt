@@ -1,13 +1,13 @@
 -- What is read as an operation is spelled so, and what is spelled so is read.
-use Rattle.std.proofs.Common.{◌≡◌, ℕ, List, [], ◌∷◌, ◌++◌, Option, Some, None, refl, sym, ap, subst, ◌∙◌}
+use Rattle.std.proofs.Common.{◌≡◌, ℕ, List, [], ◌∷◌, ◌++◌, Some, refl, sym, ap, ◌∙◌}
 use Rattle.std.specs.Prelude.{codes}
-use Rattle.std.specs.Option.{option_map, option_and_then}
+use Rattle.std.specs.Option.{option_and_then}
 use Rattle.pv_graph.specs.declared.node.Op.{Op}
 use Rattle.pv_graph.specs.declared.node.Op.TheVariants as op
 use Rattle.pv_cert.specs.declared.table.Head.{Head}
 use Rattle.pv_cert.specs.declared.table.Head.TheVariants as head
 use Rattle.pv_cert.specs.Names.{head_of, head_name, scalar_name}
-use Rattle.pv_cert.specs.Parameters.{number, int, long, text, sort, kind, sym as symbol, argument}
+use Rattle.pv_cert.specs.Parameters.{number, int, long, text, kind, sym as symbol, argument}
 use Rattle.pv_cert.specs.Operations.{op_words, OpFits, params_of, take_op}
 use Rattle.pv_cert.proofs.NameLaws.{head_is, head_again}
 use Rattle.pv_cert.proofs.ParameterLaws.{number_format, int_format, long_format, text_format, kind_format, sym_format, argument_format}

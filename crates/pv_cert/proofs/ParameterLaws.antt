@@ -1,6 +1,6 @@
 -- The parameters of operations are read exactly where they are spelled so.
-use Rattle.std.proofs.Common.{◌≡◌, ℕ, ◌^◌, ◌<◌, ◌≤◌, List, refl, sym as turned, lit<, lit≤}
-use Rattle.pv_cert.specs.Formats.{Format, IsFormat, one, pair}
+use Rattle.std.proofs.Common.{◌^◌, refl, sym as turned, lit<, lit≤}
+use Rattle.pv_cert.specs.Formats.{IsFormat, pair}
 use Rattle.pv_cert.specs.Tokens.{u32, signed, shown}
 use Rattle.pv_cert.specs.Names.{sort_name, sort_of, kind_name, kind_of}
 use Rattle.pv_cert.specs.Parameters.{number, int, long, text, sort, kind, sym_of, of_sym, sym, argument}

@@ -1,7 +1,6 @@
 -- What is read as a step is spelled so, and what is spelled so is read.
-use Rattle.std.proofs.Common.{◌≡◌, ℕ, false, List, [], ◌∷◌, ◌++◌, Option, Some, None, refl, sym, ap, subst, ◌∙◌}
+use Rattle.std.proofs.Common.{◌≡◌, ℕ, false, List, [], ◌∷◌, Some, refl, sym, ap, ◌∙◌}
 use Rattle.std.specs.Prelude.{codes}
-use Rattle.std.specs.Option.{option_map, option_and_then}
 use Rattle.pv_steps.specs.declared.step.Step.{Step}
 use Rattle.pv_steps.specs.declared.step.Step.TheVariants as steps
 use Rattle.pv_cert.specs.declared.table.Row.{Row}
@@ -9,14 +8,12 @@ use Rattle.pv_cert.specs.declared.table.Row.TheVariants as row
 use Rattle.pv_cert.specs.Names.{row_of, row_name}
 use Rattle.pv_cert.specs.Parameters.{Words}
 use Rattle.pv_cert.specs.StepLines.{node_words, axiom_words, flip_words, chain_words, set_words, open_words, close_words, assume_words, finish_words, step_words, StepFits, row_words, read_step}
-use Rattle.pv_cert.proofs.NameLaws.{row_is, row_again}
+use Rattle.pv_cert.proofs.NameLaws.{row_is}
 use Rattle.std.specs.List.{AllByRecursion}
-use Rattle.std.specs.Str.{bytes_eq}
 use Rattle.std.proofs.lemmas.Slice.Eq.{bytes_eq-Decides}
-use Rattle.pv_graph.specs.declared.node.Op.{Op}
 use Rattle.pv_steps.specs.declared.step.Reason.{Reason}
 use Rattle.pv_steps.specs.declared.step.Congruence.{Congruence}
-use Rattle.pv_cert.specs.Formats.{Whole, Format, IsWhole, IsFormat, follow, exactly, each, pairs, pair, separated}
+use Rattle.pv_cert.specs.Formats.{Whole, IsWhole, IsFormat, follow, exactly, each, pairs, pair}
 use Rattle.pv_cert.specs.Tokens.{u32}
 use Rattle.pv_cert.specs.Parameters.{number}
 use Rattle.pv_cert.specs.StepLines.{op, fact, fact_word, reason, reason_in_set, to_congruence, of_congruence, congruence, is_semicolon}

@@ -1,12 +1,12 @@
 -- Texts and digests are read exactly where they are spelled so.
-use Rattle.std.proofs.Common.{◌≡◌, ◌≢◌, ℕ, zero, suc, ◌+◌, ◌-◌, ◌*◌, ◌/◌, ◌%◌, ◌^◌, ◌<◌, ◌≤◌, Bool, true, false, cond, eqb, ltb, leb, ◌&&◌, not, List, [], ◌∷◌, ◌++◌, length, Option, Some, None, refl, sym, ap, subst, ◌∙◌, append_assoc, arith, ◌⊎◌, inl, inr}
+use Rattle.std.proofs.Common.{◌≡◌, ℕ, ◌+◌, ◌-◌, ◌*◌, ◌/◌, ◌%◌, ◌<◌, ◌≤◌, Bool, true, false, cond, eqb, ltb, leb, ◌&&◌, not, List, [], ◌∷◌, ◌++◌, length, Option, Some, None, refl, sym, ap, subst, ◌∙◌, arith, ◌⊎◌, inl, inr}
 use Rattle.std.specs.Prelude.{codes}
 use Rattle.std.specs.Option.{option_map, option_and_then}
-use Rattle.std.specs.List.{flat_map, AllByRecursion}
+use Rattle.std.specs.List.{flat_map}
 use Rattle.std.specs.Str.{bytes_eq}
-use Rattle.std.proofs.lemmas.Bool.{ltb-true, leb-true, eqb-true, eqb-false, lt-ltb, le-ltb, lt-leb, le-leb, ne_eqb, eq-eqb, and_parts, and_from, and_left, and_right, cond-true, cond-false, cases_lt, not-true, cases_Bool}
+use Rattle.std.proofs.lemmas.Bool.{leb-true, eqb-true, lt-ltb, le-ltb, lt-leb, le-leb, eq-eqb, and_parts, and_from, and_right, cond-true, cond-false, cases_lt, not-true, cases_Bool}
 use Rattle.std.proofs.lemmas.Slice.Eq.{bytes_eq-Decides}
-use Rattle.pv_cert.specs.Formats.{Whole, IsWhole}
+use Rattle.pv_cert.specs.Formats.{IsWhole}
 use Rattle.pv_cert.specs.Tokens.{is_digit, AreBytes, hex_digit, hex_value, hex_pair, pair_value, is_plain, shown_byte, shown_bytes, escaped, plain_on, read_some_shown, read_shown, shown, read_hex, of_length, digest}
 use Rattle.pv_cert.proofs.Making.{found, mapped}
 

@@ -1,5 +1,5 @@
 -- No word has a blank or a line feed in it.
-use Rattle.std.proofs.Common.{◌≡◌, ◌≢◌, ℕ, zero, suc, ◌+◌, ◌-◌, ◌*◌, ◌/◌, ◌%◌, ◌^◌, ◌<◌, ◌≤◌, Bool, true, false, cond, eqb, ltb, leb, not, ◌&&◌, List, [], ◌∷◌, ◌++◌, map, refl, sym, ap, subst, ◌∙◌, arith, inl, inr}
+use Rattle.std.proofs.Common.{◌≡◌, ◌≢◌, ℕ, suc, ◌+◌, ◌-◌, ◌/◌, ◌%◌, ◌^◌, ◌<◌, ◌≤◌, Bool, true, eqb, ltb, leb, not, ◌&&◌, List, [], ◌∷◌, ◌++◌, map, refl, sym, ap, subst, ◌∙◌, arith, inl, inr}
 use Rattle.std.specs.Prelude.{codes, decimal, ℤ, pos, negsuc}
 use Rattle.std.specs.Fmt.{signed_decimal}
 use Rattle.std.specs.List.{flat_map, AllByRecursion, list_all}
@@ -19,12 +19,12 @@ use Rattle.pv_steps.specs.declared.step.Reason.TheVariants.{Same, By, Pair}
 use Rattle.pv_steps.specs.declared.step.Congruence.{Congruence}
 use Rattle.pv_steps.specs.declared.step.Step.{Step}
 use Rattle.pv_steps.specs.declared.step.Step.TheVariants as steps
-use Rattle.pv_cert.specs.Formats.{join, each, pairs}
+use Rattle.pv_cert.specs.Formats.{join}
 use Rattle.pv_cert.specs.Tokens.{u32, magnitude, hex_digit, hex_pair, is_plain, shown_byte, shown_bytes}
 use Rattle.pv_cert.specs.Names.{scalar_name, sort_name, kind_name}
 use Rattle.pv_cert.specs.Parameters.{Words, sym as symbol}
 use Rattle.pv_cert.specs.Operations.{op_words, OpFits}
-use Rattle.pv_cert.specs.StepLines.{fact_word, spelled_reason, ReasonFits, ReasonFitsInSet, reason_in_set, congruence, step_words, StepFits}
+use Rattle.pv_cert.specs.StepLines.{fact_word, spelled_reason, ReasonFits, ReasonFitsInSet, congruence, step_words, StepFits}
 use Rattle.pv_cert.proofs.ReasonLaws.{AreDigits, decimal_digits}
 
 abbrev pub is_word : List ℕ → Bool

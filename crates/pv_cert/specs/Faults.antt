@@ -1,5 +1,5 @@
 -- Why a text is not a certificate.
-use Rattle.std.specs.Prelude.{◌≡◌, ◌≢◌, ℕ, ◌+◌, List, [], ◌∷◌, ◌++◌, length}
+use Rattle.std.specs.Prelude.{◌≡◌, ℕ, ◌+◌, List, [], ◌∷◌, ◌++◌, length}
 use Rattle.pv_steps.specs.declared.step.Step.{Step}
 use Rattle.pv_cert.specs.declared.cert.CertFault.{CertFault}
 use Rattle.pv_cert.specs.declared.cert.CertFault.TheVariants as fault

@@ -24,10 +24,14 @@ pub record IsWhole {S A : Type 0} (f : Whole S A) : Type 0 where
   pub again : (a : A) → f.fits a → f.reads (f.spells a) ≡ Some a
   pub back : (text : List S) (a : A) → f.reads text ≡ Some a → f.fits a × (text ≡ f.spells a)
 
--- one word
-abbrev pub take_one : {A : Type 0} → (List ℕ → Option A) → List (List ℕ) → Option (A × List (List ℕ))
+-- one symbol, and the rest of the text
+abbrev pub take_one : {S A : Type 0} → (S → Option A) → List S → Option (A × List S)
 take_one reads [] = None
-take_one reads (word ∷ words) = option_map (λ a. (a, words)) (reads word)
+take_one reads (s ∷ text) = option_map (λ a. (a, text)) (reads s)
+
+-- two symbols, and the rest of the text
+abbrev pub take_two : {S A : Type 0} → (S → Option A) → List S → Option ((A × A) × List S)
+take_two reads text = option_and_then (λ a. option_map (λ b. ((a.0, b.0), b.1)) (take_one reads a.1)) (take_one reads text)
 
 abbrev pub one : {A : Type 0} → Whole ℕ A → Format (List ℕ) A
 one w = record { fits = w.fits; spells = λ a. w.spells a ∷ []; takes = take_one w.reads }

@@ -10,5 +10,9 @@ pub mod Reading
 pub mod Faults
 pub mod Certificates
 pub mod BadCerts
+pub mod Laws
 -- the vocabulary of private functions
 pub mod Fronts
+pub mod Seen
+pub mod Places
+pub mod Written

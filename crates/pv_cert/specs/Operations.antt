@@ -1,15 +1,13 @@
 -- The words of an operation: its name and its parameters.
-use Rattle.std.specs.Prelude.{◌≡◌, ℕ, List, [], ◌∷◌, Option, Some, None, codes}
-use Rattle.std.specs.Option.{option_map, option_and_then}
-use Rattle.pv_value.specs.declared.name.Sym.{Sym}
-use Rattle.pv_value.specs.declared.operation.ScalarOp.{ScalarOp}
+use Rattle.std.specs.Prelude.{ℕ, List, [], ◌∷◌, Option, Some, None, codes}
+use Rattle.std.specs.Option.{option_and_then}
 use Rattle.pv_graph.specs.declared.node.Op.{Op}
 use Rattle.pv_graph.specs.declared.node.Op.TheVariants as op
 use Rattle.pv_cert.specs.declared.table.Head.{Head}
 use Rattle.pv_cert.specs.declared.table.Head.TheVariants as head
 use Rattle.pv_cert.specs.Formats.{made}
-use Rattle.pv_cert.specs.Names.{scalar_name, sort_name, kind_name, head_of}
-use Rattle.pv_cert.specs.Parameters.{number, int, long, text, sort, kind, sym, argument}
+use Rattle.pv_cert.specs.Names.{scalar_name, head_of}
+use Rattle.pv_cert.specs.Parameters.{number, int, long, text, kind, sym, argument}
 
 abbrev pub op_words : Op → List (List ℕ)
 op_words (op.Int c) = codes "int" ∷ int.spells c

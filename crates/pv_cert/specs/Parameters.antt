@@ -3,7 +3,7 @@ use Rattle.std.specs.Prelude.{ℕ, ◌^◌, ℤ, List}
 use Rattle.pv_value.specs.declared.heap.Kind.{Kind}
 use Rattle.pv_value.specs.declared.name.Sym.{Sym}
 use Rattle.pv_graph.specs.declared.node.OpSort.{OpSort}
-use Rattle.pv_cert.specs.Formats.{Format, Whole, one, pair, seen_as}
+use Rattle.pv_cert.specs.Formats.{Format, one, pair, seen_as}
 use Rattle.pv_cert.specs.Tokens.{u32, signed, shown}
 use Rattle.pv_cert.specs.Names.{sort_name, sort_of, kind_name, kind_of}
 

@@ -1,4 +1,3 @@
-use Rattle.std.proofs.Common.{sym}
 use Rattle.pv_cert.proofs.FrontSteps.{hex_step}
 use Rattle.pv_cert.proofs.text.hex_bytes.Goals as goal
 

@@ -1,4 +1,3 @@
-use Rattle.std.proofs.Common.{sym}
 use Rattle.pv_cert.proofs.FrontSteps.{some_step}
 use Rattle.pv_cert.proofs.text.some_shown.Goals as goal
 

@@ -1,0 +1,202 @@
+//! The words of steps.
+
+ghost use Rattle.std.specs.Prelude.{◌≡◌, IfOk};
+ghost use Rattle.pv_cert.specs.declared.table.Row.TheVariants as rows;
+ghost use Rattle.pv_cert.specs.StepLines.{fact, reason, row_words, read_step};
+ghost use Rattle.std.specs.Option.{option_map};
+ghost use Rattle.pv_cert.specs.Formats.{pair, exactly};
+ghost use Rattle.pv_cert.specs.Seen.{texts};
+
+use crate::lists::{read_congruences, read_fact_pairs, read_node_pairs, read_numbers};
+use crate::operation::{take_number, take_operation};
+use crate::reason::{take_fact, take_reason};
+use crate::table::{Row, row_of};
+use pv_steps::{Fact, Reason, Step};
+use pv_value::Memory;
+use std::alloc::Global;
+
+// N OP KIDS
+fn read_node<'w>(alloc: Global, words: &'w [&'w [u8]]) -> Result<Option<Step>, Memory>
+    ensures { IfOk result (λ r. r ≡ row_words rows.Node (texts words.now)) }
+{
+    let Some((n, words)) = take_number(words) else {
+        return Ok(None);
+    };
+    let Some((op, words)) = take_operation(alloc, words)? else {
+        return Ok(None);
+    };
+    let Some(kids) = read_numbers(alloc, words)? else {
+        return Ok(None);
+    };
+    Ok(Some(Step::Node(n, op, kids)))
+}
+
+// A a b NODES
+fn read_axiom<'w>(alloc: Global, words: &'w [&'w [u8]]) -> Result<Option<Step>, Memory>
+    ensures { IfOk result (λ r. r ≡ row_words rows.Axiom (texts words.now)) }
+{
+    let Some((number, words)) = take_number(words) else {
+        return Ok(None);
+    };
+    let Some((a, words)) = take_number(words) else {
+        return Ok(None);
+    };
+    let Some((b, words)) = take_number(words) else {
+        return Ok(None);
+    };
+    let Some(nodes) = read_numbers(alloc, words)? else {
+        return Ok(None);
+    };
+    Ok(Some(Step::Axiom(number, a, b, nodes)))
+}
+
+// a b F
+fn read_flip<'w>(words: &'w [&'w [u8]]) -> Option<Step>
+    ensures { result ≡ row_words rows.Flip (texts words.now) }
+{
+    let (a, words) = take_number(words)?;
+    let (b, words) = take_number(words)?;
+    let (fact, words) = take_fact(words)?;
+    if words.is_empty() {
+        Some(Step::Flip(a, b, fact))
+    } else {
+        None
+    }
+}
+
+// Two facts at the front, and the words after them.
+fn take_facts<'w>(words: &'w [&'w [u8]]) -> Option<((Fact, Fact), &'w [&'w [u8]])>
+    ensures { option_map (λ p. (p.0, texts p.1.now)) result ≡ (pair fact fact).takes (texts words.now) }
+{
+    let (f, words) = take_fact(words)?;
+    let (g, words) = take_fact(words)?;
+    Some(((f, g), words))
+}
+
+// Two reasons at the front, and the words after them.
+fn take_reasons<'w>(words: &'w [&'w [u8]]) -> Option<((Reason, Reason), &'w [&'w [u8]])>
+    ensures { option_map (λ p. (p.0, texts p.1.now)) result ≡ (pair reason reason).takes (texts words.now) }
+{
+    let (r, words) = take_reason(words)?;
+    let (s, words) = take_reason(words)?;
+    Some(((r, s), words))
+}
+
+// All of these words, as two facts.
+fn read_two_facts<'w>(words: &'w [&'w [u8]]) -> Option<(Fact, Fact)>
+    ensures { result ≡ (exactly (pair fact fact)).reads (texts words.now) }
+{
+    let (facts, words) = take_facts(words)?;
+    if words.is_empty() { Some(facts) } else { None }
+}
+
+// All of these words, as two pairs of reasons.
+fn read_four_reasons<'w>(words: &'w [&'w [u8]]) -> Option<((Reason, Reason), (Reason, Reason))>
+    ensures { result ≡ (exactly (pair (pair reason reason) (pair reason reason))).reads (texts words.now) }
+{
+    let (first, words) = take_reasons(words)?;
+    let (second, words) = take_reasons(words)?;
+    if words.is_empty() {
+        Some((first, second))
+    } else {
+        None
+    }
+}
+
+// a b F G
+fn read_chain<'w>(words: &'w [&'w [u8]]) -> Option<Step>
+    ensures { result ≡ row_words rows.Chain (texts words.now) }
+{
+    let (a, words) = take_number(words)?;
+    let (b, words) = take_number(words)?;
+    let (f, g) = read_two_facts(words)?;
+    Some(Step::Chain(a, b, f, g))
+}
+
+// P Q REASONS ; P Q REASONS
+fn read_set<'w>(alloc: Global, words: &'w [&'w [u8]]) -> Result<Option<Step>, Memory>
+    ensures { IfOk result (λ r. r ≡ row_words rows.Set (texts words.now)) }
+{
+    let Some(pairs) = read_congruences(alloc, words)? else {
+        return Ok(None);
+    };
+    Ok(Some(Step::Set(pairs)))
+}
+
+// D X Y X Y
+fn read_open<'w>(alloc: Global, words: &'w [&'w [u8]]) -> Result<Option<Step>, Memory>
+    ensures { IfOk result (λ r. r ≡ row_words rows.Open (texts words.now)) }
+{
+    let Some((depth, words)) = take_number(words) else {
+        return Ok(None);
+    };
+    let Some(pairs) = read_node_pairs(alloc, words)? else {
+        return Ok(None);
+    };
+    Ok(Some(Step::Open(depth, pairs)))
+}
+
+// D F G F G
+fn read_close<'w>(alloc: Global, words: &'w [&'w [u8]]) -> Result<Option<Step>, Memory>
+    ensures { IfOk result (λ r. r ≡ row_words rows.Close (texts words.now)) }
+{
+    let Some((depth, words)) = take_number(words) else {
+        return Ok(None);
+    };
+    let Some(facts) = read_fact_pairs(alloc, words)? else {
+        return Ok(None);
+    };
+    Ok(Some(Step::Close(depth, facts)))
+}
+
+// P NODES
+fn read_assume<'w>(alloc: Global, words: &'w [&'w [u8]]) -> Result<Option<Step>, Memory>
+    ensures { IfOk result (λ r. r ≡ row_words rows.Assume (texts words.now)) }
+{
+    let Some((root, words)) = take_number(words) else {
+        return Ok(None);
+    };
+    let Some(nodes) = read_numbers(alloc, words)? else {
+        return Ok(None);
+    };
+    Ok(Some(Step::Assume(root, nodes)))
+}
+
+// P Q T F R H
+fn read_finish<'w>(words: &'w [&'w [u8]]) -> Option<Step>
+    ensures { result ≡ row_words rows.Finish (texts words.now) }
+{
+    let (p, words) = take_number(words)?;
+    let (q, words) = take_number(words)?;
+    let ((token, fault), (value, heap)) = read_four_reasons(words)?;
+    Some(Step::Finish(p, q, token, fault, value, heap))
+}
+
+fn read_row<'w>(alloc: Global, row: Row, words: &'w [&'w [u8]]) -> Result<Option<Step>, Memory>
+    ensures { IfOk result (λ r. r ≡ row_words row (texts words.now)) }
+{
+    match row {
+        Row::Node => read_node(alloc, words),
+        Row::Axiom => read_axiom(alloc, words),
+        Row::Flip => Ok(read_flip(words)),
+        Row::Chain => Ok(read_chain(words)),
+        Row::Set => read_set(alloc, words),
+        Row::Open => read_open(alloc, words),
+        Row::Close => read_close(alloc, words),
+        Row::Assume => read_assume(alloc, words),
+        Row::Finish => Ok(read_finish(words)),
+    }
+}
+
+/// The step with these words, if there is one.
+pub fn read_step<'w>(alloc: Global, words: &'w [&'w [u8]]) -> Result<Option<Step>, Memory>
+    ensures { IfOk result (λ r. r ≡ read_step (texts words.now)) }
+{
+    match words {
+        [] => Ok(None),
+        [word, rest @ ..] => match row_of(word) {
+            None => Ok(None),
+            Some(row) => read_row(alloc, row, rest),
+        },
+    }
+}

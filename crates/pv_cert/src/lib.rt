@@ -10,7 +10,7 @@
 //! (`Laws`). The readers of words and lines return what the definitions read, and the writer of operations writes their
 //! words.
 //!
-//! Not built yet: the loop over the lines of a text (`read_cert`), and the writers of steps, sections and certificates
+//! Not built yet: the loop over the lines of a text (`read_cert`), and the writers of whole steps, sections and texts
 //! (`write_cert`). Their definitions stand.
 #![tactic(auto)]
 
@@ -26,6 +26,7 @@ mod step;
 mod table;
 mod text;
 mod writing;
+mod writing_steps;
 
 pub use cert::{Cert, CertFault, Section, Sections};
 pub use laws::{law_either, law_faults, law_once};

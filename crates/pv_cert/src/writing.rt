@@ -19,7 +19,8 @@ fn push_word(out: &mut Vec<u8>, word: &[u8]) -> Result<(), AllocError>
     out.extend_from_slice(word)
 }
 
-fn push_number(alloc: Global, out: &mut Vec<u8>, n: u32) -> Result<(), AllocError>
+/// A number after a blank.
+pub fn push_number(alloc: Global, out: &mut Vec<u8>, n: u32) -> Result<(), AllocError>
     ensures { OnOk result (out.new.items ≡ out.old.items ++ spaced (number.spells n ∷ [])) }
 {
     let word = format!(in alloc; "{n}")?;

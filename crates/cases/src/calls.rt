@@ -1,6 +1,7 @@
 //! The table of the words that name calls.
 
 use crate::{outside, runs};
+use cases_certs::certs;
 use cases_files::pools::Asked;
 use cases_files::{classes, codes, pools};
 use cases_graphs::{axioms, bases, graphs, leasts, loops, trees};
@@ -58,6 +59,8 @@ pub fn answer<R: Files + Threads + Sync>(rt: &R, bench: &Bench, line: &str) -> A
         "machine-step" => machine::machine(bench, true, rest),
 
         "root" => roots::root(bench, rest),
+
+        "cert" => certs::cert(bench, rest),
 
         "run" => runs::running(rt, bench, rest),
         "validate" => runs::validation(rt, bench, rest),

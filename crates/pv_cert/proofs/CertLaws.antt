@@ -105,7 +105,7 @@ all_feeds (line ∷ lines) apart = (feeds line apart.0, all_feeds lines apart.1)
 cut_again : (lines : Lines) → lines ≢ [] → AreApart lines → slice_split is_feed (join 10 lines) ≡ lines
 cut_again lines some apart = split-join 10 is_feed refl lines some (all_feeds lines apart)
 
-body_again : (body : List ℕ) → body_of (body ++ 10 ∷ []) ≡ Some body
+pub body_again : (body : List ℕ) → body_of (body ++ 10 ∷ []) ≡ Some body
 body_again [] = refl
 body_again (b ∷ []) = refl
 body_again (b ∷ c ∷ body) = ap (option_map (λ body. b ∷ body)) (body_again (c ∷ body))

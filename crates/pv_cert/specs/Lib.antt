@@ -10,9 +10,11 @@ pub mod Reading
 pub mod Faults
 pub mod Certificates
 pub mod BadCerts
+pub mod Answers
 pub mod Laws
 -- the vocabulary of private functions
 pub mod Fronts
 pub mod Seen
 pub mod Places
+pub mod Headers
 pub mod Written

@@ -6,15 +6,16 @@
 //! the lines of a section and which line may stand where (`Lines`, `Reading`, `Faults`), the text of a certificate with
 //! how it is read (`Certificates`), and why a text is none (`BadCerts`).
 //!
-//! `law_once`, `law_faults` and `law_either` say that each text is the spelling of one certificate or has one fault
-//! (`Laws`). The readers of words and lines return what the definitions read, and the writer of operations writes their
-//! words.
+//! `read_cert` reads a text (`Answers`): its clause `exact` says that what it gives is the certificate of which the text is
+//! the one spelling, or the fault of the text, and `only` that no other answer is right, but for out of memory. `law_once`,
+//! `law_faults` and `law_either` say that each text is the spelling of one certificate or has one fault (`Laws`). The
+//! readers of words and lines return what the definitions read, and the writers of words write what they spell.
 //!
-//! Not built yet: the loop over the lines of a text (`read_cert`), and the writers of whole steps, sections and texts
-//! (`write_cert`). Their definitions stand.
+//! Not built yet: the writers of whole steps, sections and certificates. Their definitions stand.
 #![tactic(auto)]
 
 mod cert;
+mod certificate;
 mod laws;
 mod lists;
 mod number;
@@ -29,4 +30,5 @@ mod writing;
 mod writing_steps;
 
 pub use cert::{Cert, CertFault, Section, Sections};
+pub use certificate::read_cert;
 pub use laws::{law_either, law_faults, law_once};

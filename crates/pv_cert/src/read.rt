@@ -67,15 +67,15 @@ fn read_step_line(alloc: Global, line: &[u8]) -> Result<Option<Step>, Memory>
     read_step(alloc, &words)
 }
 
-// Where a line stands: after some sections, or in a section after some of its steps.
+/// Where a line stands: after some sections, or in a section after some of its steps.
 #[derive(Drop)]
-enum Place {
+pub enum Place {
     Between(Vec<Section>),
     Inside(Vec<Section>, Name, Name, Vec<Step>),
 }
 
-// The place after a line, if the line may stand there.
-fn advance(alloc: Global, place: Place, line: &[u8]) -> Result<Option<Place>, Memory>
+/// The place after a line, if the line may stand there.
+pub fn advance(alloc: Global, place: Place, line: &[u8]) -> Result<Option<Place>, Memory>
     ensures { IfOk result (λ r. option_map seen_place r ≡ next (seen_place place) line.now) }
 {
     match place {

@@ -1,0 +1,4 @@
+pub mod Deciding
+pub mod Fronts
+pub mod Placed
+pub mod Finding

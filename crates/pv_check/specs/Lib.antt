@@ -1,0 +1,2 @@
+-- what the contracts of this crate say
+pub mod Kept

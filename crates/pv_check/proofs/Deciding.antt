@@ -4,7 +4,7 @@ use Rattle.std.specs.List.{AllZip}
 use Rattle.std.specs.Ordering.{int_eq}
 use Rattle.std.proofs.Common.{inl, inr, subst, arith}
 use Rattle.std.proofs.lemmas.Bool.Decides.{nat_tests, Decides-int_eq}
-use Rattle.pv_graph.specs.Walks.{In}
+use Rattle.pv_value.specs.Spelled.{bind}
 use Rattle.std.specs.Bool.{Decides}
 
 pub decides_map : {t : Bool} {A B : Type 0} → Decides t A → (A → B) → (B → A) → Decides t B
@@ -34,3 +34,8 @@ decides_nat a b = (λ e. grind (arith, nat_tests), λ e. grind (arith, nat_tests
 pub decides_less : (a b : ℕ) → Decides (nat_lt a b) (a < b)
 decides_less a b = (λ e. grind (arith, nat_tests), λ e. grind (arith, nat_tests))
 
+
+-- what is bound to something that there is
+pub bind_some : {A B : Type 0} (o : Option A) (f : A → Option B) (y : B) → bind o f ≡ Some y → (x : A) × (o ≡ Some x) × (f x ≡ Some y)
+bind_some None f y e = absurd (cc)
+bind_some (Some x) f y e = (x, refl, e)

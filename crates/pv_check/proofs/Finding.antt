@@ -48,7 +48,7 @@ stated_is section k s e =
     ∙ stated_in h.later s (first_steps k section)
     ∙ ap (λ (n : ℕ). Some (states s (suc n) (blocks_at section k))) h.count
 
-not_stated : (before : List Step) (k : ℕ) → ((k ≡ 0) ⊎ (length before < k)) → stated_at before k ≡ None
+pub not_stated : (before : List Step) (k : ℕ) → ((k ≡ 0) ⊎ (length before < k)) → stated_at before k ≡ None
 not_stated [] k h = refl
 not_stated (s ∷ before) k h = at_other s before k (far h) ∙ not_stated before k (nearer h)
   where

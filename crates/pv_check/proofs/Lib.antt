@@ -2,3 +2,5 @@ pub mod Deciding
 pub mod Fronts
 pub mod Placed
 pub mod Finding
+pub mod Visible
+pub mod Fresh

@@ -40,7 +40,7 @@ newly s before b h p ps e =
     let z = heads p (record { opened = suc (length before); block = b }) ps (open_after before) e in
     record { later = []; step = s; earlier = before; split = refl; number = ap (λ (q : OpenBlock). q.opened) z.0; block = h ∙ ap (λ (q : OpenBlock). Some q.block) (sym z.0); outer_ = z.1 }
 
-outer_open : (r ps : List OpenBlock) → AreOpen r (outer_of ps) → AreOpen r ps
+pub outer_open : (r ps : List OpenBlock) → AreOpen r (outer_of ps) → AreOpen r ps
 outer_open r [] h = h
 outer_open r (p ∷ ps) h = inr h
 

@@ -1,13 +1,15 @@
 -- What a checker keeps of the steps so far: the innermost open block after each number of steps, and which blocks
 -- are still open. A block is named by the number of the step that opened it; 0 stands for no block.
-use Rattle.std.specs.Prelude.{◌≡◌, ℕ, zero, suc, ◌≤◌, Bool, true, false, ◌||◌, List, [], ◌∷◌, length, reverse, Option, Some, None, slice_get, ◌==◌}
+use Rattle.std.specs.Prelude.{◌≡◌, ◌≢◌, ◌⊎◌, ◌↔◌, ℕ, zero, suc, ◌≤◌, Bool, true, false, ◌||◌, List, [], ◌∷◌, length, reverse, Option, Some, None, slice_get, ◌==◌}
 use Rattle.pv_steps.specs.declared.step.Step.TheVariants as steps
 use Rattle.pv_steps.specs.declared.step.Fact.{Fact}
 use Rattle.pv_steps.specs.declared.step.Step.{Step}
 use Rattle.pv_steps.specs.declared.step.Step.TheVariants.{Axiom, Flip, Chain, Set, Open, Close, Assume, Finish}
-use Rattle.pv_steps.specs.Steps.{Block, Loop, OpenBlock, both_sides, open_after, equality_at, Equality}
+use Rattle.pv_steps.specs.Steps.{OpenBlock, outer_of, both_sides, open_after, equality_at, Equality, Shows}
 use Rattle.pv_steps.specs.Accepted.{first_steps}
 use Rattle.pv_check.specs.declared.seen.Found.{Found}
+use Rattle.pv_check.specs.declared.seen.Within.{Within}
+use Rattle.pv_check.specs.declared.seen.Within.TheVariants.{Here, Outside}
 
 -- the step that opened the innermost of these blocks
 abbrev pub number_of : List OpenBlock → ℕ
@@ -69,3 +71,17 @@ found_in (Some e) = Some (record { around = number_of e.around; left = e.left; r
 -- .. of a fact
 abbrev pub found_at : List Step → Fact → Option Found
 found_at steps f = found_in (equality_at (reverse steps) f)
+
+-- the open blocks in which a fact is to be visible
+abbrev pub region : Within → List Step → List OpenBlock
+region Here steps = open_now steps
+region Outside steps = outer_of (open_now steps)
+
+-- a block is open there, by its number
+abbrev pub IsSeen : Within → List Step → List Bool → ℕ → Type 0
+IsSeen Here steps opened n = slice_get opened n ≡ Some true
+IsSeen Outside steps opened n = (slice_get opened n ≡ Some true) × ((n ≡ 0) ⊎ (n ≢ number_of (open_now steps)))
+
+-- the pair is what the fact states, where it is visible there
+abbrev pub IsVisible : Option (ℕ × ℕ) → Within → List Step → Fact → Type 0
+IsVisible pair w steps f = (a b : ℕ) → (pair ≡ Some (a, b)) ↔ Shows (reverse steps) (region w steps) f a b

@@ -1,2 +1,3 @@
 -- what the contracts of this crate say
 pub mod Kept
+pub mod Depths

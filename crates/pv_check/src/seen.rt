@@ -1,8 +1,8 @@
 //! The steps so far, what they state, and which blocks are open.
 
-ghost use Rattle.std.specs.Prelude.{◌≡◌, ◌↔◌, ◌<◌, ◌≤◌, IsTrue, Some, true, [], ◌∷◌, length, slice_get};
-ghost use Rattle.pv_steps.specs.Steps.{both_sides, numbered};
-ghost use Rattle.pv_check.specs.Kept.{AreKept, found_at, opened_pairs, step_pairs};
+ghost use Rattle.std.specs.Prelude.{◌≡◌, ◌↔◌, ◌<◌, ◌≤◌, IsTrue, Some, true, [], ◌∷◌, length, reverse, slice_get};
+ghost use Rattle.pv_steps.specs.Steps.{Shows, both_sides, numbered};
+ghost use Rattle.pv_check.specs.Kept.{AreKept, IsSeen, IsVisible, found_at, number_of, open_now, opened_pairs, region, step_pairs};
 
 use pv_graph::NodeId;
 use pv_steps::{Congruence, Fact, Step};
@@ -52,6 +52,23 @@ fn only_pair(a: NodeId, b: NodeId, place: u32) -> Option<(NodeId, NodeId)>
     ensures { result ≡ numbered ((a, b) ∷ []) place }
 {
     if place == 1 { Some((a, b)) } else { None }
+}
+
+// Whether this is the pair of a and b.
+pub(crate) fn is_pair(pair: Option<(NodeId, NodeId)>, a: NodeId, b: NodeId) -> bool
+    ensures { IsTrue result ↔ (pair ≡ Some (a, b)) }
+{
+    match pair {
+        Some((left, right)) => left == a && right == b,
+        None => false,
+    }
+}
+
+// Where a fact is to be visible: in the blocks that are open now, or outside the innermost of them.
+#[derive(Clone, Copy)]
+pub(crate) enum Within {
+    Here,
+    Outside,
 }
 
 impl Seen<'_> {
@@ -105,10 +122,44 @@ impl Seen<'_> {
         }
     }
 
-    // Whether a block is open.
-    pub(crate) fn is_open(&self, block: usize) -> bool
-        ensures { IsTrue result ↔ (slice_get self.now.opened.now block ≡ Some true) }
+    // The innermost open block.
+    pub(crate) fn inside(&self) -> usize
+        ensures { result ≡ number_of (open_now self.now.steps.now) }
     {
-        matches!(self.opened.get(block), Some(true))
+        self.innermost[self.steps.len()]
+    }
+
+    // Whether a block is open there.
+    fn is_seen(&self, within: Within, block: usize) -> bool
+        ensures { IsTrue result ↔ IsSeen within self.now.steps.now self.now.opened.now block }
+    {
+        let open = matches!(self.opened.get(block), Some(true));
+        match within {
+            Within::Here => open,
+            Within::Outside => open && (block == 0 || block != self.inside()),
+        }
+    }
+
+    // What a fact states, where it is visible there.
+    pub(crate) fn visible(&self, within: Within, fact: Fact) -> Option<(NodeId, NodeId)>
+        ensures { IsVisible result within self.now.steps.now fact }
+    {
+        match self.found(fact) {
+            Some(found) => {
+                if self.is_seen(within, found.around) {
+                    Some((found.left, found.right))
+                } else {
+                    None
+                }
+            }
+            None => None,
+        }
+    }
+
+    // Whether a fact states that a and b are equal, and is visible there.
+    pub(crate) fn shows(&self, within: Within, fact: Fact, a: NodeId, b: NodeId) -> bool
+        ensures { IsTrue result ↔ Shows (reverse self.now.steps.now) (region within self.now.steps.now) fact a b }
+    {
+        is_pair(self.visible(within, fact), a, b)
     }
 }

@@ -1,3 +1,4 @@
 -- what the contracts of this crate say
 pub mod Kept
 pub mod Depths
+pub mod Nodes

@@ -1,5 +1,6 @@
 //! Scratch.
 #![tactic(auto)]
 
+mod nodes;
 mod reasons;
 mod seen;

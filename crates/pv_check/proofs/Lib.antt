@@ -4,3 +4,4 @@ pub mod Placed
 pub mod Finding
 pub mod Visible
 pub mod Fresh
+pub mod SetParts

@@ -81,7 +81,7 @@ pub record Cited (section : List Step) (f : Fact) (e : Equality) : Type 0 where
   pub low : n ≤ length section
   pub around : e.around ≡ blocks_at section n
 
-some_at : {A : Type 0} (xs : List A) (k : ℕ) → k < length xs → (x : A) × (slice_get xs k ≡ Some x)
+pub some_at : {A : Type 0} (xs : List A) (k : ℕ) → k < length xs → (x : A) × (slice_get xs k ≡ Some x)
 some_at [] k low = absurd (omega (arith, low))
 some_at (x ∷ xs) zero low = (x, refl)
 some_at (x ∷ xs) (suc k) low = some_at xs k (omega (arith, low))

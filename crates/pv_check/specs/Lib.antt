@@ -2,3 +2,4 @@
 pub mod Kept
 pub mod Depths
 pub mod Nodes
+pub mod Sets

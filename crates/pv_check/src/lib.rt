@@ -4,3 +4,4 @@
 mod nodes;
 mod reasons;
 mod seen;
+mod sets;

@@ -46,7 +46,7 @@ impl Seen<'_> {
     }
 
     // Whether a reason isn't a fact that is stated inside a block of this depth.
-    fn is_outside(&self, depth: u32, reason: Reason) -> bool
+    pub(crate) fn is_outside(&self, depth: u32, reason: Reason) -> bool
         ensures { IsTrue result ↔ IsOutside (reverse self.now.steps.now) depth reason }
     {
         match reason {

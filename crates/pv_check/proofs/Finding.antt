@@ -16,9 +16,10 @@ use Rattle.pv_steps.specs.Steps.{Block, Loop, Ending, OpenBlock, both_sides, num
 use Rattle.pv_steps.specs.Accepted.{first_steps}
 use Rattle.pv_check.specs.declared.seen.Found.{Found}
 use Rattle.pv_check.specs.Kept.{number_of, blocks_at, open_now, has_opened, is_among, opened_pairs, pairs_opened, step_pairs, AreKept, found_in, found_at}
+use Rattle.pv_check.specs.Inductions.{block_of}
 use Rattle.pv_check.proofs.Deciding.{decides_nat, decides_true, decides_map, decides_or}
 use Rattle.pv_check.proofs.Fronts.{IsFront, front_tail, front_of, first_front, whole_front, front_is, front_last, front_within, HasAt, has_at, next_first, count_first}
-use Rattle.pv_check.proofs.Placed.{block_of, OpenedAt, first_opened, after_opened, self_open}
+use Rattle.pv_check.proofs.Placed.{OpenedAt, first_opened, after_opened, self_open}
 
 -- ---- what a step states
 

@@ -14,7 +14,8 @@ use Rattle.pv_steps.specs.Right.{IsFresh, GiveAll}
 use Rattle.pv_check.specs.declared.seen.Found.{Found}
 use Rattle.pv_check.specs.Kept.{number_of, blocks_at, open_now, AreKept, found_in, found_at}
 use Rattle.pv_check.specs.Depths.{IsOfDepth}
-use Rattle.pv_check.proofs.Placed.{block_of, OpenedAt, first_opened, self_open}
+use Rattle.pv_check.specs.Inductions.{block_of}
+use Rattle.pv_check.proofs.Placed.{OpenedAt, first_opened, self_open}
 use Rattle.pv_check.proofs.Finding.{number_low, same_blocks, inside_at}
 use Rattle.pv_check.proofs.Visible.{Cited, cited, now_is, now_same}
 

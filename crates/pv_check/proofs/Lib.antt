@@ -5,3 +5,4 @@ pub mod Finding
 pub mod Visible
 pub mod Fresh
 pub mod SetParts
+pub mod Ended

@@ -10,14 +10,9 @@ use Rattle.pv_steps.specs.declared.step.Step.TheVariants.{Axiom, Flip, Chain, Se
 use Rattle.pv_steps.specs.Steps.{Block, Loop, Ending, OpenBlock, outer_of, pairs_of, Stated, states, open_after, stated_at, AreOpen}
 use Rattle.pv_steps.specs.Accepted.{first_steps}
 use Rattle.pv_check.specs.Kept.{number_of, blocks_at, open_now, has_opened, is_among, opened_pairs, pairs_opened}
+use Rattle.pv_check.specs.Inductions.{block_of}
 use Rattle.pv_check.proofs.Deciding.{decides_nat, decides_true, decides_map, decides_or}
 use Rattle.pv_check.proofs.Fronts.{IsFront, front_tail, front_of, first_front, whole_front, front_is, front_last, front_within, HasAt, has_at, next_first, count_first}
-
--- the block that a step opens
-abbrev pub block_of : Step → Option Block
-block_of (Open d pairs) = Some (Loop d pairs)
-block_of (Assume p nodes) = Some (Ending p nodes)
-block_of s = None
 
 -- a step opened p, when these blocks were open
 pub record IsOpened (before : List Step) (p : OpenBlock) (outer : List OpenBlock) : Type 0 where

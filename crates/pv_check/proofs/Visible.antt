@@ -164,7 +164,7 @@ not_found section w f is a b s = let z = ap found_in s.stated in let y = sym z �
 pair_is : (p q a b : ℕ) → p ≡ a → q ≡ b → ◌≡◌ {A = Option (ℕ × ℕ)} (Some (p, q)) (Some (a, b))
 pair_is p q a b e f = ap (λ (n : ℕ). Some (n, q)) e ∙ ap (λ (n : ℕ). Some (a, n)) f
 
-pair_are : (p q a b : ℕ) → ◌≡◌ {A = Option (ℕ × ℕ)} (Some (p, q)) (Some (a, b)) → (p ≡ a) × (q ≡ b)
+pub pair_are : (p q a b : ℕ) → ◌≡◌ {A = Option (ℕ × ℕ)} (Some (p, q)) (Some (a, b)) → (p ≡ a) × (q ≡ b)
 pair_are p q a b e = let z = same_Some _ _ e in (ap (λ (x : ℕ × ℕ). x.0) z, ap (λ (x : ℕ × ℕ). x.1) z)
 
 pub visible_found : (section : List Step) (innermost : List ℕ) (opened : List Bool) → AreKept section innermost opened → (w : Within) (f : Fact) (r : Found) → found_at section f ≡ Some r

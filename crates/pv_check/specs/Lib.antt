@@ -3,3 +3,5 @@ pub mod Kept
 pub mod Depths
 pub mod Nodes
 pub mod Sets
+pub mod Inductions
+pub mod Growth

@@ -1,6 +1,8 @@
 //! Scratch.
 #![tactic(auto)]
 
+mod growth;
+mod inductions;
 mod nodes;
 mod reasons;
 mod seen;

@@ -1,7 +1,6 @@
 //! Nodes of the graph.
 
 ghost use Rattle.std.specs.Prelude.{◌≡◌, ◌↔◌, [], ◌∷◌, IsTrue, MatchOption, None, Some, slice_get};
-ghost use Rattle.pv_graph.specs.Nodes.{node_of};
 ghost use Rattle.pv_graph.specs.Ops.{shape};
 ghost use Rattle.pv_steps.specs.Right.{Is, looks_at};
 ghost use Rattle.pv_check.specs.Nodes.{IsCount, LooksAt};
@@ -25,18 +24,46 @@ pub(crate) fn node_at(graph: &Graph, n: NodeId) -> Option<&Node>
     }
 }
 
-fn is_same_node(node: &Node, op: &Op, kids: &[NodeId]) -> bool
-    ensures { IsTrue result ↔ (node.now ≡ node_of op.now kids.now) }
-{
-    is_same_op(&node.op, op) && node.kids.as_slice() == kids
-}
-
-// Whether node n is this operation over these kids.
-pub(crate) fn is_node(graph: &Graph, n: NodeId, op: &Op, kids: &[NodeId]) -> bool
-    ensures { IsTrue result ↔ Is graph.now n op.now kids.now }
+// Whether node n is the count 0.
+pub(crate) fn is_zero(graph: &Graph, n: NodeId) -> bool
+    ensures { IsTrue result ↔ Is graph.now n Op.Zero [] }
 {
     match node_at(graph, n) {
-        Some(node) => is_same_node(node, op, kids),
+        Some(node) => matches!(node.op, Op::Zero) && node.kids.as_slice().is_empty(),
+        None => false,
+    }
+}
+
+// Whether node n is the shift of this depth over the kid.
+pub(crate) fn is_shift(graph: &Graph, n: NodeId, depth: u32, kid: NodeId) -> bool
+    ensures { IsTrue result ↔ Is graph.now n (Op.Shift depth) (kid ∷ []) }
+{
+    match node_at(graph, n) {
+        Some(node) => match (&node.op, node.kids.as_slice()) {
+            (Op::Shift(d), [only]) => *d == depth && *only == kid,
+            _ => false,
+        },
+        None => false,
+    }
+}
+
+// Whether node n is the eval of this depth over the kid and the count.
+pub(crate) fn is_eval(
+    graph: &Graph,
+    n: NodeId,
+    depth: u32,
+    kid: NodeId,
+    count: NodeId,
+) -> bool
+    ensures { IsTrue result ↔ Is graph.now n (Op.Eval depth) (kid ∷ count ∷ []) }
+{
+    match node_at(graph, n) {
+        Some(node) => match (&node.op, node.kids.as_slice()) {
+            (Op::Eval(d), [first, second]) => {
+                *d == depth && *first == kid && *second == count
+            }
+            _ => false,
+        },
         None => false,
     }
 }

@@ -124,7 +124,8 @@ impl Seen<'_> {
 
     // The innermost open block.
     pub(crate) fn inside(&self) -> usize
-        ensures { result ≡ number_of (open_now self.now.steps.now) }
+        ensures number { result ≡ number_of (open_now self.now.steps.now) }
+        ensures low { result ≤ length self.now.steps.now }
     {
         self.innermost[self.steps.len()]
     }

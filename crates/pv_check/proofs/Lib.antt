@@ -6,3 +6,4 @@ pub mod Visible
 pub mod Fresh
 pub mod SetParts
 pub mod Ended
+pub mod Grown

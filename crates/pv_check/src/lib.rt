@@ -1,6 +1,7 @@
 //! Scratch.
 #![tactic(auto)]
 
+mod endings;
 mod growth;
 mod inductions;
 mod nodes;

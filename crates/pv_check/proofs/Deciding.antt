@@ -1,6 +1,6 @@
 -- Tests that are true exactly where something holds, put together.
 use Rattle.std.specs.Prelude.{◌≡◌, ◌⊎◌, ℕ, ℤ, ◌<◌, Bool, true, false, not, ◌&&◌, ◌||◌, nat_lt, List, [], ◌∷◌, Option, Some, None, ◌==◌, refl}
-use Rattle.std.specs.List.{AllZip}
+use Rattle.std.specs.Prelude.{Result, Ok, Err, OnOk}
 use Rattle.std.specs.Ordering.{int_eq}
 use Rattle.std.proofs.Common.{inl, inr, subst, arith}
 use Rattle.std.proofs.lemmas.Bool.Decides.{nat_tests, Decides-int_eq}
@@ -39,3 +39,8 @@ decides_less a b = (λ e. grind (arith, nat_tests), λ e. grind (arith, nat_test
 pub bind_some : {A B : Type 0} (o : Option A) (f : A → Option B) (y : B) → bind o f ≡ Some y → (x : A) × (o ≡ Some x) × (f x ≡ Some y)
 bind_some None f y e = absurd (cc)
 bind_some (Some x) f y e = (x, refl, e)
+
+-- what follows from two facts of a success
+pub on_ok_both : {A E : Type 0} (r : Result A E) (P Q R : Type 0) → OnOk r P → OnOk r Q → (P → Q → R) → OnOk r R
+on_ok_both (Ok a) P Q R p q f = f p q
+on_ok_both (Err e) P Q R p q f = tt

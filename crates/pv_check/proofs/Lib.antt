@@ -7,3 +7,5 @@ pub mod Fresh
 pub mod SetParts
 pub mod Ended
 pub mod Grown
+pub mod Finished
+pub mod Pushed

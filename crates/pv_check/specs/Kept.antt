@@ -8,6 +8,8 @@ use Rattle.pv_steps.specs.declared.step.Step.TheVariants.{Axiom, Flip, Chain, Se
 use Rattle.pv_steps.specs.Steps.{OpenBlock, outer_of, both_sides, open_after, equality_at, Equality, Shows}
 use Rattle.pv_steps.specs.Accepted.{first_steps}
 use Rattle.pv_check.specs.declared.seen.Found.{Found}
+use Rattle.pv_check.specs.declared.tables.Effect.{Effect}
+use Rattle.pv_check.specs.declared.tables.Effect.TheVariants.{Opens, Ends, Stays}
 use Rattle.pv_check.specs.declared.seen.Within.{Within}
 use Rattle.pv_check.specs.declared.seen.Within.TheVariants.{Here, Outside}
 
@@ -85,3 +87,11 @@ IsSeen Outside steps opened n = (slice_get opened n ≡ Some true) × ((n ≡ 0)
 -- the pair is what the fact states, where it is visible there
 abbrev pub IsVisible : Option (ℕ × ℕ) → Within → List Step → Fact → Type 0
 IsVisible pair w steps f = (a b : ℕ) → (pair ≡ Some (a, b)) ↔ Shows (reverse steps) (region w steps) f a b
+
+-- what a step does to the open blocks
+abbrev pub effect_of : Step → Effect
+effect_of (Open d pairs) = Opens
+effect_of (Assume p nodes) = Opens
+effect_of (Close d fs) = Ends
+effect_of (Finish p q t f r h) = Ends
+effect_of s = Stays

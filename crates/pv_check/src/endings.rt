@@ -14,7 +14,7 @@ use pv_steps::{Reason, Step};
 
 // The kids of a root.
 #[derive(Clone, Copy)]
-pub(crate) struct RootKids {
+pub(crate) struct RootParts {
     pub(crate) token: NodeId,
     pub(crate) fault: NodeId,
     pub(crate) result: NodeId,
@@ -31,12 +31,12 @@ pub(crate) struct RootReasons {
 }
 
 // The kids of node n, where it is a root.
-pub(crate) fn root_kids(graph: &Graph, n: NodeId) -> Option<RootKids>
-    ensures { MatchOption result ((kids : RootKids) → IsRootOf graph.now n kids → ⊥) (λ kids. IsRootOf graph.now n kids) }
+pub(crate) fn root_kids(graph: &Graph, n: NodeId) -> Option<RootParts>
+    ensures { MatchOption result ((kids : RootParts) → IsRootOf graph.now n kids → ⊥) (λ kids. IsRootOf graph.now n kids) }
 {
     match node_at(graph, n) {
         Some(node) => match (&node.op, node.kids.as_slice()) {
-            (Op::Root, [token, fault, result, heap]) => Some(RootKids {
+            (Op::Root, [token, fault, result, heap]) => Some(RootParts {
                 token: *token,
                 fault: *fault,
                 result: *result,
@@ -70,7 +70,7 @@ impl Seen<'_> {
     }
 
     // Whether the kids of two roots are equal, the tokens by a reason outside the innermost block.
-    fn are_equal(&self, left: RootKids, right: RootKids, reasons: RootReasons) -> bool
+    fn are_equal(&self, left: RootParts, right: RootParts, reasons: RootReasons) -> bool
         ensures { IsTrue result ↔ AreEqualKids (reverse self.now.steps.now) (open_now self.now.steps.now) left right reasons }
     {
         self.gives(Within::Outside, &[], reasons.token, left.token, right.token)

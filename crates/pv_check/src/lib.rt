@@ -8,3 +8,4 @@ mod nodes;
 mod reasons;
 mod seen;
 mod sets;
+mod tables;

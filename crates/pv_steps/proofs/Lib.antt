@@ -1,0 +1,5 @@
+pub mod Pairs
+pub mod Blocks
+pub mod Growing
+pub mod Section
+pub mod Laws

@@ -1,4 +1,4 @@
--- What an accepted section shows, for any axioms that are sound.
+-- What an accepted section shows.
 use Rattle.std.specs.Prelude.{◌≡◌, ℕ, ◌<◌, false, List, length}
 use Rattle.pv_value.specs.declared.world.World.{World}
 use Rattle.pv_value.specs.declared.outcome.Input.{Input}
@@ -21,12 +21,12 @@ pub record AreSound (Instance : Instances) : Type 0 where
 
 -- an accepted section makes its two roots the same
 abbrev pub AcceptedSame : Instances → Type 0
-AcceptedSame Instance = AreSound Instance → (g : Graph) (a b : ℕ) (steps : List Step) → IsWellMade g → g.is_open ≡ false → a < length g.nodes → b < length g.nodes
+AcceptedSame Instance = (g : Graph) (a b : ℕ) (steps : List Step) → IsWellMade g → g.is_open ≡ false → a < length g.nodes → b < length g.nodes
     → Derives Instance g a b steps → Same g a b
 
 -- a section that is accepted over the least graph of two nodes makes these the same
 abbrev pub AcceptedLeast : Instances → Type 0
-AcceptedLeast Instance = AreSound Instance → (g : Graph) (a b : ℕ) (l : Rooted) (steps : List Step) → IsWellMade g → g.is_open ≡ false → IsLeastOf g a b l
+AcceptedLeast Instance = (g : Graph) (a b : ℕ) (l : Rooted) (steps : List Step) → IsWellMade g → g.is_open ≡ false → IsLeastOf g a b l
     → Derives Instance l.graph l.first l.second steps → Same g a b
 
 -- an accepted section isn't rejected

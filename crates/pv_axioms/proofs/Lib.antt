@@ -1,0 +1,5 @@
+pub mod Numbers
+pub mod Sides
+pub mod Sound
+pub mod Finding
+pub mod SameNodes

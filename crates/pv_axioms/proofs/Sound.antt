@@ -1,0 +1,40 @@
+-- The axioms are sound, and each binds its names.
+use Rattle.std.specs.Prelude.{List, [], ◌∷◌, ◌++◌, refl}
+use Rattle.std.specs.List.{AllByRecursion}
+use Rattle.std.proofs.Common.{inl, inr, subst}
+use Rattle.pv_graph.specs.Walks.{In}
+use Rattle.pv_pattern.specs.Patterns.{Axiom}
+use Rattle.pv_pattern.specs.Binding.{BindsItsNames}
+use Rattle.pv_pattern.specs.Laws.{Law, Laws}
+use Rattle.pv_pattern.proofs.Bound.{tested}
+use Rattle.pv_scalar.specs.Table.{scalar_axioms}
+use Rattle.pv_scalar.proofs.Whole as scalar
+use Rattle.pv_loopax.specs.Table.{loop_axioms}
+use Rattle.pv_loopax.proofs.Family as loops
+use Rattle.pv_heapax.specs.Table.{heap_axioms}
+use Rattle.pv_heapax.proofs.Heap as heap
+use Rattle.pv_steps.specs.Laws.{AreSound}
+use Rattle.pv_axioms.specs.Entries.{axioms, Instance}
+use Rattle.pv_axioms.proofs.Sides.{sides_there}
+
+all_append : (P : Axiom → Type 0) (xs ys : List Axiom) → AllByRecursion P xs → AllByRecursion P ys → AllByRecursion P (xs ++ ys)
+all_append P [] ys p q = q
+all_append P (x ∷ xs) ys p q = (p.0, all_append P xs ys p.1 q)
+
+all_in : (P : Axiom → Type 0) (xs : List Axiom) → AllByRecursion P xs → (a : Axiom) → In xs a → P a
+all_in P [] all a m = absurd m
+all_in P (x ∷ xs) all a (inl e) = subst P e all.0
+all_in P (x ∷ xs) all a (inr m) = all_in P xs all.1 a m
+
+all_laws : Laws axioms
+all_laws = all_append Law scalar_axioms (loop_axioms ++ heap_axioms) scalar.all_laws (all_append Law loop_axioms heap_axioms loops.all_laws heap.all_laws)
+
+pub binds_names : (a : Axiom) → In axioms a → BindsItsNames a
+binds_names = all_in BindsItsNames axioms (tested axioms refl)
+
+pub sound : AreSound Instance
+sound = record {
+  sides = λ g assumed n subst_ l r made i. sides_there g made.graph assumed i.0 subst_ l r i.1.entry i.2;
+  same = λ g assumed n subst_ l r made sealed i w x world input have at.
+      all_in Law axioms all_laws i.0 i.1.entry g assumed subst_ l r w x (record { made = made; sealed = sealed; world = world; input = input; ended = have }) i.2 at;
+}

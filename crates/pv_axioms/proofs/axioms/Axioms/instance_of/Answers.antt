@@ -1,0 +1,13 @@
+use Rattle.pv_pattern.specs.Seen.{axiom_seen}
+use Rattle.pv_axioms.proofs.Finding.{entry_tells, none_tells}
+use Rattle.pv_axioms.proofs.Sound.{binds_names}
+use Rattle.pv_axioms.proofs.axioms.Axioms.instance_of.Goals as goal
+
+pub instance-requires : goal.instance-requires
+instance-requires c = binds_names (axiom_seen c.in-Some.axiom.now) c.in-Some.ensures.entry
+
+pub returns-in-Some : goal.returns-in-Some
+returns-in-Some c = entry_tells _ _ _ _ _ _ (axiom_seen c.in-Some.axiom.now) c.in-Some.ensures c.instance.result c.instance.ensures
+
+pub returns-in-None : goal.returns-in-None
+returns-in-None c = none_tells _ _ _ _ _ _ c.in-None.ensures

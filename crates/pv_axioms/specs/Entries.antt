@@ -1,0 +1,29 @@
+-- The axioms of all tables, by their numbers, and their instances.
+use Rattle.std.specs.Prelude.{◌≡◌, ℕ, List, ◌++◌, Some, slice_get}
+use Rattle.pv_graph.specs.Walks.{In}
+use Rattle.pv_pattern.specs.Patterns.{Axiom}
+use Rattle.pv_pattern.specs.Instances.{IsInstance}
+use Rattle.pv_scalar.specs.Table.{scalar_axioms}
+use Rattle.pv_loopax.specs.Table.{loop_axioms}
+use Rattle.pv_heapax.specs.Table.{heap_axioms}
+use Rattle.pv_steps.specs.Right.{Instances}
+
+-- the axioms on numbers, choices and tokens, then those on loops, then those on the heap
+abbrev pub axioms : List Axiom
+axioms = scalar_axioms ++ (loop_axioms ++ heap_axioms)
+
+-- an axiom of a table that has this number
+pub record IsEntry (table : List Axiom) (n : ℕ) (a : Axiom) : Type 0 where
+  pub entry : In table a
+  pub number : a.number ≡ n
+
+abbrev pub HasNone : List Axiom → ℕ → Type 0
+HasNone table n = (a : Axiom) → IsEntry table n a → ⊥
+
+-- no number stands twice
+abbrev pub NumbersOnce : List Axiom → Type 0
+NumbersOnce table = (i j : ℕ) (a b : Axiom) → slice_get table i ≡ Some a → slice_get table j ≡ Some b → a.number ≡ b.number → i ≡ j
+
+-- the axioms as steps use them: l and r are the sides of an instance of the axiom with this number
+abbrev pub Instance : Instances
+Instance g assumed n subst l r = (a : Axiom) × IsEntry axioms n a × IsInstance g assumed a subst l r

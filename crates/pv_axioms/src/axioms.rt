@@ -1,0 +1,82 @@
+//! The tables of axioms, and the axiom with a number.
+
+ghost use Rattle.std.specs.List.{find};
+ghost use Rattle.std.specs.Option.{option_copied};
+ghost use Rattle.std.specs.Prelude.{◌≡◌, ◌↔◌, ◌==◌, IfOk, IsTrue, MatchOption};
+ghost use Rattle.pv_pattern.specs.Seen.{axiom_seen};
+ghost use Rattle.pv_axioms.specs.Entries.{HasNone, Instance, IsEntry, axioms};
+
+use pv_graph::{Graph, NodeId};
+use pv_heapax::heap_axioms;
+use pv_loopax::loop_axioms;
+use pv_pattern::{Axiom, instance};
+use pv_scalar::scalar_axioms;
+use pv_value::Memory;
+use std::alloc::Global;
+use std::marker::Model;
+
+/// The axioms of all tables.
+#[derive(Drop)]
+pub struct Axioms {
+    scalar: Vec<Axiom>,
+    loops: Vec<Axiom>,
+    heap: Vec<Axiom>,
+}
+
+impl Model for Axioms {
+    ghost use Rattle.pv_axioms.specs.Tables.{AreTables};
+
+    ghost Value = { Unit {0} };
+
+    ghost view = { λ a. tt };
+
+    ghost invariant = { λ a. AreTables a.scalar.items a.loops.items a.heap.items };
+}
+
+// The first axiom of a table that has this number.
+fn entry(table: &[Axiom], number: u32) -> Option<&Axiom>
+    ensures { option_copied result ≡ find (λ a. a.number == number) table.now }
+{
+    table.iter().find(|axiom| axiom.number == number)
+}
+
+impl Axioms {
+    /// The tables.
+    pub fn new(alloc: Global) -> Result<Axioms, Memory> {
+        Ok(Axioms {
+            scalar: scalar_axioms(alloc)?,
+            loops: loop_axioms(alloc)?,
+            heap: heap_axioms(alloc)?,
+        })
+    }
+
+    /// The axiom with a number, or `None` where no table has one.
+    pub fn axiom(&self, number: u32) -> Option<&Axiom>
+        ensures { MatchOption result (HasNone axioms number) (λ a. IsEntry axioms number (axiom_seen a.now)) }
+    {
+        let scalar = entry(&self.scalar, number);
+        let loops = entry(&self.loops, number);
+        let heap = entry(&self.heap, number);
+        scalar.or(loops.or(heap))
+    }
+
+    /// Whether two nodes are the sides of an instance of the axiom with a number: under a substitution, and
+    /// with some nodes assumed to end.
+    pub fn instance_of(
+        &self,
+        alloc: Global,
+        graph: &Graph,
+        assumed: &[NodeId],
+        number: u32,
+        subst: &[NodeId],
+        left: NodeId,
+        right: NodeId,
+    ) -> Result<bool, Memory>
+        ensures { IfOk result (λ yes. IsTrue yes ↔ Instance graph.now assumed.now number subst.now left right) }
+    {
+        match self.axiom(number) {
+            Some(axiom) => instance(alloc, graph, assumed, axiom, subst, left, right),
+            None => Ok(false),
+        }
+    }
+}

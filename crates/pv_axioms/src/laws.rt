@@ -1,0 +1,28 @@
+//! The laws of the axioms and of sections that use them, each as the contract of a function that does
+//! nothing.
+
+ghost use Rattle.pv_steps.specs.Laws.{AcceptedLeast, AcceptedNotRejected, AcceptedSame, AreSound, RejectedOnce};
+ghost use Rattle.pv_axioms.specs.Entries.{Instance, NumbersOnce, axioms};
+
+/// Each number stands once in the tables.
+pub fn law_numbers()
+    ensures { NumbersOnce axioms }
+{}
+
+/// The axioms are sound.
+pub fn law_sound()
+    ensures { AreSound Instance }
+{}
+
+/// An accepted section makes its two roots the same; and where the graph is the least one of two nodes, it
+/// makes these the same.
+pub fn law_accepted()
+    ensures same { AcceptedSame Instance }
+    ensures least { AcceptedLeast Instance }
+{}
+
+/// What is accepted isn't rejected, and what is rejected is so with one number.
+pub fn law_rejected()
+    ensures not_both { AcceptedNotRejected Instance }
+    ensures once { RejectedOnce Instance }
+{}

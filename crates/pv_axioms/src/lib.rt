@@ -1,0 +1,19 @@
+//! The axioms of all tables, by their numbers, and what an accepted section that uses them shows.
+//!
+//! This layer stands on `pv_scalar`, `pv_loopax` and `pv_heapax`, which have the tables and the laws of their
+//! axioms, and on `pv_steps`, in which the axioms are a relation. `specs/Entries` puts the tables together
+//! (`axioms`), and makes that relation of them: two nodes are the sides of an instance of the axiom with a
+//! number (`Instance`).
+//!
+//! `Axioms` holds the tables: `axiom` gives exactly the entry with a number, and `instance_of` says whether two
+//! nodes are an instance of it. The laws are clauses of functions that do nothing (`laws`): each number stands
+//! once in the tables; the axioms are sound (`AreSound` of `pv_steps`); so an accepted section makes its two
+//! roots the same, and over the least graph of two nodes it makes these the same; and a section is not both
+//! accepted and rejected, nor rejected with two numbers. The layers above also use the lemmas `sound` of
+//! `proofs/Sound` and `same_instance` of `proofs/SameNodes`: graphs of the same nodes have the same instances.
+#![tactic(auto)]
+
+mod axioms;
+pub mod laws;
+
+pub use axioms::Axioms;

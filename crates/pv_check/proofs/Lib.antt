@@ -9,3 +9,6 @@ pub mod Ended
 pub mod Grown
 pub mod Finished
 pub mod Pushed
+pub mod Assumed
+pub mod Chained
+pub mod OneSort

@@ -41,3 +41,8 @@ HasStart g before d there p f = (a b : ℕ) × Shows before there f a b × IsSta
 -- .. and one iteration later
 abbrev pub HasNext : Graph → List Step → ℕ → List OpenBlock → ℕ × ℕ → Fact → Type 0
 HasNext g before d there p f = (a b : ℕ) × Shows before there f a b × (Is g a (op.Shift d) (p.0 ∷ []) × Is g b (op.Shift d) (p.1 ∷ []))
+
+-- the nodes that a step assumes to end, where it opens an ending block
+abbrev pub ending_nodes : Step → Option (List ℕ)
+ending_nodes (Assume p nodes) = Some nodes
+ending_nodes s = None

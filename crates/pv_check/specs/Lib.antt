@@ -6,3 +6,4 @@ pub mod Sets
 pub mod Inductions
 pub mod Growth
 pub mod Endings
+pub mod Sorts

@@ -12,3 +12,4 @@ pub mod Pushed
 pub mod Assumed
 pub mod Chained
 pub mod OneSort
+pub mod Walking

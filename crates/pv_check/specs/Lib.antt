@@ -7,3 +7,5 @@ pub mod Inductions
 pub mod Growth
 pub mod Endings
 pub mod Sorts
+pub mod Spine
+pub mod Waiting

@@ -1,6 +1,7 @@
 //! Scratch.
 #![tactic(auto)]
 
+mod assuming;
 mod endings;
 mod growth;
 mod inductions;
@@ -10,4 +11,5 @@ mod rows;
 mod seen;
 mod sets;
 mod sorts;
+mod spine;
 mod tables;

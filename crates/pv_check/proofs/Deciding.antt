@@ -1,6 +1,6 @@
 -- Tests that are true exactly where something holds, put together.
 use Rattle.std.specs.Prelude.{◌≡◌, ◌⊎◌, ℕ, ℤ, ◌<◌, Bool, true, false, not, ◌&&◌, ◌||◌, nat_lt, List, [], ◌∷◌, Option, Some, None, ◌==◌, refl}
-use Rattle.std.specs.Prelude.{Result, Ok, Err, OnOk}
+use Rattle.std.specs.Prelude.{Result, Ok, Err, OnOk, IfOk, IsTrue, ◌↔◌}
 use Rattle.std.specs.Ordering.{int_eq}
 use Rattle.std.proofs.Common.{inl, inr, subst, arith}
 use Rattle.std.proofs.lemmas.Bool.Decides.{nat_tests, Decides-int_eq}
@@ -44,3 +44,8 @@ bind_some (Some x) f y e = (x, refl, e)
 pub on_ok_both : {A E : Type 0} (r : Result A E) (P Q R : Type 0) → OnOk r P → OnOk r Q → (P → Q → R) → OnOk r R
 on_ok_both (Ok a) P Q R p q f = f p q
 on_ok_both (Err e) P Q R p q f = tt
+
+-- an answer of another question with the same answer
+pub if_ok_map : {E : Type 0} (r : Result Bool E) (P Q : Type 0) → (P ↔ Q) → IfOk r (λ yes. IsTrue yes ↔ P) → IfOk r (λ yes. IsTrue yes ↔ Q)
+if_ok_map (Ok b) P Q f h = (λ e. f.0 (h.0 e), λ q. h.1 (f.1 q))
+if_ok_map (Err e) P Q f h = tt

@@ -13,3 +13,4 @@ pub mod Assumed
 pub mod Chained
 pub mod OneSort
 pub mod Walking
+pub mod WaitingNodes

@@ -9,3 +9,4 @@ pub mod Endings
 pub mod Sorts
 pub mod Spine
 pub mod Waiting
+pub mod Testing

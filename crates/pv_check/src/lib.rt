@@ -13,3 +13,4 @@ mod sets;
 mod sorts;
 mod spine;
 mod tables;
+mod testing;

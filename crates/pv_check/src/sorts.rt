@@ -1,7 +1,7 @@
 //! Whether nodes have one sort. A graph tells no sort, but it tells which operations take a kid, so a
 //! copy of it is asked.
 
-ghost use Rattle.std.specs.Prelude.{◌≡◌, ◌↔◌, ◌<◌, ◌≤◌, false, true, IfOk, IsTrue, length, nat_le};
+ghost use Rattle.std.specs.Prelude.{◌≡◌, ◌↔◌, ◌<◌, ◌≤◌, false, true, ℕ, IfOk, IsTrue, length};
 ghost use Rattle.std.specs.List.{AllByRecursion};
 ghost use Rattle.pv_graph.specs.Calls.{AreNodes, FitsOver};
 ghost use Rattle.pv_graph.specs.Ops.{is_depth};
@@ -92,8 +92,7 @@ fn is_depth(depth: u32) -> bool
 }
 
 impl Seen<'_> {
-    // Whether an induction over the iterations of a depth can be opened for these pairs.
-    pub(crate) fn is_open(
+    fn can_open(
         &self,
         alloc: Global,
         graph: &Graph,
@@ -107,5 +106,19 @@ impl Seen<'_> {
             return Ok(false);
         }
         all_of_one_sort(alloc, graph, pairs)
+    }
+
+    // Whether an induction over the iterations of a depth can be opened for these pairs.
+    pub(crate) fn is_open(
+        &self,
+        alloc: Global,
+        graph: &Graph,
+        depth: u32,
+        pairs: &[(NodeId, NodeId)],
+    ) -> Result<bool, Memory>
+        requires { graph.now.is_open ≡ false }
+        ensures { IfOk result (λ yes. IsTrue yes ↔ ((is_depth depth ≡ true) × IsFresh depth (blocks (open_now self.now.steps.now)) × ((p : ℕ × ℕ) → In pairs.now p → AreOfOneSort graph.now p))) }
+    {
+        self.can_open(alloc, graph, depth, pairs)
     }
 }

@@ -14,3 +14,4 @@ pub mod Chained
 pub mod OneSort
 pub mod Walking
 pub mod WaitingNodes
+pub mod Carried

@@ -15,3 +15,4 @@ pub mod OneSort
 pub mod Walking
 pub mod WaitingNodes
 pub mod Carried
+pub mod Moments

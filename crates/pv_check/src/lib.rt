@@ -5,6 +5,7 @@ mod assuming;
 mod endings;
 mod growth;
 mod inductions;
+mod moment;
 mod nodes;
 mod reasons;
 mod rows;

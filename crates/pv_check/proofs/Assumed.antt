@@ -1,14 +1,14 @@
 -- The nodes that the innermost ending block assumes to end.
-use Rattle.std.specs.Prelude.{◌≡◌, ◌≢◌, ◌↔◌, ℕ, ◌-◌, ◌≤◌, ◌<◌, Bool, List, [], ◌∷◌, length, Option, Some, None, slice_get, refl}
+use Rattle.std.specs.Prelude.{◌≡◌, ◌≢◌, ℕ, ◌-◌, ◌≤◌, Bool, List, [], ◌∷◌, length, Option, Some, None, slice_get, refl}
 use Rattle.std.proofs.Math.ListN.{get_or}
-use Rattle.std.proofs.Common.{sym, ap, ◌∙◌, subst, arith}
+use Rattle.std.proofs.Common.{sym, ap, ◌∙◌, arith}
 use Rattle.std.proofs.lemmas.Option.{same_Some}
 use Rattle.pv_steps.specs.declared.step.Step.{Step}
 use Rattle.pv_steps.specs.declared.step.Step.TheVariants.{Open, Assume}
-use Rattle.pv_steps.specs.Steps.{Block, Loop, Ending, OpenBlock, assumed_in, AreOpen}
-use Rattle.pv_check.specs.Kept.{number_of, blocks_at, open_now, AreKept}
+use Rattle.pv_steps.specs.Steps.{Block, OpenBlock, assumed_in, AreOpen}
+use Rattle.pv_check.specs.Kept.{number_of, blocks_at, AreKept}
 use Rattle.pv_check.specs.Inductions.{block_of, ending_nodes}
-use Rattle.pv_check.proofs.Placed.{OpenedAt, first_opened, self_open}
+use Rattle.pv_check.proofs.Placed.{first_opened, self_open}
 use Rattle.pv_check.proofs.Finding.{same_blocks}
 use Rattle.pv_check.proofs.Fresh.{IsBlock, step_before, next_number}
 

@@ -1,10 +1,8 @@
 -- A step is right over a graph whether the graph is prepared or not.
-use Rattle.std.specs.Prelude.{◌≡◌, ◌↔◌, ℕ, Bool, List, [], ◌∷◌, refl}
+use Rattle.std.specs.Prelude.{ℕ, Bool, List, [], ◌∷◌, refl}
 use Rattle.std.specs.List.{AllZip}
 use Rattle.pv_graph.specs.declared.node.Op.{Op}
 use Rattle.pv_graph.specs.Graphs.{Graph}
-use Rattle.pv_graph.specs.Calls.{appended}
-use Rattle.pv_graph.specs.Nodes.{node_of}
 use Rattle.pv_steps.specs.declared.step.Step.TheVariants as steps
 use Rattle.pv_steps.specs.declared.step.Fact.{Fact}
 use Rattle.pv_steps.specs.declared.step.Step.{Step}
@@ -23,7 +21,18 @@ closes g p before d inside outer [] (f ∷ fs) h = absurd h
 closes g p before d inside outer (q ∷ qs) [] h = absurd h
 closes g p before d inside outer (q ∷ qs) (f ∷ fs) h = (
   let r = h.0 in record {
-    zero_ = r.zero_; first_left = r.first_left; first_right = r.first_right; next_left = r.next_left; next_right = r.next_right; is_zero = r.is_zero; is_first_left = r.is_first_left; is_first_right = r.is_first_right; is_next_left = r.is_next_left; is_next_right = r.is_next_right; starts = r.starts; goes_on = r.goes_on;
+    zero_ = r.zero_;
+    first_left = r.first_left;
+    first_right = r.first_right;
+    next_left = r.next_left;
+    next_right = r.next_right;
+    is_zero = r.is_zero;
+    is_first_left = r.is_first_left;
+    is_first_right = r.is_first_right;
+    is_next_left = r.is_next_left;
+    is_next_right = r.is_next_right;
+    starts = r.starts;
+    goes_on = r.goes_on;
   },
   closes g p before d inside outer qs fs h.1,
 )
@@ -45,8 +54,14 @@ right_same g p before (Assume q nodes) h = record {
   each = λ n m. let r = h.each n m in record { o = r.o; kids = r.kids; is = r.is; waits = r.waits; closed = r.closed; spine = r.spine };
 }
 right_same g p before (Finish q r t f u k) h = record {
-  opened = h.opened; nodes = h.nodes; outer = h.outer; innermost = h.innermost;
+  opened = h.opened;
+  nodes = h.nodes;
+  outer = h.outer;
+  innermost = h.innermost;
   left = record { token = h.left.token; fault_ = h.left.fault_; result = h.left.result; heap = h.left.heap; is = h.left.is };
   right = record { token = h.right.token; fault_ = h.right.fault_; result = h.right.result; heap = h.right.heap; is = h.right.is };
-  tokens = h.tokens; faults = h.faults; results = h.results; heaps = h.heaps;
+  tokens = h.tokens;
+  faults = h.faults;
+  results = h.results;
+  heaps = h.heaps;
 }

@@ -1,6 +1,6 @@
 -- Two facts in a chain.
-use Rattle.std.specs.Prelude.{◌≡◌, ◌≢◌, ◌↔◌, ℕ, Bool, true, false, List, reverse, Option, Some, None, IsTrue}
-use Rattle.std.proofs.Common.{sym, ap, ◌∙◌, subst}
+use Rattle.std.specs.Prelude.{◌≡◌, ◌≢◌, ◌↔◌, ℕ, Bool, false, List, reverse, Option, Some, None, IsTrue}
+use Rattle.std.proofs.Common.{sym, ◌∙◌, subst}
 use Rattle.pv_steps.specs.declared.step.Fact.{Fact}
 use Rattle.pv_steps.specs.declared.step.Step.{Step}
 use Rattle.pv_steps.specs.Steps.{Shows}

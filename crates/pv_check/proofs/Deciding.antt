@@ -1,9 +1,8 @@
 -- Tests that are true exactly where something holds, put together.
-use Rattle.std.specs.Prelude.{◌≡◌, ◌⊎◌, ℕ, ℤ, ◌<◌, Bool, true, false, not, ◌&&◌, ◌||◌, nat_lt, List, [], ◌∷◌, Option, Some, None, ◌==◌, refl}
+use Rattle.std.specs.Prelude.{◌≡◌, ◌⊎◌, ℕ, ◌<◌, Bool, true, false, not, ◌&&◌, ◌||◌, nat_lt, Option, Some, None, ◌==◌, refl}
 use Rattle.std.specs.Prelude.{Result, Ok, Err, OnOk, IfOk, IsTrue, ◌↔◌}
-use Rattle.std.specs.Ordering.{int_eq}
-use Rattle.std.proofs.Common.{inl, inr, subst, arith}
-use Rattle.std.proofs.lemmas.Bool.Decides.{nat_tests, Decides-int_eq}
+use Rattle.std.proofs.Common.{inl, inr, arith}
+use Rattle.std.proofs.lemmas.Bool.Decides.{nat_tests}
 use Rattle.pv_value.specs.Spelled.{bind}
 use Rattle.std.specs.Bool.{Decides}
 
@@ -33,7 +32,6 @@ decides_nat a b = (λ e. grind (arith, nat_tests), λ e. grind (arith, nat_tests
 
 pub decides_less : (a b : ℕ) → Decides (nat_lt a b) (a < b)
 decides_less a b = (λ e. grind (arith, nat_tests), λ e. grind (arith, nat_tests))
-
 
 -- what is bound to something that there is
 pub bind_some : {A B : Type 0} (o : Option A) (f : A → Option B) (y : B) → bind o f ≡ Some y → (x : A) × (o ≡ Some x) × (f x ≡ Some y)

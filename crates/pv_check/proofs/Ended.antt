@@ -1,21 +1,20 @@
 -- What is asked of the step that ends a block.
-use Rattle.std.specs.Prelude.{◌≡◌, ◌≢◌, ◌⊎◌, ◌↔◌, ℕ, zero, suc, ◌-◌, ◌<◌, ◌≤◌, Bool, true, false, List, [], ◌∷◌, length, reverse, Option, Some, None, slice_get, IsTrue, refl, ◌==◌, if◌then◌else◌}
+use Rattle.std.specs.Prelude.{◌≡◌, ◌≢◌, ◌↔◌, ℕ, suc, ◌-◌, ◌<◌, Bool, true, false, List, [], ◌∷◌, length, reverse, Option, Some, None, slice_get, IsTrue, refl, ◌==◌, if◌then◌else◌}
 use Rattle.std.specs.List.{AllZip}
 use Rattle.std.proofs.Math.ListN.{get_or}
 use Rattle.std.proofs.Math.Seq.{drop-cons}
-use Rattle.std.proofs.Common.{inl, inr, drop, sym, ap, ◌∙◌, subst, arith}
+use Rattle.std.proofs.Common.{drop, sym, ap, ◌∙◌, subst, arith}
 use Rattle.std.proofs.lemmas.Bool.Decides.{nat_tests}
 use Rattle.std.proofs.lemmas.Option.{same_Some, slice_get-get_or}
-use Rattle.pv_graph.specs.declared.node.Op.TheVariants as op
 use Rattle.pv_graph.specs.Graphs.{Graph}
 use Rattle.pv_steps.specs.declared.step.Fact.{Fact}
 use Rattle.pv_steps.specs.declared.step.Step.{Step}
 use Rattle.pv_steps.specs.declared.step.Step.TheVariants.{Open, Assume}
-use Rattle.pv_steps.specs.Steps.{Block, Loop, Ending, OpenBlock, outer_of, open_after, AreOpen, Shows}
-use Rattle.pv_steps.specs.Right.{Is, ClosesPair, RightClose}
+use Rattle.pv_steps.specs.Steps.{Block, Loop, OpenBlock, outer_of, open_after, AreOpen, Shows}
+use Rattle.pv_steps.specs.Right.{ClosesPair, RightClose}
 use Rattle.pv_check.specs.declared.seen.Within.{Within}
-use Rattle.pv_check.specs.Kept.{number_of, blocks_at, open_now, region, IsVisible}
-use Rattle.pv_check.specs.Inductions.{block_of, Opens, loop_pairs, IsStart, HasStart, HasNext}
+use Rattle.pv_check.specs.Kept.{number_of, open_now, region, IsVisible}
+use Rattle.pv_check.specs.Inductions.{block_of, Opens, loop_pairs, HasStart, HasNext}
 use Rattle.pv_check.proofs.Placed.{OpenedAt, first_opened, self_open}
 use Rattle.pv_check.proofs.Visible.{pair_are, now_is}
 
@@ -60,7 +59,18 @@ pub closes_parts : (g : Graph) (before : List Step) (d : ℕ) (inside outer : Li
     → (HasStart g before d outer p f.0 × HasNext g before d inside p f.1) ↔ ClosesPair g before d inside outer p f
 closes_parts g before d inside outer p f = (
   λ h. let s = h.0 in let n = h.1 in let i = s.3 in record {
-    zero_ = i.zero_; first_left = s.0; first_right = s.1; next_left = n.0; next_right = n.1; is_zero = i.is_zero; is_first_left = i.is_left; is_first_right = i.is_right; is_next_left = n.3.0; is_next_right = n.3.1; starts = s.2; goes_on = n.2;
+    zero_ = i.zero_;
+    first_left = s.0;
+    first_right = s.1;
+    next_left = n.0;
+    next_right = n.1;
+    is_zero = i.is_zero;
+    is_first_left = i.is_left;
+    is_first_right = i.is_right;
+    is_next_left = n.3.0;
+    is_next_right = n.3.1;
+    starts = s.2;
+    goes_on = n.2;
   },
   λ q. ((q.first_left, q.first_right, q.starts, record { zero_ = q.zero_; is_left = q.is_first_left; is_zero = q.is_zero; is_right = q.is_first_right }), (q.next_left, q.next_right, q.goes_on, (q.is_next_left, q.is_next_right))),
 )
@@ -77,9 +87,9 @@ pub close_some : (g : Graph) (before : List Step) (s : Step) (d : ℕ) (pairs : 
 close_some g before s d pairs fs o e = (
   λ h. record { opened = o.opened; pairs = pairs; outer = o.outer; innermost = o.is ∙ ap (λ (b : Block). record { opened = o.opened; block = b } ∷ o.outer) (is_loop s o.block o.by e); each = subst (λ (q : List OpenBlock). AllZip (ClosesPair g before d (open_after before) q) pairs fs) (ap outer_of o.is) h },
   λ r.
-  let same = heads _ _ _ _ (sym o.is ∙ r.innermost) in
-  let both = loops _ _ _ _ (sym (is_loop s o.block o.by e) ∙ ap (λ (b : OpenBlock). b.block) same.0) in
-  subst (λ (q : List OpenBlock). AllZip (ClosesPair g before d (open_after before) q) pairs fs) (ap outer_of (sym r.innermost)) (subst (λ (q : List (ℕ × ℕ)). AllZip (ClosesPair g before d (open_after before) r.outer) q fs) (sym both.1) r.each),
+      let same = heads _ _ _ _ (sym o.is ∙ r.innermost) in
+      let both = loops _ _ _ _ (sym (is_loop s o.block o.by e) ∙ ap (λ (b : OpenBlock). b.block) same.0) in
+      subst (λ (q : List OpenBlock). AllZip (ClosesPair g before d (open_after before) q) pairs fs) (ap outer_of (sym r.innermost)) (subst (λ (q : List (ℕ × ℕ)). AllZip (ClosesPair g before d (open_after before) r.outer) q fs) (sym both.1) r.each),
 )
   where
     is_loop : (s : Step) (b : Block) → block_of s ≡ Some b → loop_pairs d s ≡ Some pairs → b ≡ Loop d pairs

@@ -1,8 +1,7 @@
 -- What a checker keeps says which fact is cited, and whether it is visible.
-use Rattle.std.specs.Prelude.{◌≡◌, ◌≢◌, ◌⊎◌, ◌↔◌, ℕ, zero, suc, ◌≤◌, ◌<◌, Bool, true, false, ◌||◌, List, [], ◌∷◌, ◌++◌, length, reverse, Option, Some, None, slice_get, ◌==◌, ◌-◌, refl}
-use Rattle.std.specs.Bool.{Decides}
+use Rattle.std.specs.Prelude.{◌≡◌, ◌≢◌, ◌⊎◌, ℕ, zero, suc, ◌≤◌, ◌<◌, Bool, true, false, List, [], ◌∷◌, ◌++◌, length, reverse, Option, Some, None, slice_get, ◌==◌, ◌-◌, refl}
 use Rattle.std.proofs.Math.ListN.{get_or}
-use Rattle.std.proofs.Common.{inl, inr, sym, ap, ◌∙◌, subst, arith, length-append}
+use Rattle.std.proofs.Common.{inl, inr, sym, ap, ◌∙◌, arith, length-append}
 use Rattle.std.proofs.lemmas.Bool.Decides.{nat_tests}
 use Rattle.std.proofs.lemmas.List.{length-reverse}
 use Rattle.std.proofs.lemmas.Option.{same_Some, slice_get_within, slice_get_past, slice_get-get_or, get_or_from_slice_get}
@@ -12,14 +11,13 @@ use Rattle.pv_steps.specs.declared.step.Fact.{Fact}
 use Rattle.pv_steps.specs.declared.step.Step.{Step}
 use Rattle.pv_steps.specs.declared.step.Congruence.{Congruence}
 use Rattle.pv_steps.specs.declared.step.Step.TheVariants.{Axiom, Flip, Chain, Set, Open, Close, Assume, Finish}
-use Rattle.pv_steps.specs.Steps.{Block, Loop, Ending, OpenBlock, both_sides, numbered, outer_of, pairs_of, Stated, states, open_after, stated_at, Equality, equality_of, equality_at, AreOpen}
+use Rattle.pv_steps.specs.Steps.{Block, OpenBlock, both_sides, numbered, pairs_of, Stated, states, open_after, stated_at, equality_of, AreOpen}
 use Rattle.pv_steps.specs.Accepted.{first_steps}
 use Rattle.pv_check.specs.declared.seen.Found.{Found}
-use Rattle.pv_check.specs.Kept.{number_of, blocks_at, open_now, has_opened, is_among, opened_pairs, pairs_opened, step_pairs, AreKept, found_in, found_at}
+use Rattle.pv_check.specs.Kept.{number_of, blocks_at, opened_pairs, pairs_opened, step_pairs, AreKept, found_in, found_at}
 use Rattle.pv_check.specs.Inductions.{block_of}
-use Rattle.pv_check.proofs.Deciding.{decides_nat, decides_true, decides_map, decides_or}
-use Rattle.pv_check.proofs.Fronts.{IsFront, front_tail, front_of, first_front, whole_front, front_is, front_last, front_within, HasAt, has_at, next_first, count_first}
-use Rattle.pv_check.proofs.Placed.{OpenedAt, first_opened, after_opened, self_open}
+use Rattle.pv_check.proofs.Fronts.{has_at, next_first}
+use Rattle.pv_check.proofs.Placed.{first_opened, after_opened, self_open}
 
 -- ---- what a step states
 

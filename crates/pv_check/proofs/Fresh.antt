@@ -1,13 +1,13 @@
 -- The depths of the blocks around a fact.
-use Rattle.std.specs.Prelude.{◌≡◌, ◌≢◌, ◌⊎◌, ◌↔◌, ℕ, zero, suc, ◌-◌, ◌≤◌, ◌<◌, Bool, List, [], ◌∷◌, length, reverse, Option, Some, None, slice_get, refl}
+use Rattle.std.specs.Prelude.{◌≡◌, ◌≢◌, ◌⊎◌, ◌↔◌, ℕ, suc, ◌-◌, ◌≤◌, ◌<◌, Bool, List, [], ◌∷◌, length, reverse, Option, Some, None, slice_get, refl}
 use Rattle.std.proofs.Math.ListN.{get_or}
 use Rattle.std.proofs.Math.Seq.{drop-cons}
 use Rattle.std.proofs.Common.{inl, inr, drop, sym, ap, ◌∙◌, subst, arith}
 use Rattle.std.proofs.lemmas.Option.{same_Some, slice_get-get_or}
 use Rattle.pv_steps.specs.declared.step.Fact.{Fact}
 use Rattle.pv_steps.specs.declared.step.Step.{Step}
-use Rattle.pv_steps.specs.declared.step.Step.TheVariants.{Axiom, Flip, Chain, Set, Open, Close, Assume, Finish}
-use Rattle.pv_steps.specs.Steps.{Block, Loop, Ending, OpenBlock, blocks, AreOpen, Equality, equality_at}
+use Rattle.pv_steps.specs.declared.step.Step.TheVariants.{Open, Assume}
+use Rattle.pv_steps.specs.Steps.{Block, OpenBlock, blocks, AreOpen, Equality, equality_at}
 use Rattle.pv_steps.specs.declared.step.Reason.{Reason}
 use Rattle.pv_steps.specs.declared.step.Reason.TheVariants.{Same}
 use Rattle.pv_steps.specs.Right.{IsFresh, GiveAll}
@@ -15,9 +15,9 @@ use Rattle.pv_check.specs.declared.seen.Found.{Found}
 use Rattle.pv_check.specs.Kept.{number_of, blocks_at, open_now, AreKept, found_in, found_at}
 use Rattle.pv_check.specs.Depths.{IsOfDepth}
 use Rattle.pv_check.specs.Inductions.{block_of}
-use Rattle.pv_check.proofs.Placed.{OpenedAt, first_opened, self_open}
+use Rattle.pv_check.proofs.Placed.{first_opened, self_open}
 use Rattle.pv_check.proofs.Finding.{number_low, same_blocks, inside_at}
-use Rattle.pv_check.proofs.Visible.{Cited, cited, now_is, now_same}
+use Rattle.pv_check.proofs.Visible.{cited, now_is, now_same}
 
 -- the number is that of a block, or 0
 pub record IsBlock (section : List Step) (n : ℕ) : Type 0 where

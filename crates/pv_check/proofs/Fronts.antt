@@ -1,5 +1,5 @@
 -- The first steps of a section.
-use Rattle.std.specs.Prelude.{◌≡◌, ℕ, zero, suc, ◌≤◌, ◌<◌, List, [], ◌∷◌, ◌++◌, length, reverse, take, drop, Some, slice_get, refl}
+use Rattle.std.specs.Prelude.{◌≡◌, ℕ, zero, suc, ◌≤◌, List, [], ◌∷◌, ◌++◌, length, reverse, take, drop, Some, slice_get, refl}
 use Rattle.std.proofs.Common.{sym, ap, ◌∙◌, arith, take_all, append_assoc, subst}
 use Rattle.std.proofs.lemmas.List.{reverse-append, reverse-reverse, length-reverse, take-append-le, take-append-drop, append-nil, length-take-le}
 use Rattle.pv_steps.specs.declared.step.Step.{Step}

@@ -1,13 +1,13 @@
 -- What `add` does at a node step.
-use Rattle.std.specs.Prelude.{◌≡◌, ◌≢◌, ◌⊎◌, ℕ, zero, suc, ◌+◌, ◌-◌, ◌<◌, ◌≤◌, ◌^◌, Bool, true, false, List, [], ◌∷◌, ◌++◌, length, Option, Some, None, slice_get, refl}
+use Rattle.std.specs.Prelude.{◌≡◌, ◌≢◌, ◌⊎◌, ℕ, zero, suc, ◌+◌, ◌-◌, ◌<◌, ◌^◌, false, List, [], ◌∷◌, ◌++◌, length, Some, slice_get, refl}
 use Rattle.std.specs.List.{AllByRecursion}
 use Rattle.std.proofs.Common.{inl, inr, sym, ap, ◌∙◌, subst, arith}
-use Rattle.std.proofs.lemmas.Option.{same_Some, slice_get_within}
+use Rattle.std.proofs.lemmas.Option.{slice_get_within}
 use Rattle.pv_graph.specs.declared.node.Op.{Op}
 use Rattle.pv_graph.specs.declared.node.Node.{Node}
-use Rattle.pv_graph.specs.Nodes.{node_of, IsAbsent, IsFirst}
-use Rattle.pv_graph.specs.Graphs.{Graph, IsGraph}
-use Rattle.pv_graph.specs.Calls.{IsSame, AreNodes, FitsOver, MayAdd, Added, appended}
+use Rattle.pv_graph.specs.Nodes.{node_of, IsAbsent}
+use Rattle.pv_graph.specs.Graphs.{Graph}
+use Rattle.pv_graph.specs.Calls.{IsSame, AreNodes, MayAdd, Added, appended}
 use Rattle.pv_steps.specs.Right.{AddsNode}
 use Rattle.pv_check.specs.Growth.{MayBeNext, NodeAdded}
 

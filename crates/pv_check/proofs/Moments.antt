@@ -1,13 +1,11 @@
 -- The graph of the moment, step by step.
-use Rattle.std.specs.Prelude.{◌≡◌, ◌↔◌, ℕ, Bool, true, false, List, [], ◌∷◌, Result, Ok, Err, IfOk, IsTrue, refl}
+use Rattle.std.specs.Prelude.{◌≡◌, ◌↔◌, ℕ, Bool, true, false, List, Result, Ok, Err, IfOk, IsTrue, refl}
 use Rattle.std.specs.Bool.{OnTrue, OnFalse}
-use Rattle.std.proofs.Common.{sym, ap, ◌∙◌, subst}
 use Rattle.pv_graph.specs.declared.node.Op.{Op}
 use Rattle.pv_graph.specs.Graphs.{Graph}
-use Rattle.pv_graph.specs.Calls.{IsSame}
 use Rattle.pv_steps.specs.declared.step.Step.TheVariants as steps
 use Rattle.pv_steps.specs.declared.step.Step.{Step}
-use Rattle.pv_steps.specs.Right.{AddsNode, Grows, RightOver}
+use Rattle.pv_steps.specs.Right.{AddsNode, RightOver}
 use Rattle.pv_axioms.specs.Entries.{Instance}
 use Rattle.pv_check.specs.Growth.{NodeAdded, GrowsTo}
 

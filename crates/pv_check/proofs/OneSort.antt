@@ -1,16 +1,15 @@
 -- Which operations take two nodes says whether they have one sort.
-use Rattle.std.specs.Prelude.{◌≡◌, ◌≢◌, ◌⊎◌, ◌↔◌, ℕ, zero, suc, ◌<◌, ◌≤◌, Bool, true, false, List, [], ◌∷◌, ◌++◌, length, Option, Some, None, slice_get, refl, if◌then◌else◌}
-use Rattle.std.specs.List.{AllZip, AllByRecursion}
-use Rattle.std.proofs.Common.{inl, inr, sym, ap, ◌∙◌, subst, arith, length-append}
+use Rattle.std.specs.Prelude.{◌≡◌, ◌⊎◌, ℕ, zero, suc, ◌<◌, ◌≤◌, Bool, true, false, List, [], ◌∷◌, ◌++◌, length, Some, None, slice_get, refl, if◌then◌else◌}
+use Rattle.std.proofs.Common.{inl, inr, sym, ap, ◌∙◌, arith, length-append}
 use Rattle.std.proofs.lemmas.Option.{same_Some, slice_get_within}
 use Rattle.pv_graph.specs.declared.node.Op.{Op}
 use Rattle.pv_graph.specs.declared.node.Op.TheVariants as op
 use Rattle.pv_graph.specs.declared.node.OpSort.{OpSort}
 use Rattle.pv_graph.specs.declared.node.OpSort.TheVariants.{I, L, A, N, F, T, H, R}
 use Rattle.pv_graph.specs.Nodes.{node_of, IsAbsent}
-use Rattle.pv_graph.specs.Ops.{same_sort, but_root, sort_over, HasSort, HaveSorts}
+use Rattle.pv_graph.specs.Ops.{same_sort, but_root, sort_over, HaveSorts}
 use Rattle.pv_graph.specs.Graphs.{Graph, IsGraph}
-use Rattle.pv_graph.specs.Calls.{IsSame, FitsOver, Added, AreNodes, appended}
+use Rattle.pv_graph.specs.Calls.{IsSame, FitsOver, Added, appended}
 use Rattle.pv_steps.specs.Right.{AreOfOneSort}
 use Rattle.pv_check.specs.Sorts.{IsWider}
 use Rattle.pv_check.proofs.Visible.{some_at}

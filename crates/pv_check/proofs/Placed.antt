@@ -1,18 +1,15 @@
 -- Open blocks and the steps that opened them.
-use Rattle.std.specs.Prelude.{◌≡◌, ◌≢◌, ◌⊎◌, ℕ, zero, suc, ◌≤◌, ◌<◌, Bool, true, false, ◌||◌, List, [], ◌∷◌, ◌++◌, length, reverse, Option, Some, None, slice_get, ◌==◌, refl}
-use Rattle.std.specs.Bool.{Decides}
+use Rattle.std.specs.Prelude.{◌≡◌, ℕ, suc, ◌≤◌, ◌<◌, List, [], ◌∷◌, ◌++◌, length, Some, slice_get, refl}
 use Rattle.std.proofs.Common.{inl, inr, sym, ap, ◌∙◌, subst, arith, length-append}
-use Rattle.std.proofs.lemmas.Bool.Decides.{nat_tests}
 use Rattle.std.proofs.lemmas.Option.{same_Some}
 use Rattle.pv_steps.specs.declared.step.Step.TheVariants as steps
 use Rattle.pv_steps.specs.declared.step.Step.{Step}
 use Rattle.pv_steps.specs.declared.step.Step.TheVariants.{Axiom, Flip, Chain, Set, Open, Close, Assume, Finish}
-use Rattle.pv_steps.specs.Steps.{Block, Loop, Ending, OpenBlock, outer_of, pairs_of, Stated, states, open_after, stated_at, AreOpen}
+use Rattle.pv_steps.specs.Steps.{Block, Loop, Ending, OpenBlock, outer_of, states, open_after, AreOpen}
 use Rattle.pv_steps.specs.Accepted.{first_steps}
-use Rattle.pv_check.specs.Kept.{number_of, blocks_at, open_now, has_opened, is_among, opened_pairs, pairs_opened}
+use Rattle.pv_check.specs.Kept.{blocks_at}
 use Rattle.pv_check.specs.Inductions.{block_of}
-use Rattle.pv_check.proofs.Deciding.{decides_nat, decides_true, decides_map, decides_or}
-use Rattle.pv_check.proofs.Fronts.{IsFront, front_tail, front_of, first_front, whole_front, front_is, front_last, front_within, HasAt, has_at, next_first, count_first}
+use Rattle.pv_check.proofs.Fronts.{IsFront, front_tail, front_of, first_front, front_is, front_last, has_at, next_first, count_first}
 
 -- a step opened p, when these blocks were open
 pub record IsOpened (before : List Step) (p : OpenBlock) (outer : List OpenBlock) : Type 0 where

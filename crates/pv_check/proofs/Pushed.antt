@@ -1,24 +1,19 @@
 -- What is kept of the steps, with one more.
-use Rattle.std.specs.Prelude.{◌≡◌, ◌≢◌, ◌⊎◌, ℕ, zero, suc, ◌+◌, ◌-◌, ◌<◌, ◌≤◌, Bool, true, false, ◌||◌, List, [], ◌∷◌, ◌++◌, length, reverse, take, Option, Some, None, slice_get, slice_set, ◌==◌, refl}
+use Rattle.std.specs.Prelude.{◌≡◌, ◌≢◌, ◌⊎◌, ℕ, zero, suc, ◌-◌, ◌<◌, ◌≤◌, Bool, true, false, ◌||◌, List, [], ◌∷◌, ◌++◌, length, reverse, Some, slice_get, slice_set, ◌==◌, refl}
 use Rattle.std.specs.Bool.{Decides}
 use Rattle.std.proofs.Math.ListN.{get_or}
-use Rattle.std.proofs.Common.{inl, inr, sym, ap, ◌∙◌, subst, arith, length-append}
-use Rattle.std.proofs.lemmas.Bool.Decides.{nat_tests}
+use Rattle.std.proofs.Common.{inl, inr, sym, ap, ◌∙◌, subst, arith}
 use Rattle.std.proofs.lemmas.List.{reverse-append, length-reverse, take-append-le}
-use Rattle.std.proofs.lemmas.Option.{same_Some, get_or_from_slice_get}
 use Rattle.pv_steps.specs.declared.step.Step.{Step}
 use Rattle.pv_steps.specs.declared.step.Step.TheVariants.{Open, Assume, Close, Finish}
-use Rattle.pv_steps.specs.Steps.{Block, Loop, Ending, OpenBlock, outer_of, Stated, states, open_after, AreOpen}
-use Rattle.pv_steps.specs.Accepted.{first_steps}
-use Rattle.pv_check.specs.declared.tables.Effect.{Effect}
+use Rattle.pv_steps.specs.Steps.{Block, Loop, Ending, OpenBlock, outer_of, states, open_after, AreOpen}
 use Rattle.pv_check.specs.declared.tables.Effect.TheVariants.{Opens, Ends, Stays}
 use Rattle.pv_check.specs.Kept.{number_of, blocks_at, open_now, has_opened, is_among, effect_of, AreKept}
-use Rattle.pv_check.specs.Inductions.{block_of}
 use Rattle.pv_check.proofs.Deciding.{decides_nat}
 use Rattle.pv_check.proofs.Placed.{OpenedAt, first_opened, self_open}
-use Rattle.pv_check.proofs.Finding.{number_low, same_blocks, inside_at, inside_low}
+use Rattle.pv_check.proofs.Finding.{number_low, inside_at, inside_low}
 use Rattle.pv_check.proofs.Ended.{none_open}
-use Rattle.pv_check.proofs.Visible.{now_is, now_same, all_first}
+use Rattle.pv_check.proofs.Visible.{now_is}
 
 before_last : {A : Type 0} (xs : List A) (x : A) (i : ℕ) → i < length xs → slice_get (xs ++ x ∷ []) i ≡ slice_get xs i
 before_last [] x i low = absurd (omega (arith, low))

@@ -1,10 +1,9 @@
 -- A set of congruences is right where its lists are.
-use Rattle.std.specs.Prelude.{◌≡◌, ◌≢◌, ◌⊎◌, ◌↔◌, ℕ, ◌<◌, ◌≤◌, Bool, true, false, List, [], ◌∷◌, length, Option, Some, None, slice_get, refl, if◌then◌else◌}
+use Rattle.std.specs.Prelude.{◌≡◌, ◌≢◌, ◌⊎◌, ◌↔◌, ℕ, ◌<◌, ◌≤◌, Bool, true, false, List, [], ◌∷◌, Option, Some, None, slice_get, refl, if◌then◌else◌}
 use Rattle.std.specs.List.{AllByRecursion}
 use Rattle.std.proofs.Common.{inl, inr, sym, ap, ◌∙◌, subst, arith}
 use Rattle.std.proofs.lemmas.Bool.Decides.{nat_tests}
 use Rattle.std.proofs.lemmas.Option.{same_Some, slice_get_within}
-use Rattle.pv_value.specs.Spelled.{bind}
 use Rattle.pv_graph.specs.declared.node.Op.{Op}
 use Rattle.pv_graph.specs.declared.node.Op.TheVariants as op
 use Rattle.pv_graph.specs.declared.node.OpSort.{OpSort}
@@ -13,12 +12,10 @@ use Rattle.pv_graph.specs.Nodes.{node_of}
 use Rattle.pv_graph.specs.Ops.{shape, is_depth, sort_over, HasSort}
 use Rattle.pv_graph.specs.Walks.{In}
 use Rattle.pv_graph.specs.Graphs.{Graph, IsGraph, IsUnfinished}
-use Rattle.pv_steps.specs.declared.step.Reason.{Reason}
 use Rattle.pv_steps.specs.declared.step.Congruence.{Congruence}
 use Rattle.pv_steps.specs.declared.step.Step.{Step}
-use Rattle.pv_steps.specs.Steps.{OpenBlock, both_sides}
-use Rattle.pv_steps.specs.Right.{Is, looks_at, GiveAll, IsOutside, AreOutside, RightCongruence}
-use Rattle.pv_check.specs.Nodes.{LooksAt}
+use Rattle.pv_steps.specs.Steps.{OpenBlock}
+use Rattle.pv_steps.specs.Right.{Is, looks_at, IsOutside, AreOutside, RightCongruence}
 use Rattle.pv_check.specs.Sets.{AreAlike, LooksElsewhere, IsOutsideAt, KeepsDepth}
 use Rattle.pv_check.proofs.Visible.{some_at}
 
@@ -104,16 +101,16 @@ module _ (g : Graph) (before : List Step) (inside : List OpenBlock) (cs : List C
       λ d low high. keeps d cs h,
     ),
     λ p c m.
-    let a = all_in (AreAlike g before inside cs) cs p.0 c m in
-    record {
-      o = a.o;
-      lefts = a.lefts;
-      rights = a.rights;
-      left = a.left;
-      right = a.right;
-      kids = a.kids;
-      depth = λ d e. let b = depth_of_node g graph c.left a.o a.lefts a.left d e in out c m a d e (p.1 d b.0 b.1);
-    },
+        let a = all_in (AreAlike g before inside cs) cs p.0 c m in
+        record {
+          o = a.o;
+          lefts = a.lefts;
+          rights = a.rights;
+          left = a.left;
+          right = a.right;
+          kids = a.kids;
+          depth = λ d e. let b = depth_of_node g graph c.left a.o a.lefts a.left d e in out c m a d e (p.1 d b.0 b.1);
+        },
   )
     where
       out : (c : Congruence) → In cs c → (a : AreAlike g before inside cs c) → (d : ℕ) → looks_at (shape a.o) ≡ Some d → KeepsDepth g before cs d → AreOutside before cs d

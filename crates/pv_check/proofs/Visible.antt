@@ -1,5 +1,5 @@
 -- Whether a cited equality is visible, by the number of the innermost block around it.
-use Rattle.std.specs.Prelude.{◌≡◌, ◌≢◌, ◌⊎◌, ◌↔◌, ℕ, zero, suc, ◌≤◌, ◌<◌, Bool, true, false, ◌||◌, List, [], ◌∷◌, length, reverse, Option, Some, None, slice_get, ◌==◌, refl}
+use Rattle.std.specs.Prelude.{◌≡◌, ◌≢◌, ◌⊎◌, ◌↔◌, ℕ, zero, suc, ◌≤◌, ◌<◌, Bool, true, List, [], ◌∷◌, length, reverse, Option, Some, None, slice_get, refl}
 use Rattle.std.specs.Bool.{Decides}
 use Rattle.std.proofs.Common.{inl, inr, sym, ap, ◌∙◌, subst, arith, take_all}
 use Rattle.std.proofs.lemmas.List.{length-reverse}
@@ -14,7 +14,7 @@ use Rattle.pv_check.specs.declared.seen.Within.{Within}
 use Rattle.pv_check.specs.declared.seen.Within.TheVariants.{Here, Outside}
 use Rattle.pv_check.specs.Kept.{number_of, blocks_at, open_now, has_opened, is_among, region, IsSeen, IsVisible, AreKept, found_in, found_at}
 use Rattle.pv_check.proofs.Deciding.{bind_some, decides_nat, decides_true, decides_map, decides_or}
-use Rattle.pv_check.proofs.Placed.{self_open, nil_open, outer_open}
+use Rattle.pv_check.proofs.Placed.{self_open, nil_open}
 use Rattle.pv_check.proofs.Finding.{stated_is, not_stated, around_is, number_low, same_blocks}
 
 pub all_first : (section : List Step) → first_steps (length section) section ≡ reverse section
@@ -146,11 +146,11 @@ shows_found section innermost opened kept w f r is a b = go (equality_at (revers
         let seen = seen_open section innermost opened kept w c.n c.low in
         let number : number_of (blocks_at section c.n) ≡ r.around = ap number_of (sym c.around) ∙ ap (λ (x : Found). x.around) same in (
           λ s.
-          let eq : q ≡ record { around = s.around; left = a; right = b } = same_Some _ _ (sym e ∙ s.stated) in (
-            sym (ap (λ (x : Found). x.left) same) ∙ ap (λ (x : Equality). x.left) eq,
-            sym (ap (λ (x : Found). x.right) same) ∙ ap (λ (x : Equality). x.right) eq,
-            subst (IsSeen w section opened) number (seen.1 (subst (λ (x : List OpenBlock). AreOpen x (region w section)) (sym (ap (λ (x : Equality). x.around) eq) ∙ c.around) s.visible)),
-          ),
+              let eq : q ≡ record { around = s.around; left = a; right = b } = same_Some _ _ (sym e ∙ s.stated) in (
+                sym (ap (λ (x : Found). x.left) same) ∙ ap (λ (x : Equality). x.left) eq,
+                sym (ap (λ (x : Found). x.right) same) ∙ ap (λ (x : Equality). x.right) eq,
+                subst (IsSeen w section opened) number (seen.1 (subst (λ (x : List OpenBlock). AreOpen x (region w section)) (sym (ap (λ (x : Equality). x.around) eq) ∙ c.around) s.visible)),
+              ),
           λ h. record {
             around = q.around;
             stated = e ∙ ap Some (sides q a b (ap (λ (x : Found). x.left) same ∙ h.0) (ap (λ (x : Found). x.right) same ∙ h.1));

@@ -1,21 +1,19 @@
 -- Which nodes may be assumed to end.
-use Rattle.std.specs.Prelude.{◌≡◌, ◌≢◌, ◌⊎◌, ◌↔◌, ℕ, ◌<◌, ◌≤◌, Bool, true, List, [], ◌∷◌, length, reverse, Option, Some, None, slice_get, IsTrue, false, refl}
+use Rattle.std.specs.Prelude.{◌≡◌, ◌↔◌, ℕ, ◌<◌, ◌≤◌, Bool, List, [], ◌∷◌, length, Option, Some, None, slice_get, refl}
 use Rattle.std.specs.List.{AllByRecursion}
-use Rattle.std.proofs.Common.{inl, inr, sym, ap, ◌∙◌, subst, arith}
+use Rattle.std.proofs.Common.{inl, sym, ap, ◌∙◌, subst, arith}
 use Rattle.std.proofs.lemmas.Option.{same_Some, slice_get_within}
 use Rattle.pv_value.specs.Spelled.{bind}
 use Rattle.pv_graph.specs.declared.node.Op.{Op}
 use Rattle.pv_graph.specs.declared.node.Op.TheVariants as op
 use Rattle.pv_graph.specs.declared.node.Node.{Node}
 use Rattle.pv_graph.specs.Nodes.{node_of}
-use Rattle.pv_graph.specs.Ops.{shape, theta}
 use Rattle.pv_graph.specs.Forms.{Form, form}
-use Rattle.pv_graph.specs.Walks.{In, Free, here, below, IsClosed, Spine}
+use Rattle.pv_graph.specs.Walks.{Free, here, below, IsClosed, Spine}
 use Rattle.pv_graph.specs.Graphs.{Graph, IsGraph, form_of, form_at}
-use Rattle.pv_graph.specs.Reach.{IsMarked}
 use Rattle.pv_steps.specs.declared.step.Step.{Step}
 use Rattle.pv_steps.specs.Steps.{open_after}
-use Rattle.pv_steps.specs.Right.{Is, looks_at, IsPassOrCallEnd, MayBeAssumed, RootKids, RightAssume}
+use Rattle.pv_steps.specs.Right.{looks_at, MayBeAssumed, RootKids, RightAssume}
 use Rattle.pv_check.specs.declared.endings.RootParts.{RootParts}
 use Rattle.pv_check.specs.Endings.{IsRootOf}
 use Rattle.pv_check.specs.Spine.{IsSpine}

@@ -1,12 +1,11 @@
 -- A walk along the spine of a token.
-use Rattle.std.specs.Prelude.{◌≡◌, ◌≢◌, ◌⊎◌, ◌↔◌, ℕ, zero, suc, ◌+◌, ◌<◌, ◌≤◌, Bool, true, false, List, [], ◌∷◌, ◌++◌, length, replicate, Option, Some, None, slice_get, slice_set, refl}
+use Rattle.std.specs.Prelude.{◌≡◌, ◌⊎◌, ℕ, zero, suc, ◌+◌, ◌<◌, ◌≤◌, Bool, true, false, List, [], ◌∷◌, ◌++◌, length, replicate, Option, Some, None, slice_get, slice_set, refl}
 use Rattle.std.proofs.Common.{inl, inr, sym, ap, ◌∙◌, subst, arith}
 use Rattle.std.proofs.lemmas.Option.{same_Some, slice_get_within}
 use Rattle.pv_value.specs.Spelled.{bind}
 use Rattle.pv_graph.specs.declared.node.Op.{Op}
 use Rattle.pv_graph.specs.declared.node.Op.TheVariants as op
 use Rattle.pv_graph.specs.declared.node.Node.{Node}
-use Rattle.pv_graph.specs.Nodes.{node_of}
 use Rattle.pv_graph.specs.Ops.{shape, eval}
 use Rattle.pv_graph.specs.Forms.{Form, form}
 use Rattle.pv_graph.specs.Walks.{In, Spine, token, left, right, count}
@@ -14,7 +13,7 @@ use Rattle.pv_graph.specs.Graphs.{Graph, IsGraph, form_of, form_at}
 use Rattle.pv_graph.specs.Reach.{IsMarked, unmarked}
 use Rattle.pv_check.specs.declared.spine.Next.{Next}
 use Rattle.pv_check.specs.declared.spine.Next.TheVariants.{Tokens, Count, Nothing}
-use Rattle.pv_check.specs.Spine.{next_by, next_of, IsSpine, SetMark, IsNoted, LeadsOn, IsDone, IsWalk, AreWithin, Follows}
+use Rattle.pv_check.specs.Spine.{next_by, next_of, IsSpine, IsNoted, LeadsOn, IsDone, IsWalk, AreWithin, Follows}
 
 -- ---- marks
 
@@ -73,15 +72,15 @@ noted_already marks work n e = record { long = refl; kept = λ m h. h; only = λ
 
 pub noted_new : (marks new : List Bool) (work after : List ℕ) (n : ℕ) → slice_get marks n ≡ Some false → new ≡ slice_set marks n true → after ≡ work ++ n ∷ [] → IsNoted marks new work after n
 noted_new marks new work after n e f g = subst (λ (q : List Bool). IsNoted marks q work after n) (sym f) (subst (λ (q : List ℕ). IsNoted marks (slice_set marks n true) work q n) (sym g) (record {
-      long = set_long marks n;
-      kept = set_kept marks n;
-      only = set_only marks n;
-      there = set_there marks n (slice_get_within marks n false e);
-      waits = in_more work n;
-      noted = λ m h. elim (set_only marks n m h) [ inl z ↦ inl z | inr z ↦ inr (subst (In (work ++ n ∷ [])) (sym z) (in_push work n)) ];
-      queued = in_less work n;
-      count = let a = set_count marks n e in let b = push_long work n in omega (arith, a, b);
-    }))
+  long = set_long marks n;
+  kept = set_kept marks n;
+  only = set_only marks n;
+  there = set_there marks n (slice_get_within marks n false e);
+  waits = in_more work n;
+  noted = λ m h. elim (set_only marks n m h) [ inl z ↦ inl z | inr z ↦ inr (subst (In (work ++ n ∷ [])) (sym z) (in_push work n)) ];
+  queued = in_less work n;
+  count = let a = set_count marks n e in let b = push_long work n in omega (arith, a, b);
+}))
 
 -- ---- where the spine goes on
 
@@ -147,14 +146,14 @@ replicate_long (suc len) = ap suc (replicate_long len)
 
 pub walk_start : (nodes : List Node) (t len : ℕ) (spine walked : List Bool) (work : List ℕ) → len ≡ length nodes → spine ≡ replicate len false → IsNoted (replicate len false) walked [] work t → IsWalk nodes t spine walked work
 walk_start nodes t len spine walked work e is h = subst (λ (q : List Bool). IsWalk nodes t q walked work) (sym is) (record {
-    long = replicate_long len ∙ e;
-    wide = h.long ∙ replicate_long len ∙ e;
-    start = h.there;
-    found = λ n m. absurd (none_marked len n m);
-    leads = λ n m k s. elim (h.only n m) [ inl z ↦ absurd (none_marked len n z) | inr z ↦ subst (λ (q : ℕ). Spine (form_at nodes) q k) z s ];
-    waits = λ n m. elim (h.queued n m) [ inl z ↦ absurd z | inr z ↦ subst (IsMarked walked) (sym z) h.there ];
-    done = λ n m. elim (h.noted n m) [ inl z ↦ absurd (none_marked len n z) | inr z ↦ inl z ];
-  })
+  long = replicate_long len ∙ e;
+  wide = h.long ∙ replicate_long len ∙ e;
+  start = h.there;
+  found = λ n m. absurd (none_marked len n m);
+  leads = λ n m k s. elim (h.only n m) [ inl z ↦ absurd (none_marked len n z) | inr z ↦ subst (λ (q : ℕ). Spine (form_at nodes) q k) z s ];
+  waits = λ n m. elim (h.queued n m) [ inl z ↦ absurd z | inr z ↦ subst (IsMarked walked) (sym z) h.there ];
+  done = λ n m. elim (h.noted n m) [ inl z ↦ absurd (none_marked len n z) | inr z ↦ inl z ];
+})
 
 -- what a step changes, whichever it is
 record Steps (nodes : List Node) (t n : ℕ) (spine spine' walked walked' : List Bool) (rest work : List ℕ) : Type 0 where
@@ -233,8 +232,8 @@ walk_step nodes t n node spine spine' walked walked' rest work at low w next is 
             | inr y ↦ inr (subst (IsMarked walked') (sym y) two.there)
           ];
           done = done_by nodes spine' walked' n node at (subst (λ (q : List Bool). IsMarked q n) (sym set) here)
-          (λ x y e. let z = tokens_same a b x y (sym is ∙ e) in (subst (IsMarked walked') z.0 (two.kept a one.there), subst (IsMarked walked') z.1 two.there))
-          (λ p e. absurd (let z = sym is ∙ e in cc));
+              (λ x y e. let z = tokens_same a b x y (sym is ∙ e) in (subst (IsMarked walked') z.0 (two.kept a one.there), subst (IsMarked walked') z.1 two.there))
+              (λ p e. absurd (let z = sym is ∙ e in cc));
         }
     go (Count p) is (set, (same, work_)) within =
         let view = eval_form nodes n node p at is in
@@ -251,8 +250,8 @@ walk_step nodes t n node spine spine' walked walked' rest work at low w next is 
           waits = λ m h. subst (λ (q : List ℕ). In q m) (sym work_) h;
           queued = λ m h. inl (subst (λ (q : List ℕ). In q m) work_ h);
           done = done_by nodes spine' walked' n node at (subst (λ (q : List Bool). IsMarked q n) (sym set) (set_kept (slice_set spine n true) p n here))
-          (λ x y e. absurd (let z = sym is ∙ e in cc))
-          (λ q e. subst (IsMarked spine') (count_same p q (sym is ∙ e)) there);
+              (λ x y e. absurd (let z = sym is ∙ e in cc))
+              (λ q e. subst (IsMarked spine') (count_same p q (sym is ∙ e)) there);
         }
     go Nothing is (set, (same, work_)) within = record {
       long = ap length set ∙ set_long spine n;
@@ -265,7 +264,7 @@ walk_step nodes t n node spine spine' walked walked' rest work at low w next is 
       waits = λ m h. subst (λ (q : List ℕ). In q m) (sym work_) h;
       queued = λ m h. inl (subst (λ (q : List ℕ). In q m) work_ h);
       done = done_by nodes spine' walked' n node at (subst (λ (q : List Bool). IsMarked q n) (sym set) here)
-      (λ x y e. absurd (let z = sym is ∙ e in cc)) (λ q e. absurd (let z = sym is ∙ e in cc));
+          (λ x y e. absurd (let z = sym is ∙ e in cc)) (λ q e. absurd (let z = sym is ∙ e in cc));
     }
 
 pub walk_count : (next : Next) (n : ℕ) (spine spine' walked walked' : List Bool) (rest work : List ℕ) → Follows next n spine spine' walked walked' rest work → length work + unmarked walked' ≡ length rest + unmarked walked

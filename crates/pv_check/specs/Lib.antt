@@ -1,4 +1,4 @@
--- what the contracts of this crate say
+-- what contracts say
 pub mod Kept
 pub mod Depths
 pub mod Nodes

@@ -1,5 +1,5 @@
 -- What is asked of a set of congruences, one list after another.
-use Rattle.std.specs.Prelude.{◌≡◌, ◌⊎◌, ℕ, ◌≤◌, ◌<◌, List}
+use Rattle.std.specs.Prelude.{◌⊎◌, ℕ, ◌≤◌, ◌<◌, List}
 use Rattle.std.specs.List.{AllByRecursion}
 use Rattle.pv_graph.specs.declared.node.Op.{Op}
 use Rattle.pv_graph.specs.Graphs.{Graph}

@@ -1,5 +1,5 @@
 -- Nodes that may be assumed to end.
-use Rattle.std.specs.Prelude.{◌≡◌, ℕ, ◌<◌, ◌≤◌, Bool, List}
+use Rattle.std.specs.Prelude.{ℕ, ◌<◌, ◌≤◌, Bool, List}
 use Rattle.pv_graph.specs.declared.node.Op.{Op}
 use Rattle.pv_graph.specs.Graphs.{Graph}
 use Rattle.pv_graph.specs.Calls.{IsFree}

@@ -50,13 +50,7 @@ pub(crate) fn grow(
     }
     let op = op.copy(alloc)?;
     match graph.add(alloc, op, kids) {
-        Ok(added) => {
-            if added == n {
-                Ok(true)
-            } else {
-                Ok(false)
-            }
-        }
+        Ok(added) => { if added == n { Ok(true) } else { Ok(false) } }
         Err(GraphFault::Sort) => Ok(false),
         Err(GraphFault::Memory) => Err(Memory),
     }

@@ -37,13 +37,7 @@ fn is_eval_at_zero(graph: &Graph, n: NodeId, depth: u32, kid: NodeId, count: Nod
 }
 
 // Whether these two nodes are a pair at iteration 0.
-fn is_start(
-    graph: &Graph,
-    depth: u32,
-    pair: (NodeId, NodeId),
-    left: NodeId,
-    right: NodeId,
-) -> bool
+fn is_start(graph: &Graph, depth: u32, pair: (NodeId, NodeId), left: NodeId, right: NodeId) -> bool
     ensures { IsTrue result ↔ IsStart graph.now depth pair left right }
 {
     match count_of(graph, left, depth, pair.0) {

@@ -48,20 +48,12 @@ pub(crate) fn is_shift(graph: &Graph, n: NodeId, depth: u32, kid: NodeId) -> boo
 }
 
 // Whether node n is the eval of this depth over the kid and the count.
-pub(crate) fn is_eval(
-    graph: &Graph,
-    n: NodeId,
-    depth: u32,
-    kid: NodeId,
-    count: NodeId,
-) -> bool
+pub(crate) fn is_eval(graph: &Graph, n: NodeId, depth: u32, kid: NodeId, count: NodeId) -> bool
     ensures { IsTrue result ↔ Is graph.now n (Op.Eval depth) (kid ∷ count ∷ []) }
 {
     match node_at(graph, n) {
         Some(node) => match (&node.op, node.kids.as_slice()) {
-            (Op::Eval(d), [first, second]) => {
-                *d == depth && *first == kid && *second == count
-            }
+            (Op::Eval(d), [first, second]) => { *d == depth && *first == kid && *second == count }
             _ => false,
         },
         None => false,

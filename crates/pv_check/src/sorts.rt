@@ -17,12 +17,7 @@ use pv_value::Memory;
 use std::alloc::Global;
 
 // Whether the operation takes these kids; the node is added then.
-fn fits(
-    alloc: Global,
-    probe: &mut Graph,
-    op: Op,
-    kids: &[NodeId],
-) -> Result<bool, Memory>
+fn fits(alloc: Global, probe: &mut Graph, op: Op, kids: &[NodeId]) -> Result<bool, Memory>
     requires kids { AreNodes probe.old kids.now }
     requires sealed { probe.old.is_open ≡ false }
     ensures fits { IfOk result (λ yes. IsTrue yes ↔ FitsOver probe.old op kids.now) }
@@ -67,11 +62,7 @@ fn are_of_one_sort(
 }
 
 // Whether each pair is of two nodes of one sort.
-fn all_of_one_sort(
-    alloc: Global,
-    graph: &Graph,
-    pairs: &[(NodeId, NodeId)],
-) -> Result<bool, Memory>
+fn all_of_one_sort(alloc: Global, graph: &Graph, pairs: &[(NodeId, NodeId)]) -> Result<bool, Memory>
     requires { graph.now.is_open ≡ false }
     ensures { IfOk result (λ yes. IsTrue yes ↔ AllByRecursion (AreOfOneSort graph.now) pairs.now) }
 {

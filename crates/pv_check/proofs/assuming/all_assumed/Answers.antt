@@ -13,8 +13,7 @@ spine_of-requires c =
 pub returns : goal.returns
 returns c =
     let same : c.prepare.new.self.nodes ≡ c.args.graph.now.nodes = ap (λ (g : Graph). g.nodes) c.in_ok-prepare.ensures.ok ∙ ap (λ (g : Graph). g.nodes) c.in_ok-prepared.ensures in
-    let all = all_may_be_is c.prepare.new.self c.len.ensures.graph c.args.token c.deref.result.now (subst (IsSpine c.prepare.new.self.nodes c.args.token) (sym c.deref.ensures.value) c.in_ok-spine.ensures) c.args.nodes.now in
-    (
+    let all = all_may_be_is c.prepare.new.self c.len.ensures.graph c.args.token c.deref.result.now (subst (IsSpine c.prepare.new.self.nodes c.args.token) (sym c.deref.ensures.value) c.in_ok-spine.ensures) c.args.nodes.now in (
       λ e. same_assumed c.prepare.new.self c.args.graph.now same c.args.token c.args.nodes.now (all.0 (c.all_may_be.ensures.0 e)),
       λ h. c.all_may_be.ensures.1 (all.1 (same_assumed c.args.graph.now c.prepare.new.self (sym same) c.args.token c.args.nodes.now h)),
     )

@@ -1,4 +1,4 @@
-use Rattle.std.proofs.Common.{◌≡◌, subst, sym, ap, ℕ}
+use Rattle.std.proofs.Common.{subst, ℕ}
 use Rattle.pv_graph.specs.declared.node.Op.{Op}
 use Rattle.pv_graph.specs.Calls.{Added}
 use Rattle.pv_check.proofs.Grown.{sealed_may, next_nodes, not_next, is_new, is_old}

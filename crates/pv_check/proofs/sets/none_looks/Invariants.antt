@@ -1,4 +1,4 @@
-use Rattle.std.proofs.Common.{◌↔◌, ◌≤◌, ◌<◌, ℕ, drop, reverse}
+use Rattle.std.proofs.Common.{◌↔◌, drop}
 use Rattle.std.specs.List.{AllByRecursion}
 use Rattle.pv_check.specs.Sets.{LooksElsewhere}
 use Rattle.pv_check.proofs.sets.none_looks.Given as goal

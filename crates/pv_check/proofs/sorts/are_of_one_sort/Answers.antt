@@ -1,12 +1,12 @@
 use Rattle.pv_graph.specs.declared.node.OpSort.TheVariants.{R}
-use Rattle.std.proofs.Common.{refl, sym, ◌∙◌, arith, inl, inr}
-use Rattle.pv_check.proofs.OneSort.{wider_more, theta_fits, shift_fits, no_shift, no_theta, root_too, no_node}
+use Rattle.std.proofs.Common.{refl, arith}
+use Rattle.pv_check.proofs.OneSort.{wider_more, theta_fits, shift_fits, no_shift, no_theta}
 use Rattle.pv_check.proofs.sorts.are_of_one_sort.Goals as goal
 
 pub returns-then-branch-clause-sort : goal.returns-then-branch-clause-sort
 returns-then-branch-clause-sort c = (
   λ yes. theta_fits c.args.graph.now c.args.probe.now c.len-len.ensures.graph c.requires.wider c.args.pair.0 c.args.pair.1 (let e = c.len-len.ensures.len in let z = c.if-a-len.false in omega (arith, e, z)) (let e = c.len-len.ensures.len in let z = c.if-b-len.false in omega (arith, e, z))
-  (c.in_ok-fits.ensures.fits.0 c.if-branch.true),
+      (c.in_ok-fits.ensures.fits.0 c.if-branch.true),
   λ h. refl,
 )
 
@@ -21,13 +21,12 @@ pub returns-then-branch-2-clause-sort : goal.returns-then-branch-2-clause-sort
 returns-then-branch-2-clause-sort c =
     let e = c.len-len.ensures.len in
     let za = c.if-a-len.false in
-    let zb = c.if-b-len.false in
-    (
+    let zb = c.if-b-len.false in (
       λ yes. absurd (cc),
       λ h. absurd (shift_fits c.args.graph.now c.fits.new.probe c.len-len.ensures.graph (wider_more c.args.graph.now c.args.probe.now c.fits.new.probe c.requires.wider c.fits.ensures.wider) c.args.pair.0 c.args.pair.1 (omega (arith, e, za)) (omega (arith, e, zb))
-      (c.in_ok-fits-2.ensures.fits.0 c.if-branch-2.true)
-      (no_theta c.args.graph.now c.args.probe.now c.len-len.ensures.graph c.requires.wider c.args.pair.0 c.args.pair.1 (omega (arith, e, za)) (omega (arith, e, zb))
-      (λ f. let z = c.in_ok-fits.ensures.fits.1 f in let y = c.if-branch.false in absurd (cc)) h)),
+          (c.in_ok-fits-2.ensures.fits.0 c.if-branch-2.true)
+          (no_theta c.args.graph.now c.args.probe.now c.len-len.ensures.graph c.requires.wider c.args.pair.0 c.args.pair.1 (omega (arith, e, za)) (omega (arith, e, zb))
+          (λ f. let z = c.in_ok-fits.ensures.fits.1 f in let y = c.if-branch.false in absurd (cc)) h)),
     )
 
 pub returns-in_err-fits-3-clause-wider : goal.returns-in_err-fits-3-clause-wider

@@ -1,4 +1,4 @@
-use Rattle.std.proofs.Common.{◌≡◌, ◌++◌, ◌∷◌, [], List, ℕ, length, subst, sym, ◌∙◌, arith}
+use Rattle.std.proofs.Common.{◌≡◌, length, subst, sym, arith}
 use Rattle.pv_check.specs.declared.spine.Next.{Next}
 use Rattle.pv_check.specs.Spine.{IsWalk, AreWithin}
 use Rattle.pv_check.proofs.Walking.{walk_step, walk_done, walk_low, next_within}

@@ -1,4 +1,4 @@
-use Rattle.std.proofs.Common.{◌↔◌, ◌≤◌, ◌<◌, ℕ, drop, reverse}
+use Rattle.std.proofs.Common.{◌↔◌, drop, reverse}
 use Rattle.std.specs.List.{AllByRecursion}
 use Rattle.pv_check.specs.Sets.{AreAlike}
 use Rattle.pv_check.specs.Kept.{open_now}

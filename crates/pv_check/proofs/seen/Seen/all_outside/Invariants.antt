@@ -1,4 +1,4 @@
-use Rattle.std.proofs.Common.{◌↔◌, ◌≤◌, ◌<◌, ℕ, drop, reverse}
+use Rattle.std.proofs.Common.{◌↔◌, drop, reverse}
 use Rattle.std.specs.List.{AllByRecursion}
 use Rattle.pv_steps.specs.Right.{IsOutside}
 use Rattle.pv_check.proofs.seen.Seen.all_outside.Given as goal

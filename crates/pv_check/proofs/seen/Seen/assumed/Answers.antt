@@ -1,7 +1,7 @@
-use Rattle.std.proofs.Common.{◌≢◌, ℕ, sym, subst, ap, ◌∙◌}
+use Rattle.std.proofs.Common.{sym, subst, ap, ◌∙◌}
 use Rattle.pv_steps.specs.Steps.{assumed_in}
 use Rattle.pv_check.proofs.Fresh.{IsBlock, now_block, now_around, next_smaller, next_block}
-use Rattle.pv_check.proofs.Assumed.{assumed_here, assumed_next}
+use Rattle.pv_check.proofs.Assumed.{assumed_next}
 use Rattle.pv_check.proofs.seen.Seen.assumed.Goals as goal
 
 pub loop-around-init : goal.loop-around-init

@@ -1,4 +1,4 @@
-use Rattle.std.proofs.Common.{◌≡◌, ℕ}
+use Rattle.std.proofs.Common.{◌≡◌}
 use Rattle.pv_steps.specs.Steps.{assumed_in}
 use Rattle.pv_check.specs.Kept.{blocks_at, open_now}
 use Rattle.pv_check.proofs.Fresh.{IsBlock}

@@ -1,5 +1,5 @@
-use Rattle.std.proofs.Common.{Some, None, sym, inl, inr, ◌∙◌, ap, arith}
-use Rattle.pv_check.proofs.Finding.{no_fact, fact_by, read_at, inside_low}
+use Rattle.std.proofs.Common.{Some, None, sym, inl, inr, ◌∙◌, arith}
+use Rattle.pv_check.proofs.Finding.{no_fact, fact_by, inside_low}
 use Rattle.pv_check.proofs.seen.Seen.found.Goals.{then-k-eq0-via-then-k-eq0, then-k-eq0-via-else-k-eq0+then-k-self}
 use Rattle.pv_check.proofs.seen.Seen.found.Goals as goal
 

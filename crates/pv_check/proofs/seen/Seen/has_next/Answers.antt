@@ -1,4 +1,4 @@
-use Rattle.std.proofs.Common.{ℕ, [], ◌∷◌}
+use Rattle.std.proofs.Common.{[], ◌∷◌}
 use Rattle.pv_graph.specs.declared.node.Op.TheVariants as op
 use Rattle.pv_steps.specs.Right.{Is}
 use Rattle.pv_check.specs.declared.seen.Within.TheVariants.{Here}

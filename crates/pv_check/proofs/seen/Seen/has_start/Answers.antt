@@ -1,4 +1,3 @@
-use Rattle.std.proofs.Common.{ℕ}
 use Rattle.pv_check.specs.declared.seen.Within.TheVariants.{Outside}
 use Rattle.pv_check.specs.Inductions.{IsStart}
 use Rattle.pv_check.proofs.Ended.{visible_some, visible_none}

@@ -1,4 +1,4 @@
-use Rattle.std.proofs.Common.{◌↔◌, IfOk, IsTrue, reverse, sym, ◌∙◌}
+use Rattle.std.proofs.Common.{reverse, sym, ◌∙◌}
 use Rattle.std.specs.List.{AllByRecursion}
 use Rattle.pv_steps.specs.Right.{MayBeAssumed, RightAssume}
 use Rattle.pv_check.proofs.Ended.{none_open}

@@ -1,4 +1,3 @@
-use Rattle.std.proofs.Common.{◌≢◌, ℕ}
 use Rattle.pv_check.proofs.Fresh.{next_smaller, next_block, next_fresh}
 use Rattle.pv_check.proofs.seen.Seen.is_fresh.Goals as goal
 

@@ -1,4 +1,4 @@
-use Rattle.std.proofs.Common.{◌↔◌, ℕ}
+use Rattle.std.proofs.Common.{◌↔◌}
 use Rattle.pv_steps.specs.Right.{IsFresh}
 use Rattle.pv_steps.specs.Steps.{blocks}
 use Rattle.pv_check.specs.Kept.{blocks_at}

@@ -1,4 +1,4 @@
-use Rattle.std.proofs.Common.{ℕ, List, sym, subst, ap, ◌∙◌}
+use Rattle.std.proofs.Common.{List, sym, subst}
 use Rattle.pv_steps.specs.Right.{IsFresh}
 use Rattle.pv_steps.specs.Steps.{OpenBlock, blocks}
 use Rattle.pv_check.proofs.Fresh.{IsBlock, now_block, now_around}

@@ -1,7 +1,7 @@
 use Rattle.std.proofs.Common.{sym, ◌∙◌, ◌↔◌, IsTrue, reverse, subst}
 use Rattle.pv_steps.specs.declared.step.Reason.{Reason}
 use Rattle.pv_steps.specs.Right.{IsOutside}
-use Rattle.pv_check.proofs.Fresh.{outside_found, outside_none}
+use Rattle.pv_check.proofs.Fresh.{outside_found}
 use Rattle.pv_check.proofs.seen.Seen.is_outside.Goals as goal
 
 pub is_fresh-requires : goal.is_fresh-requires

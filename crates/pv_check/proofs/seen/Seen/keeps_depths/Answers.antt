@@ -1,4 +1,4 @@
-use Rattle.std.proofs.Common.{◌≡◌, ◌⊎◌, ◌<◌, ◌+◌, ℕ, refl, inl, inr, arith, reverse, subst, sym, ap}
+use Rattle.std.proofs.Common.{◌≡◌, ◌⊎◌, ◌<◌, ◌+◌, ℕ, refl, inl, inr, arith, reverse, subst, sym}
 use Rattle.pv_check.specs.Sets.{KeepsDepth}
 use Rattle.pv_check.proofs.seen.Seen.keeps_depths.Goals as goal
 

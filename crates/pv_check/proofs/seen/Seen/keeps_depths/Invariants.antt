@@ -1,5 +1,4 @@
-use Rattle.std.proofs.Common.{◌↔◌, ◌≤◌, ◌<◌, ℕ, drop, reverse}
-use Rattle.std.specs.List.{AllByRecursion}
+use Rattle.std.proofs.Common.{◌≤◌, ◌<◌, ℕ, reverse}
 use Rattle.pv_check.specs.Sets.{KeepsDepth}
 use Rattle.pv_check.proofs.seen.Seen.keeps_depths.Given as goal
 

@@ -1,4 +1,4 @@
-use Rattle.std.proofs.Common.{sym, ◌∙◌, ℕ, ◌-◌, subst, ap}
+use Rattle.std.proofs.Common.{sym, ◌∙◌, ℕ, ◌-◌, subst}
 use Rattle.std.proofs.Math.ListN.{get_or}
 use Rattle.pv_check.specs.Kept.{open_now}
 use Rattle.pv_check.specs.Inductions.{Opens}

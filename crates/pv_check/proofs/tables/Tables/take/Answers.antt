@@ -1,5 +1,4 @@
-use Rattle.std.proofs.Common.{◌≡◌, ◌∷◌, ◌++◌, [], List, Bool, true, false, ℕ, ◌+◌, ◌-◌, suc, length, slice_set, sym, ◌∙◌, ap, subst, arith, add-one}
-use Rattle.std.proofs.Math.ListN.{get_or}
+use Rattle.std.proofs.Common.{◌∷◌, ◌++◌, [], List, Bool, true, false, ℕ, length, slice_set, sym, ◌∙◌, ap, subst, arith, add-one}
 use Rattle.pv_check.specs.Kept.{AreKept}
 use Rattle.pv_check.proofs.Deciding.{on_ok_both}
 use Rattle.pv_check.proofs.Pushed.{take_opens, take_ends, take_no_end, take_stays, ends_low, carried}

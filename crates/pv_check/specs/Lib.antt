@@ -1,0 +1,12 @@
+-- what contracts say
+pub mod Kept
+pub mod Depths
+pub mod Nodes
+pub mod Sets
+pub mod Inductions
+pub mod Growth
+pub mod Endings
+pub mod Sorts
+pub mod Spine
+pub mod Waiting
+pub mod Testing

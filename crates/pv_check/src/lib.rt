@@ -1,0 +1,35 @@
+//! Whether the steps of a certificate are right.
+//!
+//! This layer stands on `pv_steps`, whose `specs/Right` says when a step is right after those before it
+//! (`RightOver`), on `pv_axioms` for the axioms (`Instance`), and on `pv_graph`. It takes the steps of a
+//! section in order, and looks at no step twice: each is tested over the graph of the moment and by what is
+//! kept of the steps so far.
+//!
+//! What is kept (`specs/Kept`, `AreKept`): of each number of steps the innermost block that is open after
+//! them, and of each block whether it is open now. A block goes by the number of the step that opened it.
+//! `tables` keeps it, step by step. `seen` finds from it in constant time which equality a fact cites
+//! (`found_at`), and whether it is visible (`IsVisible`): all blocks around it are open where the innermost
+//! is. `reasons` follows the blocks outwards for the depths of loops.
+//!
+//! Each row of steps has its function, whose contract is that it answers exactly the relation of that row:
+//! `growth` for node steps, `rows` for axioms and chains, `sets` for congruences, `sorts` and `inductions`
+//! for what opens and closes an induction, `assuming`, `spine` and `endings` for ending blocks. `testing`
+//! puts them together: `is_right` is yes exactly where `RightOver` holds at the axioms of all tables, and
+//! `takes` of `moment` also makes the graph that the step leaves (`GrowsTo`). The layer above is to walk over
+//! a section with `takes` and `Tables::take`.
+#![tactic(auto)]
+
+mod assuming;
+mod endings;
+mod growth;
+mod inductions;
+mod moment;
+mod nodes;
+mod reasons;
+mod rows;
+mod seen;
+mod sets;
+mod sorts;
+mod spine;
+mod tables;
+mod testing;

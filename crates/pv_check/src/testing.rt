@@ -1,0 +1,51 @@
+//! Whether a step is right over the graph of the moment.
+
+ghost use Rattle.std.specs.Prelude.{◌≡◌, ◌↔◌, IfOk, IsTrue, false, reverse};
+ghost use Rattle.pv_steps.specs.Right.{RightOver};
+ghost use Rattle.pv_axioms.specs.Entries.{Instance};
+ghost use Rattle.pv_check.specs.Testing.{IsNoNode};
+
+use crate::endings::RootReasons;
+use crate::seen::{Seen, Within};
+use pv_axioms::Axioms;
+use pv_graph::Graph;
+use pv_steps::Step;
+use pv_value::Memory;
+use std::alloc::Global;
+
+impl Seen<'_> {
+    // Whether a step that adds no node is right after those so far, over their graph.
+    pub(crate) fn is_right(
+        &self,
+        alloc: Global,
+        axioms: &Axioms,
+        graph: &Graph,
+        step: &Step,
+    ) -> Result<bool, Memory>
+        requires sealed { graph.now.is_open ≡ false }
+        requires no_node { IsNoNode step.now }
+        ensures { IfOk result (λ yes. IsTrue yes ↔ RightOver Instance graph.now (reverse self.now.steps.now) step.now) }
+    {
+        match step {
+            Step::Axiom(number, a, b, nodes) => {
+                self.is_axiom(alloc, axioms, graph, *number, *a, *b, nodes.as_slice())
+            }
+            Step::Flip(a, b, fact) => Ok(self.shows(Within::Here, *fact, *b, *a)),
+            Step::Chain(a, b, first, second) => Ok(self.is_chain(*a, *b, *first, *second)),
+            Step::Set(congruences) => Ok(self.is_set(graph, congruences.as_slice())),
+            Step::Open(depth, pairs) => self.is_open(alloc, graph, *depth, pairs.as_slice()),
+            Step::Close(depth, facts) => Ok(self.is_close(graph, *depth, facts.as_slice())),
+            Step::Assume(p, nodes) => self.is_assume(alloc, graph, *p, nodes.as_slice()),
+            Step::Finish(p, q, token, fault, result_, heap) => {
+                let reasons = RootReasons {
+                    token: *token,
+                    fault: *fault,
+                    result: *result_,
+                    heap: *heap,
+                };
+                Ok(self.is_finish(graph, *p, *q, reasons))
+            }
+            Step::Node(_, _, _) => unreachable!(),
+        }
+    }
+}

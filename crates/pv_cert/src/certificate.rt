@@ -115,11 +115,7 @@ fn cert_of(
 }
 
 // The certificate whose lines after the digest of the first file these are.
-fn after_first<'w>(
-    alloc: Global,
-    first: [u8; 32],
-    lines: &'w [&'w [u8]],
-) -> Result<Cert, CertFault>
+fn after_first<'w>(alloc: Global, first: [u8; 32], lines: &'w [&'w [u8]]) -> Result<Cert, CertFault>
     ensures { Gives result (read_after_header (read_second first (texts lines.now))) }
 {
     match lines {

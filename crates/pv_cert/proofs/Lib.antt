@@ -18,3 +18,4 @@ pub mod WordLaws
 pub mod LineLaws
 pub mod Following
 pub mod CertLaws
+pub mod WrittenLaws

@@ -8,6 +8,7 @@ use Rattle.pv_steps.specs.declared.step.Step.{Step}
 use Rattle.pv_steps.specs.declared.step.Step.TheVariants as steps
 use Rattle.pv_cert.specs.declared.cert.Section.{Section}
 use Rattle.pv_cert.specs.declared.cert.Cert.{Cert}
+use Rattle.pv_cert.specs.declared.table.Row.{Row}
 use Rattle.pv_cert.specs.Formats.{join}
 use Rattle.pv_cert.specs.Parameters.{Words}
 use Rattle.pv_cert.specs.Names.{row_name}
@@ -51,6 +52,17 @@ step_line_spaced (steps.Close d facts) = line_spaced (row_name (row_in (steps.Cl
 step_line_spaced (steps.Assume p nodes) = line_spaced (row_name (row_in (steps.Assume p nodes))) (row_args (steps.Assume p nodes))
 step_line_spaced (steps.Finish p q t f r h) = line_spaced (row_name (row_in (steps.Finish p q t f r h))) (row_args (steps.Finish p q t f r h))
 
+pub step_after : (start one two end word : List ℕ) (r : Row) (s : Step) → r ≡ row_in s → word ≡ row_name r → one ≡ start ++ word → two ≡ one ++ spaced (row_args s) → end ≡ two ++ 10 ∷ [] → end ≡ start ++ text_of (step_line s ∷ [])
+step_after start one two end word r s is_row is_word first second third =
+    let feed : List ℕ = 10 ∷ [] in
+    let name : List ℕ = row_name (row_in s) in
+    let args : List ℕ = spaced (row_args s) in
+    third
+    ∙ ap (λ (x : List ℕ). x ++ feed) (second ∙ ap (λ (x : List ℕ). x ++ args) (first ∙ ap (λ (x : List ℕ). start ++ x) (is_word ∙ ap row_name is_row)) ∙ append_assoc start name args)
+    ∙ append_assoc start (name ++ args) feed
+    ∙ ap (λ (x : List ℕ). start ++ (x ++ feed)) (sym (step_line_spaced s))
+    ∙ ap (λ (x : List ℕ). start ++ x) (sym (append-nil (step_line s ++ feed)))
+
 -- the lines of sections are written section by section
 pub sections_text : (sections : List Section) → text_of (flat_map section_lines sections) ≡ flat_map (λ s. text_of (section_lines s)) sections
 sections_text [] = refl
@@ -73,3 +85,10 @@ pub cert_text : (c : Cert) → spelled c ≡ text_of (header c.first c.second) +
 cert_text c =
     flat_map-append (λ line. line ++ 10 ∷ []) (header c.first c.second) (flat_map section_lines c.sections)
     ∙ ap (λ (r : List ℕ). text_of (header c.first c.second) ++ r) (sections_text c.sections)
+
+pub cert_after : (start mid end : List ℕ) (c : Cert) (list : List Section) → start ≡ [] → mid ≡ start ++ text_of (header c.first c.second) → list ≡ c.sections → end ≡ mid ++ flat_map (λ s. text_of (section_lines s)) list → end ≡ spelled c
+cert_after start mid end c list empty e is f =
+    f
+    ∙ ap (λ (l : List Section). mid ++ flat_map (λ s. text_of (section_lines s)) l) is
+    ∙ ap (λ (r : List ℕ). r ++ flat_map (λ s. text_of (section_lines s)) c.sections) (e ∙ ap (λ (r : List ℕ). r ++ text_of (header c.first c.second)) empty)
+    ∙ sym (cert_text c)

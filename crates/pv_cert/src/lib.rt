@@ -7,11 +7,10 @@
 //! how it is read (`Certificates`), and why a text is none (`BadCerts`).
 //!
 //! `law_once`, `law_faults` and `law_either` say that each text is the spelling of one certificate or has one fault
-//! (`Laws`). The readers of words and lines return what the definitions read, and the writer of operations writes their
-//! words.
+//! (`Laws`). The readers of words and lines return what the definitions read, and `write_cert` writes the spelling of a
+//! certificate.
 //!
-//! Not built yet: the loop over the lines of a text (`read_cert`), and the writers of whole steps, sections and texts
-//! (`write_cert`). Their definitions stand.
+//! Not built yet: the loop over the lines of a text (`read_cert`). Its definition stands.
 #![tactic(auto)]
 
 mod cert;
@@ -25,8 +24,10 @@ mod split;
 mod step;
 mod table;
 mod text;
+mod write;
 mod writing;
 mod writing_steps;
 
 pub use cert::{Cert, CertFault, Section, Sections};
 pub use laws::{law_either, law_faults, law_once};
+pub use write::write_cert;

@@ -3,8 +3,8 @@
 
 It takes the certificates that lines `let` of crates/cases/stdin name (those with a section), changes each at random: a
 byte, a word or a line is put in, taken out, doubled or exchanged, or the end is cut off. The program of cases reads each
-(`cert BYTES`). The reader below is a second one, line by line with patterns, written from the grammar. It prints each
-difference, and counts.
+(`cert BYTES`), and writes it again where it reads. The reader below is a second one, line by line with patterns, written from
+the grammar. It prints each difference, a certificate that is written otherwise than it was read, and counts.
 
     tests/certs.py [--seed N] [COUNT]
 
@@ -94,7 +94,7 @@ def fits(pattern, line):
 
 
 def read(text):
-    """What is to be answered: a fault, or the sections."""
+    """What is to be answered: a fault, or `same`."""
     if not text.endswith(b"\n"):
         return "Truncated"
     lines = text[:-1].split(b"\n")
@@ -109,7 +109,7 @@ def read(text):
             return f"Step({number})"
         else:
             inside = True
-    return "Truncated" if inside else "sections"
+    return "Truncated" if inside else "same"
 
 
 def changed(text, rand):
@@ -168,8 +168,7 @@ def main(args):
         if ran.returncode != 0 or len(said) != len(batch):
             sys.exit(f"the program ended with {ran.returncode} after {len(said)} of {len(batch)} lines")
         for text, answer in zip(batch, said):
-            want = read(text)
-            end = answer if re.fullmatch(r"Truncated|Header|Step\(\d+\)", answer) else "sections"
+            end, want = answer.rsplit("; ", 1)[-1], read(text)
             answers[re.sub(r"\d+", "N", want)] = answers.get(re.sub(r"\d+", "N", want), 0) + 1
             if end != want:
                 wrong += 1

@@ -2,12 +2,12 @@
 //!
 //! | Line | Answer |
 //! |---|---|
-//! | `cert BYTES` | for each section its name and descriptor, how many steps it has, and the steps; or the fault |
+//! | `cert BYTES` | for each section its name and descriptor, how many steps it has, and the steps, and at last `same` where it is written as it was read; or the fault |
 
 use cases_words::answers::{Answer, List, NoAnswer, shown};
 use cases_words::bench::Bench;
 use cases_words::values::escaped;
-use pv_cert::{Cert, CertFault, Section, read_cert};
+use pv_cert::{Cert, CertFault, Section, read_cert, write_cert};
 use std::alloc::Global;
 
 /// `cert BYTES`
@@ -15,17 +15,21 @@ pub fn cert(bench: &Bench, rest: &str) -> Answer {
     let alloc = bench.alloc();
     let bytes = bench.bytes(rest)?;
     match read_cert(alloc, &bytes) {
-        Ok(cert) => cert_text(alloc, &cert),
+        Ok(cert) => {
+            let written = write_cert(alloc, &cert)?;
+            cert_text(alloc, &cert, written == bytes)
+        }
         Err(CertFault::Memory) => Err(NoAnswer::Memory),
         Err(fault) => shown(alloc, fault),
     }
 }
 
-fn cert_text(alloc: Global, cert: &Cert) -> Answer {
+fn cert_text(alloc: Global, cert: &Cert, same: bool) -> Answer {
     let mut list = List::new(alloc);
     for section in cert.sections.as_slice() {
         push_section(alloc, &mut list, section)?;
     }
+    list.add(if same { "same" } else { "other" })?;
     list.into_text()
 }
 

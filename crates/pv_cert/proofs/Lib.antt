@@ -19,3 +19,4 @@ pub mod LineLaws
 pub mod Following
 pub mod CertLaws
 pub mod HeaderLaws
+pub mod WrittenLaws

@@ -3,9 +3,14 @@ use Rattle.std.specs.Prelude.{ℕ, List, [], ◌∷◌}
 use Rattle.std.specs.List.{flat_map}
 use Rattle.pv_graph.specs.declared.node.Op.{Op}
 use Rattle.pv_graph.specs.declared.node.Op.TheVariants as op
+use Rattle.pv_steps.specs.declared.step.Step.{Step}
+use Rattle.pv_steps.specs.declared.step.Step.TheVariants as steps
+use Rattle.pv_cert.specs.declared.table.Row.{Row}
+use Rattle.pv_cert.specs.declared.table.Row.TheVariants as row
 use Rattle.pv_cert.specs.declared.table.Head.{Head}
 use Rattle.pv_cert.specs.declared.table.Head.TheVariants as head
 use Rattle.pv_cert.specs.Parameters.{Words, number, int, long, text, sym, kind, argument}
+use Rattle.pv_cert.specs.StepLines.{node_words, axiom_words, flip_words, chain_words, set_words, open_words, close_words, assume_words, finish_words}
 
 abbrev pub spaced : Words → List ℕ
 spaced words = flat_map (λ word. 32 ∷ word) words
@@ -89,3 +94,27 @@ param_words (op.CallEnd x) = sym.spells x
 param_words (op.CallRes x) = sym.spells x
 param_words (op.CallFault x) = sym.spells x
 param_words (op.CallHeap x) = sym.spells x
+
+-- the row of a step
+abbrev pub row_in : Step → Row
+row_in (steps.Node n o kids) = row.Node
+row_in (steps.Axiom n a b nodes) = row.Axiom
+row_in (steps.Flip a b f) = row.Flip
+row_in (steps.Chain a b f g) = row.Chain
+row_in (steps.Set pairs) = row.Set
+row_in (steps.Open d pairs) = row.Open
+row_in (steps.Close d facts) = row.Close
+row_in (steps.Assume p nodes) = row.Assume
+row_in (steps.Finish p q t f r h) = row.Finish
+
+-- its words after the first
+abbrev pub row_args : Step → Words
+row_args (steps.Node n o kids) = node_words.spells (n, (o, kids))
+row_args (steps.Axiom n a b nodes) = axiom_words.spells (n, (a, (b, nodes)))
+row_args (steps.Flip a b f) = flip_words.spells (a, (b, f))
+row_args (steps.Chain a b f g) = chain_words.spells (a, (b, (f, g)))
+row_args (steps.Set pairs) = set_words.spells pairs
+row_args (steps.Open d pairs) = open_words.spells (d, pairs)
+row_args (steps.Close d facts) = close_words.spells (d, facts)
+row_args (steps.Assume p nodes) = assume_words.spells (p, nodes)
+row_args (steps.Finish p q t f r h) = finish_words.spells (p, (q, ((t, f), (r, h))))

@@ -7,11 +7,9 @@
 //! how it is read (`Certificates`), and why a text is none (`BadCerts`).
 //!
 //! `read_cert` reads a text (`Answers`): its clause `exact` says that what it gives is the certificate of which the text is
-//! the one spelling, or the fault of the text, and `only` that no other answer is right, but for out of memory. `law_once`,
-//! `law_faults` and `law_either` say that each text is the spelling of one certificate or has one fault (`Laws`). The
-//! readers of words and lines return what the definitions read, and the writers of words write what they spell.
-//!
-//! Not built yet: the writers of whole steps, sections and certificates. Their definitions stand.
+//! the one spelling, or the fault of the text, and `only` that no other answer is right, but for out of memory. `write_cert`
+//! writes the spelling of any certificate. `law_once`, `law_faults` and `law_either` say that each text is the spelling of
+//! one certificate that fits or has one fault (`Laws`); so what is written of a certificate that fits is read again.
 #![tactic(auto)]
 
 mod cert;
@@ -26,9 +24,11 @@ mod split;
 mod step;
 mod table;
 mod text;
+mod write;
 mod writing;
 mod writing_steps;
 
 pub use cert::{Cert, CertFault, Section, Sections};
 pub use certificate::read_cert;
 pub use laws::{law_either, law_faults, law_once};
+pub use write::write_cert;

@@ -71,7 +71,8 @@ fn push_shown(out: &mut Vec<u8>, bytes: &[u8]) -> Result<(), AllocError>
     Ok(())
 }
 
-fn push_text(out: &mut Vec<u8>, text: &Name) -> Result<(), AllocError>
+/// A text after a blank, as it is shown.
+pub fn push_text(out: &mut Vec<u8>, text: &Name) -> Result<(), AllocError>
     ensures { OnOk result (out.new.items ≡ out.old.items ++ spaced (shown_bytes text.now ∷ [])) }
 {
     out.extend_from_slice(b" ")?;

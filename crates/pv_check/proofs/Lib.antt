@@ -16,3 +16,4 @@ pub mod Walking
 pub mod WaitingNodes
 pub mod Carried
 pub mod Moments
+pub mod Concluding

@@ -21,6 +21,7 @@
 #![tactic(auto)]
 
 mod assuming;
+mod checker;
 mod conclusion;
 mod endings;
 mod growth;

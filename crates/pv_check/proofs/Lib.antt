@@ -17,3 +17,4 @@ pub mod WaitingNodes
 pub mod Carried
 pub mod Moments
 pub mod Concluding
+pub mod Checking

@@ -16,8 +16,9 @@
 //! for what opens and closes an induction, `assuming`, `spine` and `endings` for ending blocks. `testing`
 //! puts them together: `is_right` is yes exactly where `RightOver` holds at the axioms of all tables, and
 //! `takes` of `moment` also makes the graph that the step leaves (`GrowsTo`). `concludes` of `conclusion` is
-//! yes exactly where the steps so far conclude that two nodes are equal (`IsConcluded`). The walk over a whole
-//! section, with `takes`, `Tables::take` and `concludes`, isn't built yet: nothing of this crate is public.
+//! yes exactly where the steps so far conclude that two nodes are equal (`IsConcluded`). `advance` of `checker`
+//! takes one right step. The walk over a whole section, with `advance` and `concludes`, isn't built yet:
+//! nothing of this crate is public.
 #![tactic(auto)]
 
 mod assuming;

@@ -1,5 +1,5 @@
 -- From the first steps of a section to one more.
-use Rattle.std.specs.Prelude.{◌≡◌, ◌↔◌, ℕ, zero, suc, ◌<◌, Bool, true, false, IsTrue, List, [], ◌∷◌, ◌++◌, length, reverse, take, Some, slice_get, refl}
+use Rattle.std.specs.Prelude.{◌≡◌, ℕ, suc, ◌<◌, Bool, false, List, [], ◌∷◌, ◌++◌, length, reverse, take, refl}
 use Rattle.std.proofs.Math.ListN.{get_or}
 use Rattle.std.proofs.Common.{inl, inr, sym, ap, ◌∙◌, subst, arith, take-suc, take_all}
 use Rattle.std.proofs.lemmas.Option.{slice_get-get_or}
@@ -7,7 +7,7 @@ use Rattle.pv_graph.specs.Graphs.{Graph}
 use Rattle.pv_graph.specs.Calls.{IsSame}
 use Rattle.pv_steps.specs.declared.step.Step.TheVariants as steps
 use Rattle.pv_steps.specs.declared.step.Step.{Step}
-use Rattle.pv_steps.specs.Right.{AddsNode, Grows, GraphAfter, RightOver, Right}
+use Rattle.pv_steps.specs.Right.{AddsNode, Grows, GraphAfter, RightOver}
 use Rattle.pv_steps.specs.Accepted.{AllRight, IsConcluded, Derives, Rejects, first_steps}
 use Rattle.pv_steps.proofs.Growing.{after_same}
 use Rattle.pv_axioms.specs.Entries.{Instance}

@@ -1,5 +1,5 @@
 -- What a section concludes, by what is kept.
-use Rattle.std.specs.Prelude.{◌≡◌, ◌↔◌, ℕ, suc, Bool, IsTrue, List, [], ◌∷◌, length, reverse, Some, slice_get, ◌==◌, ◌-◌, refl}
+use Rattle.std.specs.Prelude.{◌≡◌, ◌↔◌, ℕ, suc, Bool, IsTrue, List, [], ◌∷◌, length, reverse, Some, slice_get, ◌==◌, refl}
 use Rattle.std.specs.Bool.{Decides}
 use Rattle.std.proofs.Math.ListN.{get_or}
 use Rattle.std.proofs.Common.{sym, ap, ◌∙◌, subst, arith, take_all}

@@ -75,8 +75,12 @@ is_wrong g graph section n innermost opened a b h low d wrong m e = record {
   before = n;
   number = e;
   right = h.right;
-  wrong = inl (get_or section n d, slice_get-get_or section n d low, λ r. wrong (over_graph h.now graph h.same (first_steps n section) (get_or section n d)
-    (subst (λ (x : Graph). RightOver Instance x (first_steps n section) (get_or section n d)) (after_same g (first_steps n section) r.0 h.now r.1 h.after) r.2)));
+  wrong = inl (
+    get_or section n d,
+    slice_get-get_or section n d low,
+    λ r. wrong (over_graph h.now graph h.same (first_steps n section) (get_or section n d)
+        (subst (λ (x : Graph). RightOver Instance x (first_steps n section) (get_or section n d)) (after_same g (first_steps n section) r.0 h.now r.1 h.after) r.2)),
+  );
 }
 
 all_steps : (section : List Step) (n : ℕ) → n ≡ length section → take n section ≡ section

@@ -38,9 +38,8 @@ last_is section innermost opened kept none k l s e t a b h =
     let st : Stated = states s (suc k) (blocks_at section k) in
     let at : stated_at (reverse section) (length (reverse section)) ≡ Some st = ap (stated_at (reverse section)) (length-reverse section ∙ l) ∙ stated_is section k s e in
     let pairs : st.pairs ≡ step_pairs s (opened_pairs section (get_or innermost k 0)) =
-        step_pairs_are section k (omega (arith, l)) s ∙ ap (λ (n : ℕ). step_pairs s (opened_pairs section n)) (sym (inside_at section innermost opened kept k (omega (arith, l)))) in
-    let outside : st.around ≡ [] = around_is section k s e ∙ ap (blocks_at section) (sym l) ∙ sym (open_is section) ∙ none in
-    (
+    step_pairs_are section k (omega (arith, l)) s ∙ ap (λ (n : ℕ). step_pairs s (opened_pairs section n)) (sym (inside_at section innermost opened kept k (omega (arith, l)))) in
+    let outside : st.around ≡ [] = around_is section k s e ∙ ap (blocks_at section) (sym l) ∙ sym (open_is section) ∙ none in (
       λ y. record { stated = st; last = at; outside = outside; states_ = subst (λ (q : List (ℕ × ℕ)). In {A = ℕ × ℕ} q (a, b)) (sym pairs) (h.0 y) },
       λ y. h.1 (subst (λ (q : List (ℕ × ℕ)). In {A = ℕ × ℕ} q (a, b)) (ap (λ (x : Stated). x.pairs) (same_Some _ _ (sym y.last ∙ at)) ∙ pairs) y.states_),
     )

@@ -18,3 +18,4 @@ pub mod Carried
 pub mod Moments
 pub mod Concluding
 pub mod Checking
+pub mod Judged

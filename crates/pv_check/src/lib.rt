@@ -17,8 +17,11 @@
 //! puts them together: `is_right` is yes exactly where `RightOver` holds at the axioms of all tables, and
 //! `takes` of `moment` also makes the graph that the step leaves (`GrowsTo`). `concludes` of `conclusion` is
 //! yes exactly where the steps so far conclude that two nodes are equal (`IsConcluded`). `advance` of `checker`
-//! takes one right step. The walk over a whole section, with `advance` and `concludes`, isn't built yet:
-//! nothing of this crate is public.
+//! takes one right step.
+//!
+//! The layer above uses `check`, which walks over a section: its clauses say that the answer is `Accepted` exactly where the
+//! section derives that the roots are equal (`Derives`), and a number exactly where it is rejected with that number
+//! (`Rejects`). What an accepted section shows is `law_accepted` of `pv_axioms`.
 #![tactic(auto)]
 
 mod assuming;
@@ -37,3 +40,5 @@ mod sorts;
 mod spine;
 mod tables;
 mod testing;
+
+pub use checker::{Checked, check};

@@ -107,7 +107,7 @@ pub at_place : {A : Type 0} (xs : List A) (place : ℕ) → (place ≡ 0 → ⊥
 at_place xs zero h = absurd (h refl)
 at_place xs (suc j) h = ap (slice_get xs) (omega arith)
 
-step_pairs_are : (section : List Step) (k : ℕ) → k ≤ length section → (s : Step) → (states s (suc k) (blocks_at section k)).pairs ≡ step_pairs s (opened_pairs section (number_of (blocks_at section k)))
+pub step_pairs_are : (section : List Step) (k : ℕ) → k ≤ length section → (s : Step) → (states s (suc k) (blocks_at section k)).pairs ≡ step_pairs s (opened_pairs section (number_of (blocks_at section k)))
 step_pairs_are section k low (steps.Node n o kids) = refl
 step_pairs_are section k low (Axiom n a b nodes) = refl
 step_pairs_are section k low (Flip a b f) = refl

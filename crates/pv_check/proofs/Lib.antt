@@ -16,3 +16,6 @@ pub mod Walking
 pub mod WaitingNodes
 pub mod Carried
 pub mod Moments
+pub mod Concluding
+pub mod Checking
+pub mod Judged

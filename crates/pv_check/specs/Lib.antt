@@ -10,3 +10,4 @@ pub mod Sorts
 pub mod Spine
 pub mod Waiting
 pub mod Testing
+pub mod Checking

@@ -15,11 +15,18 @@
 //! `growth` for node steps, `rows` for axioms and chains, `sets` for congruences, `sorts` and `inductions`
 //! for what opens and closes an induction, `assuming`, `spine` and `endings` for ending blocks. `testing`
 //! puts them together: `is_right` is yes exactly where `RightOver` holds at the axioms of all tables, and
-//! `takes` of `moment` also makes the graph that the step leaves (`GrowsTo`). The layer above is to walk over
-//! a section with `takes` and `Tables::take`.
+//! `takes` of `moment` also makes the graph that the step leaves (`GrowsTo`). `concludes` of `conclusion` is
+//! yes exactly where the steps so far conclude that two nodes are equal (`IsConcluded`). `advance` of `checker`
+//! takes one right step.
+//!
+//! The layer above uses `check`, which walks over a section: its clauses say that the answer is `Accepted` exactly where the
+//! section derives that the roots are equal (`Derives`), and a number exactly where it is rejected with that number
+//! (`Rejects`). What an accepted section shows is `law_accepted` of `pv_axioms`.
 #![tactic(auto)]
 
 mod assuming;
+mod checker;
+mod conclusion;
 mod endings;
 mod growth;
 mod inductions;
@@ -33,3 +40,5 @@ mod sorts;
 mod spine;
 mod tables;
 mod testing;
+
+pub use checker::{Checked, check};

@@ -1,0 +1,101 @@
+-- From the first steps of a section to one more.
+use Rattle.std.specs.Prelude.{◌≡◌, ℕ, suc, ◌<◌, Bool, false, List, [], ◌∷◌, ◌++◌, length, reverse, take, refl}
+use Rattle.std.proofs.Math.ListN.{get_or}
+use Rattle.std.proofs.Common.{inl, inr, sym, ap, ◌∙◌, subst, arith, take-suc, take_all}
+use Rattle.std.proofs.lemmas.Option.{slice_get-get_or}
+use Rattle.pv_graph.specs.Graphs.{Graph}
+use Rattle.pv_graph.specs.Calls.{IsSame}
+use Rattle.pv_steps.specs.declared.step.Step.TheVariants as steps
+use Rattle.pv_steps.specs.declared.step.Step.{Step}
+use Rattle.pv_steps.specs.Right.{AddsNode, Grows, GraphAfter, RightOver}
+use Rattle.pv_steps.specs.Accepted.{AllRight, IsConcluded, Derives, Rejects, first_steps}
+use Rattle.pv_steps.proofs.Growing.{after_same}
+use Rattle.pv_axioms.specs.Entries.{Instance}
+use Rattle.pv_check.specs.Growth.{GrowsTo}
+use Rattle.pv_check.specs.Kept.{AreKept}
+use Rattle.pv_check.specs.Checking.{IsSoFar}
+use Rattle.pv_check.proofs.Carried.{prepared_as, adds_same, right_same}
+use Rattle.pv_check.proofs.Fronts.{next_first}
+
+back : (now graph : Graph) → IsSame now graph → prepared_as graph now.is_prepared ≡ now
+back now graph e = ap (λ (g : Graph). prepared_as g now.is_prepared) e
+
+over_now : (now graph : Graph) → IsSame now graph → (before : List Step) (s : Step) → RightOver Instance graph before s → RightOver Instance now before s
+over_now now graph e before s h = subst (λ (g : Graph). RightOver Instance g before s) (back now graph e) (right_same graph now.is_prepared before s h)
+
+over_graph : (now graph : Graph) → IsSame now graph → (before : List Step) (s : Step) → RightOver Instance now before s → RightOver Instance graph before s
+over_graph now graph e before s h = subst (λ (g : Graph). RightOver Instance g before s) (sym e) (right_same now graph.is_prepared before s h)
+
+record Next (s : Step) (now new : Graph) : Type 0 where
+  pub next : Graph
+  pub grows : Grows s now next
+  pub same : IsSame next new
+  pub sealed : next.is_open ≡ now.is_open
+
+stays : (now graph new g : Graph) → IsSame now graph → g ≡ graph → IsSame g new → IsSame now new
+stays now graph new g e f h = h ∙ ap (λ (x : Graph). prepared_as x new.is_prepared) (f ∙ e)
+
+carry : (s : Step) (now graph new : Graph) → IsSame now graph → GrowsTo s graph new → Next s now new
+carry (steps.Node n o kids) now graph new e h = record {
+  next = h.0;
+  grows = subst (λ (g : Graph). AddsNode g n o kids h.0) (back now graph e) (adds_same graph h.0 now.is_prepared n o kids h.1);
+  same = h.2;
+  sealed = ap (λ (g : Graph). g.is_open) h.1.grown ∙ ap (λ (g : Graph). g.is_open) e;
+}
+carry (steps.Axiom n a b nodes) now graph new e h = record { next = now; grows = refl; same = stays now graph new h.0 e h.1 h.2; sealed = refl }
+carry (steps.Flip a b f) now graph new e h = record { next = now; grows = refl; same = stays now graph new h.0 e h.1 h.2; sealed = refl }
+carry (steps.Chain a b f k) now graph new e h = record { next = now; grows = refl; same = stays now graph new h.0 e h.1 h.2; sealed = refl }
+carry (steps.Set cs) now graph new e h = record { next = now; grows = refl; same = stays now graph new h.0 e h.1 h.2; sealed = refl }
+carry (steps.Open d pairs) now graph new e h = record { next = now; grows = refl; same = stays now graph new h.0 e h.1 h.2; sealed = refl }
+carry (steps.Close d fs) now graph new e h = record { next = now; grows = refl; same = stays now graph new h.0 e h.1 h.2; sealed = refl }
+carry (steps.Assume p ns) now graph new e h = record { next = now; grows = refl; same = stays now graph new h.0 e h.1 h.2; sealed = refl }
+carry (steps.Finish p q t f r k) now graph new e h = record { next = now; grows = refl; same = stays now graph new h.0 e h.1 h.2; sealed = refl }
+
+pub starts : (g graph : Graph) (section : List Step) (innermost : List ℕ) (opened : List Bool) → g.is_open ≡ false → IsSame g graph → AreKept [] innermost opened → IsSoFar g section 0 innermost opened graph
+starts g graph section innermost opened sealed same kept = record { kept = kept; now = g; after = refl; same = same; right = tt; sealed = ap (λ (x : Graph). x.is_open) same ∙ sealed }
+
+pub goes_on : (g graph new : Graph) (section : List Step) (n : ℕ) (innermost innermost' : List ℕ) (opened opened' : List Bool) → IsSoFar g section n innermost opened graph → n < length section → (d : Step)
+    → RightOver Instance graph (first_steps n section) (get_or section n d) → GrowsTo (get_or section n d) graph new → AreKept (take n section ++ get_or section n d ∷ []) innermost' opened' → IsSoFar g section (suc n) innermost' opened' new
+goes_on g graph new section n innermost innermost' opened opened' h low d right grows kept =
+    let s : Step = get_or section n d in
+    let first : first_steps (suc n) section ≡ s ∷ first_steps n section = next_first section n s (slice_get-get_or section n d low) in
+    let c = carry s h.now graph new h.same grows in
+    record {
+      kept = subst (λ (q : List Step). AreKept q innermost' opened') (sym (take-suc section n d low)) kept;
+      now = c.next;
+      after = subst (λ (q : List Step). GraphAfter g q c.next) (sym first) (h.now, h.after, c.grows);
+      same = c.same;
+      right = subst (λ (q : List Step). AllRight Instance g q) (sym first) ((h.now, h.after, over_now h.now graph h.same (first_steps n section) s right), h.right);
+      sealed = ap (λ (x : Graph). x.is_open) c.same ∙ c.sealed ∙ sym (ap (λ (x : Graph). x.is_open) h.same) ∙ h.sealed;
+    }
+
+pub is_wrong : (g graph : Graph) (section : List Step) (n : ℕ) (innermost : List ℕ) (opened : List Bool) (a b : ℕ) → IsSoFar g section n innermost opened graph → n < length section → (d : Step)
+    → (RightOver Instance graph (first_steps n section) (get_or section n d) → ⊥) → (m : ℕ) → m ≡ suc n → Rejects Instance g a b section m
+is_wrong g graph section n innermost opened a b h low d wrong m e = record {
+  before = n;
+  number = e;
+  right = h.right;
+  wrong = inl (
+    get_or section n d,
+    slice_get-get_or section n d low,
+    λ r. wrong (over_graph h.now graph h.same (first_steps n section) (get_or section n d)
+        (subst (λ (x : Graph). RightOver Instance x (first_steps n section) (get_or section n d)) (after_same g (first_steps n section) r.0 h.now r.1 h.after) r.2)),
+  );
+}
+
+all_steps : (section : List Step) (n : ℕ) → n ≡ length section → take n section ≡ section
+all_steps section n e = take_all n section (omega (arith, e))
+
+pub all_kept : (g graph : Graph) (section : List Step) (n : ℕ) (innermost : List ℕ) (opened : List Bool) → IsSoFar g section n innermost opened graph → n ≡ length section → AreKept section innermost opened
+all_kept g graph section n innermost opened h e = subst (λ (q : List Step). AreKept q innermost opened) (all_steps section n e) h.kept
+
+pub is_accepted : (g graph : Graph) (section : List Step) (n : ℕ) (innermost : List ℕ) (opened : List Bool) (a b : ℕ) → IsSoFar g section n innermost opened graph → n ≡ length section → IsConcluded (reverse section) a b → Derives Instance g a b section
+is_accepted g graph section n innermost opened a b h e c = (subst (λ (q : List Step). AllRight Instance g (reverse q)) (all_steps section n e) h.right, c)
+
+pub not_concluded : (g graph : Graph) (section : List Step) (n : ℕ) (innermost : List ℕ) (opened : List Bool) (a b : ℕ) → IsSoFar g section n innermost opened graph → n ≡ length section → (IsConcluded (reverse section) a b → ⊥) → (m : ℕ) → m ≡ suc n → Rejects Instance g a b section m
+not_concluded g graph section n innermost opened a b h e c m f = record {
+  before = n;
+  number = f;
+  right = h.right;
+  wrong = inr (e, λ z. c (subst (λ (q : List Step). IsConcluded (reverse q) a b) (all_steps section n e) z));
+}

@@ -13,8 +13,7 @@ use Rattle.pv_graph.specs.Forms.{Form}
 use Rattle.pv_graph.specs.Walks.{In, Move, still, down, jump, move_to, Edge, Walk, stop, step, KeepsRule}
 use Rattle.pv_graph.specs.Graphs.{form_at}
 use Rattle.pv_graph.specs.Calls.{IsDistinct, LeavesNoSortOpen}
-use Rattle.pv_graph.proofs.NodeLaws.{node_at}
-use Rattle.pv_graph.proofs.Grounded.{IsFlat, AreFlat}
+use Rattle.pv_graph.proofs.Cited.{node_at, IsFlat, AreFlat}
 use Rattle.cases_graphs.specs.Rules.{Falls, Rises, IsUncrossed}
 
 low_or_high : (n m : ℕ) → (n < m) ⊎ (m ≤ n)

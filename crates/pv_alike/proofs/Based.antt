@@ -5,7 +5,7 @@ use Rattle.pv_graph.specs.declared.node.Node.{Node}
 use Rattle.pv_graph.specs.declared.node.OpSort.{OpSort}
 use Rattle.pv_graph.specs.Calls.{IsDistinct, LeavesNoSortOpen, AreSorts, IsBase}
 use Rattle.pv_graph.specs.Graphs.{Graph, IsWellMade}
-use Rattle.pv_graph.proofs.BaseLaws.{bases_are_made}
+use Rattle.pv_graph.proofs.Cited.{bases_are_made}
 use Rattle.pv_alike.specs.Least.{Rooted, IsLeast, IsLeastOf}
 use Rattle.pv_alike.proofs.Made.{based, least_made}
 use Rattle.pv_alike.proofs.Ruled.{least_keeps_rule}

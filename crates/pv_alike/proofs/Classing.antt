@@ -10,7 +10,7 @@ use Rattle.pv_graph.specs.Nodes.{node_of}
 use Rattle.pv_graph.specs.Calls.{IsDistinct}
 use Rattle.pv_graph.specs.Graphs.{form_at}
 use Rattle.pv_graph.specs.Partition.{is_theta, IsFiner}
-use Rattle.pv_graph.proofs.NodeLaws.{form_there}
+use Rattle.pv_graph.proofs.Cited.{form_there}
 use Rattle.pv_alike.specs.Algorithm.{IsDense}
 use Rattle.pv_alike.specs.Keys.{Keyed, number_at, theta_key}
 use Rattle.pv_alike.proofs.Keying.{keyed_kept, keyed_distinct, keyed_few, keyed_cases, map_level, level_map, a_node, less_or_same}

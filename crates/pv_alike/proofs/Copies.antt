@@ -6,7 +6,7 @@ use Rattle.pv_graph.specs.declared.node.Op.{Op}
 use Rattle.pv_graph.specs.declared.node.Node.{Node}
 use Rattle.pv_graph.specs.Unfold.{Tree, over, trees_of, unfold_at}
 use Rattle.pv_graph.specs.Graphs.{form_at}
-use Rattle.pv_graph.proofs.NodeLaws.{unfold_of}
+use Rattle.pv_graph.proofs.Cited.{unfold_of}
 use Rattle.pv_alike.specs.Visits.{Visits, done, again, new}
 use Rattle.pv_alike.specs.Least.{UnfoldsAs}
 use Rattle.pv_alike.specs.Renumbered.{ArePlaces, IsCopyOf, IsRenumbered}

@@ -7,7 +7,7 @@ use Rattle.pv_graph.specs.declared.node.Node.{Node}
 use Rattle.pv_graph.specs.Nodes.{node_of}
 use Rattle.pv_graph.specs.Unfold.{unfold_at}
 use Rattle.pv_graph.specs.Graphs.{form_at}
-use Rattle.pv_graph.proofs.Bisimulations.{Bisimulates, bisimulates_unfolds}
+use Rattle.pv_graph.proofs.Cited.{Bisimulates, bisimulates_unfolds}
 use Rattle.pv_alike.specs.Visits.{Visits, done, again, new}
 use Rattle.pv_alike.specs.Least.{UnfoldEqually, UnfoldsAs, IsLeast}
 use Rattle.pv_alike.proofs.Places.{contains_at}

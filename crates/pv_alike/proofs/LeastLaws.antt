@@ -3,10 +3,10 @@ use Rattle.std.proofs.Common.{◌≡◌, ◌↔◌, ℕ, ◌<◌, List, [], ◌�
 use Rattle.std.specs.List.{Contains, AllByRecursion, range_with_len}
 use Rattle.std.proofs.lemmas.Option.{slice_get_within, same_Some}
 use Rattle.pv_graph.specs.declared.node.Node.{Node}
-use Rattle.pv_graph.proofs.Elements.{found}
+use Rattle.pv_graph.proofs.Cited.{found}
 use Rattle.pv_graph.specs.Unfold.{unfold_at}
 use Rattle.pv_graph.specs.Graphs.{form_at}
-use Rattle.pv_denote.proofs.Simulated.{unfolds_value}
+use Rattle.pv_denote.proofs.Cited.{unfolds_value}
 use Rattle.pv_alike.specs.Visits.{Visits}
 use Rattle.pv_alike.specs.Least.{UnfoldEqually, UnfoldsAs, MeansAs, IsLeast}
 use Rattle.pv_alike.specs.Renumbered.{IsCopyOf, IsRenumbered}

@@ -23,3 +23,4 @@ pub mod Refining
 pub mod Quotients
 pub mod Based
 mod Examples
+pub mod Cited

@@ -6,13 +6,10 @@ use Rattle.std.proofs.lemmas.Option.{slice_get_within, same_Some}
 use Rattle.pv_graph.specs.declared.node.Op.{Op}
 use Rattle.pv_graph.specs.declared.node.OpSort.{OpSort}
 use Rattle.pv_graph.specs.declared.node.Node.{Node}
-use Rattle.pv_graph.proofs.Elements.{found}
+use Rattle.pv_graph.proofs.Cited.{found, in_range, sort_there, tied, shape_takes, IsFlat, Grounded, grounded, all_grounded, flat_edge, flat_unless, flat_first, theta_or_not, first_sort, theta_takes}
 use Rattle.pv_graph.specs.Ops.{shape, sort_over, HaveSorts, HasSort}
 use Rattle.pv_graph.specs.Walks.{In, move_to, KeepsRule}
 use Rattle.pv_graph.specs.Graphs.{Graph, form_at, IsRanged, IsGraph, IsWellMade}
-use Rattle.pv_graph.proofs.NodeLaws.{in_range, sort_there, tied}
-use Rattle.pv_graph.proofs.Sorting.{shape_takes}
-use Rattle.pv_graph.proofs.Grounded.{IsFlat, Grounded, grounded, all_grounded, flat_edge, flat_unless, flat_first, theta_or_not, first_sort, theta_takes}
 use Rattle.pv_alike.specs.Least.{UnfoldsAs, UnfoldEqually, IsLeast}
 use Rattle.pv_alike.proofs.Places.{zip_length}
 use Rattle.pv_alike.proofs.LeastLaws.{least_within}

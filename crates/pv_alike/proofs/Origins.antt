@@ -8,7 +8,7 @@ use Rattle.pv_value.specs.Spelled.{bind}
 use Rattle.pv_graph.specs.declared.node.Node.{Node}
 use Rattle.pv_graph.specs.Unfold.{tree_at, unfold_at}
 use Rattle.pv_graph.specs.Graphs.{form_of, form_at}
-use Rattle.pv_graph.proofs.NodeLaws.{unfold_of}
+use Rattle.pv_graph.proofs.Cited.{unfold_of}
 use Rattle.pv_alike.specs.Visits.{Visits, done, again, new}
 use Rattle.pv_alike.specs.Least.{UnfoldsAs, IsLeast}
 use Rattle.pv_alike.proofs.Places.{range_contains}

@@ -9,7 +9,7 @@ use Rattle.pv_graph.specs.Ops.{shape}
 use Rattle.pv_graph.specs.Forms.{Form}
 use Rattle.pv_graph.specs.Walks.{In, Move, down, jump, move_to, Edge, Walk, stop, step, Falls, KeepsRule}
 use Rattle.pv_graph.specs.Graphs.{form_at}
-use Rattle.pv_graph.proofs.NodeLaws.{node_at, form_there}
+use Rattle.pv_graph.proofs.Cited.{node_at, form_there}
 use Rattle.pv_alike.specs.Least.{UnfoldsAs, IsLeast}
 use Rattle.pv_alike.proofs.Places.{partner}
 use Rattle.pv_alike.proofs.LeastOnce.{parts}

@@ -3,12 +3,10 @@ use Rattle.std.specs.Prelude.{◌≡◌, ℕ, ◌<◌, List, length, Some}
 use Rattle.std.proofs.Common.{sym, ◌∙◌, subst}
 use Rattle.pv_graph.specs.declared.node.Op.{Op}
 use Rattle.pv_graph.specs.declared.node.Node.{Node}
-use Rattle.pv_graph.proofs.Elements.{found}
+use Rattle.pv_graph.proofs.Cited.{found, node_at, form_there, kid_within, last_numbers, quotient_unfolds}
 use Rattle.pv_graph.specs.Forms.{form}
 use Rattle.pv_graph.specs.Walks.{In}
 use Rattle.pv_graph.specs.Graphs.{Graph, form_at, IsGraph}
-use Rattle.pv_graph.proofs.NodeLaws.{node_at, form_there, kid_within}
-use Rattle.pv_graph.proofs.Refined.{last_numbers, quotient_unfolds}
 use Rattle.pv_alike.specs.Least.{UnfoldsAs}
 use Rattle.pv_alike.specs.Algorithm.{IsNumbered, IsByNumber}
 use Rattle.pv_alike.specs.Laws.{LeastOnce, RootsOne, LeastKeepsRule, NumbersUnfold, SearchFinds}

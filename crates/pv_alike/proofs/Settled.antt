@@ -10,10 +10,7 @@ use Rattle.pv_graph.specs.Ops.{shape}
 use Rattle.pv_graph.specs.Walks.{In}
 use Rattle.pv_graph.specs.Graphs.{Graph, form_at, IsGraph}
 use Rattle.pv_graph.specs.Calls.{LeavesNoSortOpen}
-use Rattle.pv_graph.proofs.NodeLaws.{in_range, kid_within}
-use Rattle.pv_graph.proofs.Reaching.{in_front, in_last, in_cases}
-use Rattle.pv_graph.proofs.Tying.{set_length, equal_or_not}
-use Rattle.pv_graph.proofs.Grounded.{IsFlat, none_left, flat_edge, flat_unless}
+use Rattle.pv_graph.proofs.Cited.{in_range, kid_within, in_front, in_last, in_cases, set_length, equal_or_not, IsFlat, none_left, flat_edge, flat_unless}
 use Rattle.pv_graph.specs.Walks.{Move, Edge, move_to}
 use Rattle.pv_alike.specs.Visits.{Visited}
 use Rattle.pv_alike.specs.BottomUp.{HasKids, Lacks, IsUpward, IsBottomUp, Waits, Awaits, Settles, IsSettling}

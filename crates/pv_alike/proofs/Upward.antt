@@ -11,10 +11,9 @@ use Rattle.pv_graph.specs.Ops.{shape}
 use Rattle.pv_graph.specs.Walks.{In}
 use Rattle.pv_graph.specs.Graphs.{form_at}
 use Rattle.pv_graph.specs.Partition.{is_theta, IsRank}
-use Rattle.pv_graph.proofs.NodeLaws.{node_at}
+use Rattle.pv_graph.proofs.Cited.{node_at, push_cases}
 use Rattle.pv_alike.specs.BottomUp.{HasKids, IsUpward, IsBottomUp}
 use Rattle.pv_alike.proofs.Places.{place_of, contains_at, get_before, apart_push}
-use Rattle.pv_graph.proofs.Elements.{push_cases}
 use Rattle.pv_alike.proofs.Seen.{has_found, found_has}
 use Rattle.pv_alike.proofs.Closed.{apart_low}
 

@@ -3,3 +3,4 @@ pub mod Sides
 pub mod Sound
 pub mod Finding
 pub mod SameNodes
+pub mod Cited

@@ -9,7 +9,7 @@ use Rattle.pv_graph.specs.declared.node.Op.{Op}
 use Rattle.pv_graph.specs.Forms.{form}
 use Rattle.pv_graph.specs.Walks.{In}
 use Rattle.pv_graph.specs.Graphs.{Graph, form_at, IsGraph}
-use Rattle.pv_graph.proofs.NodeLaws.{kid_within, node_at}
+use Rattle.pv_graph.proofs.Cited.{kid_within, node_at}
 use Rattle.pv_pattern.specs.Patterns.{Pattern, var, constant, fold, narrowed, over, over_each, Patterns, none, first, Axiom}
 use Rattle.pv_pattern.specs.Instances.{Names, Narrows, Stands, StandAll, IsInstance}
 use Rattle.pv_axioms.specs.Entries.{axioms}

@@ -6,13 +6,13 @@ use Rattle.pv_graph.specs.Walks.{In}
 use Rattle.pv_pattern.specs.Patterns.{Axiom}
 use Rattle.pv_pattern.specs.Binding.{BindsItsNames}
 use Rattle.pv_pattern.specs.Laws.{Law, Laws}
-use Rattle.pv_pattern.proofs.Bound.{tested}
+use Rattle.pv_pattern.proofs.Cited.{tested}
 use Rattle.pv_scalar.specs.Table.{scalar_axioms}
-use Rattle.pv_scalar.proofs.Whole as scalar
+use Rattle.pv_scalar.proofs.Cited as scalar
 use Rattle.pv_loopax.specs.Table.{loop_axioms}
-use Rattle.pv_loopax.proofs.Family as loops
+use Rattle.pv_loopax.proofs.Cited as loops
 use Rattle.pv_heapax.specs.Table.{heap_axioms}
-use Rattle.pv_heapax.proofs.Heap as heap
+use Rattle.pv_heapax.proofs.Cited as heap
 use Rattle.pv_steps.specs.Laws.{AreSound}
 use Rattle.pv_axioms.specs.Entries.{axioms, Instance}
 use Rattle.pv_axioms.proofs.Sides.{sides_there}

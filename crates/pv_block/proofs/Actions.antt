@@ -7,7 +7,7 @@ use Rattle.pv_insn.specs.declared.insn.Case.{Case}
 use Rattle.pv_frame.specs.declared.action.Test.{Test}
 use Rattle.pv_frame.specs.declared.action.Action.{Action}
 use Rattle.pv_frame.specs.declared.action.Action.TheVariants as act
-use Rattle.pv_frame.proofs.FrameLaws.{some_of, no_some}
+use Rattle.pv_frame.proofs.Cited.{some_of, no_some}
 use Rattle.pv_graph.specs.declared.node.Op.TheVariants as op
 use Rattle.pv_graph.specs.Graphs.{Graph}
 use Rattle.pv_equations.specs.Flow.{Part, Exit, Chain, Leave}
@@ -15,7 +15,7 @@ use Rattle.pv_terms.specs.Terms.{Grows}
 use Rattle.pv_runs.specs.Held.{parts_of, call_parts, after_call, with_result, acted_on}
 use Rattle.pv_runs.specs.Held as parts
 use Rattle.pv_runs.specs.Chains.{to, branch, test_part, fault_part, chain_with}
-use Rattle.pv_runs.proofs.Options.{mapped}
+use Rattle.pv_runs.proofs.Cited.{mapped}
 use Rattle.pv_block.specs.declared.held.Held.{Held}
 use Rattle.pv_block.specs.declared.ran.Ending.{Ending}
 use Rattle.pv_block.specs.declared.ran.Leaving.{Leaving}

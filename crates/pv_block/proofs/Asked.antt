@@ -7,7 +7,7 @@ use Rattle.pv_frame.specs.declared.sort.Sort.TheVariants as sort
 use Rattle.pv_frame.specs.declared.action.Comparison.{Comparison}
 use Rattle.pv_frame.specs.declared.action.Test.TheVariants as test
 use Rattle.pv_frame.specs.Effects.{sort_of_word}
-use Rattle.pv_frame.proofs.FrameLaws.{some_of, no_some}
+use Rattle.pv_frame.proofs.Cited.{some_of, no_some}
 use Rattle.pv_graph.specs.declared.node.Node.{Node}
 use Rattle.pv_graph.specs.declared.node.OpSort.{OpSort}
 use Rattle.pv_graph.specs.Ops.{word_sort, HaveSorts}

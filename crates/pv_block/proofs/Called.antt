@@ -6,12 +6,12 @@ use Rattle.pv_value.specs.declared.descriptor.JType.{JType}
 use Rattle.pv_value.specs.declared.descriptor.Descriptor.{Descriptor}
 use Rattle.pv_value.specs.declared.name.Sym.{Sym}
 use Rattle.pv_value.specs.Spelled.{bind}
-use Rattle.pv_value.proofs.Spelling.{method_spelled}
+use Rattle.pv_value.proofs.Cited.{method_spelled}
 use Rattle.pv_frame.specs.declared.action.Action.{Action}
 use Rattle.pv_frame.specs.declared.action.Action.TheVariants as act
 use Rattle.pv_frame.specs.Actions.{IsFloatless, HasFloatlessResult}
 use Rattle.pv_frame.specs.Effects.{sort_of_type, takes}
-use Rattle.pv_frame.proofs.FrameLaws.{some_of}
+use Rattle.pv_frame.proofs.Cited.{some_of}
 use Rattle.pv_graph.specs.declared.node.Op.TheVariants as op
 use Rattle.pv_graph.specs.declared.node.Node.{Node}
 use Rattle.pv_graph.specs.declared.node.OpSort.{OpSort}
@@ -20,8 +20,7 @@ use Rattle.pv_graph.specs.Ops.{exactly, type_sorts, result_sort, CallSorts, call
 use Rattle.pv_graph.specs.Graphs.{Graph}
 use Rattle.pv_equations.specs.Flow.{Slot, Of, put, call_token}
 use Rattle.pv_terms.specs.Terms.{Grows, ReadsOver, ReadsBoth}
-use Rattle.pv_terms.proofs.Reading.{names_stand, stand_then}
-use Rattle.pv_terms.proofs.Growing.{has_sort_kept}
+use Rattle.pv_terms.proofs.Cited.{names_stand, stand_then, has_sort_kept}
 use Rattle.pv_runs.specs.Held.{parts_of, push, call_parts, after_call, with_result, acted_on}
 use Rattle.pv_runs.specs.Held as parts
 use Rattle.pv_block.specs.declared.held.Cell.{Cell}

@@ -8,14 +8,14 @@ use Rattle.pv_frame.specs.declared.action.Move.{Move}
 use Rattle.pv_frame.specs.declared.action.Action.{Action}
 use Rattle.pv_frame.specs.declared.action.Action.TheVariants as act
 use Rattle.pv_frame.specs.Stacks.{fits, is_wide, last_local, has_room, first_cleared, moved, set_local}
-use Rattle.pv_frame.proofs.FrameLaws.{some_of, no_some, if_some, fits_same}
+use Rattle.pv_frame.proofs.Cited.{some_of, no_some, if_some, fits_same}
 use Rattle.pv_graph.specs.declared.node.Node.{Node}
 use Rattle.pv_terms.specs.Reads.{Stand}
-use Rattle.pv_terms.proofs.Reading.{stand_then}
+use Rattle.pv_terms.proofs.Cited.{stand_then}
 use Rattle.pv_equations.specs.Flow.{Slot}
 use Rattle.pv_runs.specs.Held.{cell_sort, of_cell, unset, unit_part, clear_part, local_cell, push, acted_on}
 use Rattle.pv_runs.specs.Held as parts
-use Rattle.pv_runs.proofs.Related.{moved_both, lists_found}
+use Rattle.pv_runs.proofs.Cited.{moved_both, lists_found}
 use Rattle.pv_block.specs.declared.held.Cell.{Cell}
 use Rattle.pv_block.specs.declared.held.Held.{Held}
 use Rattle.pv_block.specs.Cells.{sort_in, cell_of, local_of, empty}

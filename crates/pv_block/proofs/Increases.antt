@@ -6,7 +6,7 @@ use Rattle.pv_value.specs.declared.operation.ScalarOp.TheVariants.{Iadd}
 use Rattle.pv_frame.specs.declared.sort.Sort.{Sort}
 use Rattle.pv_frame.specs.declared.sort.Sort.TheVariants as sort
 use Rattle.pv_frame.specs.Stacks.{fits}
-use Rattle.pv_frame.proofs.FrameLaws.{some_of, no_some, if_some, fits_same}
+use Rattle.pv_frame.proofs.Cited.{some_of, no_some, if_some, fits_same}
 use Rattle.pv_graph.specs.declared.node.Op.TheVariants as op
 use Rattle.pv_graph.specs.declared.node.Node.{Node}
 use Rattle.pv_graph.specs.declared.node.OpSort.TheVariants.{I}

@@ -3,7 +3,7 @@ use Rattle.std.proofs.Common.{◌≡◌, ℕ, suc, Vec, Global, Bool, true, fals
 use Rattle.std.specs.Prelude.{option_map, if◌then◌else◌, map, IfSome}
 use Rattle.std.specs.List.{AllZip, AllByRecursion}
 use Rattle.std.proofs.lemmas.List.{reverse-append}
-use Rattle.pv_frame.proofs.StackLaws.{map_reverse}
+use Rattle.pv_frame.proofs.Cited.{map_reverse, some_of, no_some}
 use Rattle.pv_pool.specs.Readers.{◌>>=◌}
 use Rattle.pv_value.specs.declared.descriptor.JType.{JType}
 use Rattle.pv_frame.specs.declared.sort.Sort.{Sort}
@@ -12,17 +12,16 @@ use Rattle.pv_frame.specs.declared.action.Action.{Action}
 use Rattle.pv_frame.specs.declared.action.Action.TheVariants as act
 use Rattle.pv_frame.specs.Stacks.{Taken, fits, with_first, taken, turned, popped}
 use Rattle.pv_frame.specs.Effects.{takes}
-use Rattle.pv_frame.proofs.FrameLaws.{some_of, no_some}
 use Rattle.pv_graph.specs.declared.node.Node.{Node}
 use Rattle.pv_graph.specs.Ops.{HaveSorts}
 use Rattle.pv_graph.specs.Graphs.{Graph, IsGraph}
 use Rattle.pv_equations.specs.Flow.{Chain}
 use Rattle.pv_terms.specs.Terms.{Grows}
-use Rattle.pv_terms.proofs.Growing.{grows_same}
+use Rattle.pv_terms.proofs.Cited.{grows_same}
 use Rattle.pv_runs.specs.Held.{parts_of, cell_sort, acted_on, acted}
 use Rattle.pv_runs.specs.Held as parts
 use Rattle.pv_runs.specs.Chains.{to, chain_with, last_chain, ends_method}
-use Rattle.pv_runs.proofs.Options.{bound}
+use Rattle.pv_runs.proofs.Cited.{bound}
 use Rattle.pv_block.specs.declared.held.Cell.{Cell}
 use Rattle.pv_block.specs.declared.held.Held.{Held}
 use Rattle.pv_block.specs.declared.ran.Ran.{Ran}

@@ -6,12 +6,12 @@ use Rattle.pv_pool.specs.Readers.{◌>>=◌}
 use Rattle.pv_frame.specs.declared.action.Action.{Action}
 use Rattle.pv_frame.specs.Stacks.{Taken, popped}
 use Rattle.pv_frame.specs.Effects.{takes}
-use Rattle.pv_frame.proofs.FrameLaws.{some_of, no_some, popped_sorts}
+use Rattle.pv_frame.proofs.Cited.{some_of, no_some, popped_sorts}
 use Rattle.pv_graph.specs.declared.node.Node.{Node}
 use Rattle.pv_graph.specs.Graphs.{Graph}
 use Rattle.pv_runs.specs.Held.{cell_sort, acted_on}
 use Rattle.pv_runs.specs.Held as parts
-use Rattle.pv_runs.proofs.Related.{popped_both, taken_found}
+use Rattle.pv_runs.proofs.Cited.{popped_both, taken_found}
 use Rattle.pv_block.specs.declared.held.Cell.{Cell}
 use Rattle.pv_block.specs.declared.held.Held.{Held}
 use Rattle.pv_block.specs.Cells.{sort_in}

@@ -5,7 +5,7 @@ use Rattle.pv_pool.specs.Readers.{◌>>=◌}
 use Rattle.pv_frame.specs.declared.action.Action.{Action}
 use Rattle.pv_frame.specs.declared.program.Program.{Program}
 use Rattle.pv_frame.specs.Programs.{IsAt}
-use Rattle.pv_frame.proofs.FrameLaws.{some_of, no_some}
+use Rattle.pv_frame.proofs.Cited.{some_of, no_some}
 use Rattle.pv_graph.specs.declared.node.Node.{Node}
 use Rattle.pv_runs.specs.Held.{acted}
 use Rattle.pv_runs.specs.Held as parts

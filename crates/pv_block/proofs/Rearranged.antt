@@ -7,11 +7,11 @@ use Rattle.pv_frame.specs.declared.action.Move.{Move}
 use Rattle.pv_frame.specs.declared.action.Action.{Action}
 use Rattle.pv_frame.specs.declared.action.Action.TheVariants as act
 use Rattle.pv_frame.specs.Stacks.{fits, is_wide, has_room, first_cleared, moved, set_local}
-use Rattle.pv_frame.proofs.FrameLaws.{some_of, no_some, if_some}
+use Rattle.pv_frame.proofs.Cited.{some_of, no_some, if_some}
 use Rattle.pv_graph.specs.declared.node.OpSort.TheVariants.{T}
 use Rattle.pv_graph.specs.Graphs.{Graph}
 use Rattle.pv_terms.specs.Terms.{IsOfSort}
-use Rattle.pv_runs.proofs.Related.{moved_both, lists_found}
+use Rattle.pv_runs.proofs.Cited.{moved_both, lists_found}
 use Rattle.pv_block.specs.declared.held.Cell.{Cell}
 use Rattle.pv_block.specs.declared.held.Held.{Held}
 use Rattle.pv_block.specs.Cells.{sort_in, local_of, empty}

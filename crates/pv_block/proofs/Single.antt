@@ -16,7 +16,7 @@ use Rattle.pv_frame.specs.declared.action.Action.{Action}
 use Rattle.pv_frame.specs.declared.action.Action.TheVariants as act
 use Rattle.pv_frame.specs.Actions.{IsFloatless}
 use Rattle.pv_frame.specs.Effects.{sort_of_type, sort_of_word, sort_of_kind, takes}
-use Rattle.pv_frame.proofs.FrameLaws.{some_of, no_some}
+use Rattle.pv_frame.proofs.Cited.{some_of, no_some}
 use Rattle.pv_graph.specs.declared.node.Op.{Op}
 use Rattle.pv_graph.specs.declared.node.Op.TheVariants as op
 use Rattle.pv_graph.specs.declared.node.Node.{Node}

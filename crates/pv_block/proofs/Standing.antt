@@ -10,7 +10,7 @@ use Rattle.pv_equations.specs.Flow.{Part, Parts, NoPart, More, put, put_all}
 use Rattle.pv_terms.specs.declared.names.Named.{Named}
 use Rattle.pv_terms.specs.Reads.{Reads, ReadAll, Stand}
 use Rattle.pv_terms.specs.Terms.{IsFlat, Grows, ReadsOver}
-use Rattle.pv_terms.proofs.Reading.{standing_reads, extends_stand}
+use Rattle.pv_terms.proofs.Cited.{standing_reads, extends_stand}
 use Rattle.pv_runs.specs.Held as parts
 use Rattle.pv_block.specs.declared.held.Cell.{Cell}
 use Rattle.pv_block.specs.Standing.{Entry, IsEntered, StandsFor, AllStand, CellStands, is_simple, StandsOver}

@@ -4,7 +4,7 @@ use Rattle.std.specs.Prelude.{reverse, if◌then◌else◌}
 use Rattle.std.specs.Option.{option_map}
 use Rattle.std.proofs.lemmas.List.{reverse-append, length-reverse}
 use Rattle.std.proofs.lemmas.Bool.Decides.{nat_tests}
-use Rattle.pv_frame.proofs.FrameLaws.{some_of, no_some}
+use Rattle.pv_frame.proofs.Cited.{some_of, no_some}
 use Rattle.pv_frame.specs.declared.sort.Sort.{Sort}
 use Rattle.pv_frame.specs.declared.sort.Sort.TheVariants as sort
 use Rattle.pv_frame.specs.Stacks.{fits, is_wide, Taken, with_first, taken, turned, popped, first_cleared, has_room, set_local}

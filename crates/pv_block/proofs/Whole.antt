@@ -15,26 +15,23 @@ use Rattle.pv_frame.specs.Programs.{IsAt}
 use Rattle.pv_frame.specs.Stacks.{popped}
 use Rattle.pv_frame.specs.Effects.{takes, successors}
 use Rattle.pv_frame.specs.Frames.{same, frame_done, frame_after, Flows, IsEnd, Reached, AreFrames}
-use Rattle.pv_frame.proofs.FrameLaws.{some_of, no_some}
+use Rattle.pv_frame.proofs.Cited.{some_of, no_some}
 use Rattle.pv_flow.specs.declared.block.Block.{Block}
 use Rattle.pv_flow.specs.Blocks.{IsSpan}
 use Rattle.pv_flow.specs.Exits.{Departure, departures}
 use Rattle.pv_flow.specs.Exits as leaves
-use Rattle.pv_flow.proofs.Departing.{goes_to_successors}
+use Rattle.pv_flow.proofs.Cited.{goes_to_successors}
 use Rattle.pv_graph.specs.declared.node.Node.{Node}
 use Rattle.pv_graph.specs.Graphs.{Graph}
 use Rattle.pv_equations.specs.Flow as flow
 use Rattle.pv_equations.specs.Flow.{Part, Slot, Dest, To, End, Kind, Exit, Chain, Leave, InChain}
 use Rattle.pv_terms.specs.Reads.{Stand}
-use Rattle.pv_terms.proofs.Reading.{standing_reads}
+use Rattle.pv_terms.proofs.Cited.{standing_reads}
 use Rattle.pv_runs.specs.Held.{slots, by_turns, cell_sort, clear_part, unit_part, local_place, stack_place, local_slot, stack_slot, local_part, stack_part, slots_of, local_cells, stack_cells, held_at, acted}
 use Rattle.pv_runs.specs.Held as parts
 use Rattle.pv_runs.specs.Chains.{chain_of}
-use Rattle.pv_runs.proofs.Runs.{turns_both, turns_local, turns_stack}
-use Rattle.pv_runs.proofs.Departures.{Departs, has_exits, exit_departs}
+use Rattle.pv_runs.proofs.Cited.{turns_both, turns_local, turns_stack, Departs, has_exits, exit_departs, bound, sorts_held, HeldAt, Chained, chained_at, leads_typed}
 use Rattle.pv_runs.specs.Blocks.{place_chain}
-use Rattle.pv_runs.proofs.Options.{bound}
-use Rattle.pv_runs.proofs.Typed.{sorts_held, HeldAt, Chained, chained_at, leads_typed}
 use Rattle.pv_runs.specs.Matches.{IsClean}
 use Rattle.pv_block.specs.declared.held.Cell.{Cell}
 use Rattle.pv_block.specs.declared.held.Held.{Held}

@@ -3,19 +3,19 @@ use Rattle.std.proofs.Common.{◌≡◌, ◌≢◌, ℕ, zero, suc, ◌<◌, ◌
 use Rattle.std.specs.List.{Contains}
 use Rattle.std.proofs.lemmas.List.{length-map}
 use Rattle.std.proofs.lemmas.Option.{slice_get_within, slice_get_read, same_Some}
-use Rattle.pv_frame.proofs.Lists.{contains_first, contains_more, contains_cases, contains_none}
+use Rattle.pv_frame.proofs.Cited.{contains_first, contains_more, contains_cases, contains_none}
 use Rattle.pv_flow.specs.declared.block.Block.{Block}
 use Rattle.pv_flow.specs.Edges.{targets_of, edges_of}
 use Rattle.pv_loops.specs.declared.forest.Loop.{Loop}
-use Rattle.pv_graph.proofs.Elements.{found}
+use Rattle.pv_graph.proofs.Cited.{found}
 use Rattle.pv_graph.specs.Walks.{In}
 use Rattle.pv_equations.specs.Flow.{Heads}
 use Rattle.pv_equations.specs.Equations.{Values, AreEquations}
-use Rattle.pv_equations.proofs.Law.{solvable}
+use Rattle.pv_equations.proofs.Cited.{solvable}
 use Rattle.pv_decide.specs.declared.aim.Scope.TheVariants as scope
 use Rattle.pv_decide.specs.declared.tree.Target.TheVariants as target
 use Rattle.pv_decide.specs.Sites.{loops_of}
-use Rattle.pv_decide.proofs.Making.{listed}
+use Rattle.pv_decide.proofs.Cited.{listed}
 use Rattle.pv_terms.specs.Laws.{depths}
 use Rattle.pv_runs.specs.Laws.{IsRanked}
 use Rattle.pv_build.specs.declared.method.Method.{Method}

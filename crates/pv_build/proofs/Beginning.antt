@@ -8,10 +8,9 @@ use Rattle.pv_frame.specs.declared.sort.Sort.TheVariants as sort
 use Rattle.pv_frame.specs.declared.frame.Frame.{Frame}
 use Rattle.pv_frame.specs.declared.program.Program.{Program}
 use Rattle.pv_frame.specs.Frames.{sorts_of, this_sorts, passed_to, padded_sorts, IsFrameAt, LeadsTo}
-use Rattle.pv_frame.proofs.FrameLaws.{some_of}
-use Rattle.pv_frame.proofs.Inferred.{reached_frame}
+use Rattle.pv_frame.proofs.Cited.{some_of, reached_frame}
 use Rattle.pv_flow.specs.declared.block.Block.{Block}
-use Rattle.pv_flow.proofs.Flows.{entry_block}
+use Rattle.pv_flow.proofs.Cited.{entry_block}
 use Rattle.pv_graph.specs.declared.node.Node.{Node}
 use Rattle.pv_graph.specs.declared.node.Op.{Op}
 use Rattle.pv_graph.specs.declared.node.Op.TheVariants as op

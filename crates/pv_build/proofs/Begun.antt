@@ -4,16 +4,15 @@ use Rattle.std.proofs.lemmas.Option.{slice_get_within}
 use Rattle.pv_graph.specs.declared.node.Op.TheVariants as op
 use Rattle.pv_graph.specs.declared.node.OpSort.{OpSort}
 use Rattle.pv_graph.specs.declared.node.Node.{Node}
-use Rattle.pv_graph.proofs.Elements.{get_front, get_last}
+use Rattle.pv_graph.proofs.Cited.{get_front, get_last}
 use Rattle.pv_graph.specs.Nodes.{node_of}
 use Rattle.pv_graph.specs.Walks.{In}
 use Rattle.pv_graph.specs.Graphs.{Graph, IsGraph, Extends}
 use Rattle.pv_terms.specs.declared.names.Named.{Named}
 use Rattle.pv_terms.specs.Reads.{named, Within}
 use Rattle.pv_terms.specs.Terms.{Opens, Keeps, IsOfSort, IsUnnamed, StayNames}
-use Rattle.pv_terms.proofs.Reading.{same_node}
-use Rattle.pv_terms.proofs.Naming.{names_within, name_last}
-use Rattle.pv_frame.proofs.FrameLaws.{some_of}
+use Rattle.pv_terms.proofs.Cited.{same_node, names_within, name_last}
+use Rattle.pv_frame.proofs.Cited.{some_of}
 use Rattle.pv_block.specs.declared.held.Cell.{Cell}
 use Rattle.pv_build.specs.declared.method.Theta.{Theta}
 use Rattle.pv_build.specs.declared.opening.Head.{Head}

@@ -8,11 +8,10 @@ use Rattle.pv_frame.specs.declared.action.Action.{Action}
 use Rattle.pv_frame.specs.declared.program.Program.{Program}
 use Rattle.pv_frame.specs.declared.frame.Frame.{Frame}
 use Rattle.pv_frame.specs.Frames.{IsFrameAt}
-use Rattle.pv_frame.proofs.FrameLaws.{some_of, no_some}
+use Rattle.pv_frame.proofs.Cited.{some_of, no_some}
 use Rattle.pv_flow.specs.declared.block.Block.{Block}
 use Rattle.pv_flow.specs.Edges.{edges_of}
-use Rattle.pv_flow.proofs.Flows.{edges_within}
-use Rattle.pv_flow.proofs.Spans.{at_within}
+use Rattle.pv_flow.proofs.Cited.{edges_within, at_within}
 use Rattle.pv_loops.specs.declared.forest.Loop.{Loop}
 use Rattle.pv_loops.specs.declared.forest.Forest.{Forest}
 use Rattle.pv_loops.specs.Loops.{Region, EdgeOf, Whole, Inside, Way, edge, more, IsLargest, IsLoop}
@@ -22,10 +21,7 @@ use Rattle.pv_pool.specs.Readers.{◌>>=◌}
 use Rattle.pv_runs.specs.Held.{local_slot, held_at}
 use Rattle.pv_runs.specs.Blocks.{acted_along}
 use Rattle.pv_runs.specs.Carrying.{writes_heap, writes_along, block_writes, always_carried, members_of, writes_in}
-use Rattle.pv_runs.proofs.Clean.{program_clean}
-use Rattle.pv_runs.proofs.Frames.{frame_long}
-use Rattle.pv_runs.proofs.Runs.{turns_local}
-use Rattle.pv_runs.proofs.Typed.{chained}
+use Rattle.pv_runs.proofs.Cited.{program_clean, frame_long, turns_local, chained}
 use Rattle.pv_build.specs.declared.carrying.Writes.{Writes}
 use Rattle.pv_build.specs.declared.carrying.Walk.{Walk}
 use Rattle.pv_build.specs.Routine.{IsRoutine}

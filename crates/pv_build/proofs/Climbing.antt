@@ -10,8 +10,7 @@ use Rattle.pv_loops.specs.declared.forest.Loop.{Loop}
 use Rattle.pv_loops.specs.declared.forest.TheConstants.{MAX_DEPTH}
 use Rattle.pv_graph.specs.Graphs.{Graph}
 use Rattle.pv_decide.specs.Sites.{Inside}
-use Rattle.pv_decide.proofs.Making.{listed}
-use Rattle.pv_decide.proofs.Following.{inner_is}
+use Rattle.pv_decide.proofs.Cited.{listed, inner_is}
 use Rattle.pv_build.specs.declared.method.Method.{Method}
 use Rattle.pv_build.specs.declared.method.Made.{Made}
 use Rattle.pv_build.specs.declared.method.Closed.{Closed}

@@ -18,7 +18,7 @@ use Rattle.pv_decide.specs.declared.tree.Target.TheVariants as target
 use Rattle.pv_terms.specs.Reads.{named, Reads}
 use Rattle.pv_terms.specs.Terms.{has_depth, IsOfSort}
 use Rattle.pv_terms.specs.Laws.{depths, IsUnfinishedName, IsTiedName}
-use Rattle.pv_terms.proofs.Reading.{same_kids, names_stand, reads_stand}
+use Rattle.pv_terms.proofs.Cited.{same_kids, names_stand, reads_stand}
 use Rattle.pv_build.specs.declared.source.Given.{Given}
 use Rattle.pv_build.specs.declared.method.Method.{Method}
 use Rattle.pv_build.specs.declared.method.Made.{Made}

@@ -9,7 +9,7 @@ use Rattle.pv_graph.specs.Forms.{Form}
 use Rattle.pv_graph.specs.Walks.{In, Move, still, down, jump, move_to, Edge, Walk, stop, step}
 use Rattle.pv_graph.specs.Graphs.{Graph, form_at}
 use Rattle.pv_graph.specs.Laws.{StaysIn}
-use Rattle.pv_graph.proofs.NodeLaws.{node_at}
+use Rattle.pv_graph.proofs.Cited.{node_at}
 use Rattle.pv_build.specs.Stages.{IsInside, HasBase}
 
 -- a step from an operation inside a depth

@@ -16,7 +16,7 @@ use Rattle.pv_terms.specs.declared.names.Named.{Named}
 use Rattle.pv_terms.specs.Reads.{Reads, AreNames}
 use Rattle.pv_terms.specs.Terms.{GrowsBy, IsOfSort}
 use Rattle.pv_terms.specs.Laws.{depths}
-use Rattle.pv_terms.proofs.Reading.{names_stand}
+use Rattle.pv_terms.proofs.Cited.{names_stand}
 use Rattle.pv_block.specs.declared.ran.State.{State}
 use Rattle.pv_build.specs.declared.method.Method.{Method}
 use Rattle.pv_build.specs.declared.source.Given.{Given}

@@ -2,7 +2,7 @@
 use Rattle.std.proofs.Common.{◌≡◌, ℕ, ◌<◌, true, List, [], length, None, inr, ⊎_elim, sym, ap, ◌∙◌, subst, arith}
 use Rattle.std.proofs.lemmas.Option.{slice_get_within}
 use Rattle.pv_graph.specs.declared.node.OpSort.TheVariants.{T}
-use Rattle.pv_graph.proofs.Elements.{found}
+use Rattle.pv_graph.proofs.Cited.{found}
 use Rattle.pv_graph.specs.Walks.{In}
 use Rattle.pv_graph.specs.Graphs.{Graph, IsGraph, Extends}
 use Rattle.pv_graph.specs.Calls.{IsOpenTheta}
@@ -11,7 +11,7 @@ use Rattle.pv_decide.specs.declared.tree.Target.TheVariants as target
 use Rattle.pv_terms.specs.Reads.{named, Reads}
 use Rattle.pv_terms.specs.Terms.{Enlarges, Keeps, IsOfSort}
 use Rattle.pv_terms.specs.Laws.{IsTiedName}
-use Rattle.pv_terms.proofs.Tying.{tying_unfolds}
+use Rattle.pv_terms.proofs.Cited.{tying_unfolds}
 use Rattle.pv_build.specs.declared.method.Method.{Method}
 use Rattle.pv_build.specs.declared.method.Made.{Made}
 use Rattle.pv_build.specs.declared.source.Given.{Given}

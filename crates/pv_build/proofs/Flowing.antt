@@ -7,7 +7,7 @@ use Rattle.pv_frame.specs.declared.action.Action.{Action}
 use Rattle.pv_frame.specs.declared.action.Action.TheVariants as act
 use Rattle.pv_frame.specs.declared.program.Program.{Program}
 use Rattle.pv_frame.specs.declared.frame.Frame.{Frame}
-use Rattle.pv_frame.proofs.FrameLaws.{some_of}
+use Rattle.pv_frame.proofs.Cited.{some_of}
 use Rattle.pv_flow.specs.declared.block.Exit as kinds
 use Rattle.pv_flow.specs.declared.block.Exit.TheVariants as exit
 use Rattle.pv_flow.specs.declared.block.Block.{Block}
@@ -15,7 +15,7 @@ use Rattle.pv_flow.specs.declared.block.Flow as code
 use Rattle.pv_flow.specs.Exits.{Departure, Goes, Returns, Throws, branched, branches_on_no, departures}
 use Rattle.pv_flow.specs.Blocks.{IsExit}
 use Rattle.pv_flow.specs.Edges.{targets_of, edges_of}
-use Rattle.pv_flow.proofs.Flows.{entry_block, edges_within}
+use Rattle.pv_flow.proofs.Cited.{entry_block, edges_within}
 use Rattle.pv_loops.specs.declared.forest.Forest.{Forest}
 use Rattle.pv_loops.specs.Shapes.{IsShape}
 use Rattle.pv_loops.specs.Forests.{IsForest}
@@ -28,11 +28,7 @@ use Rattle.pv_runs.specs.Held.{Cell, Held}
 use Rattle.pv_runs.specs.Blocks.{place_chain, numbered_dest, numbered_exit, numbered, block_chain}
 use Rattle.pv_runs.specs.Methods.{flow_of}
 use Rattle.pv_runs.specs.Laws.{IsRanked}
-use Rattle.pv_runs.proofs.Clean.{program_clean}
-use Rattle.pv_runs.proofs.Departures.{Departs, exits_of}
-use Rattle.pv_runs.proofs.Edges.{number_is, has_chain, chain_at}
-use Rattle.pv_runs.proofs.Typed.{typed_chain}
-use Rattle.pv_runs.proofs.Ranked.{method_ranked}
+use Rattle.pv_runs.proofs.Cited.{program_clean, Departs, exits_of, number_is, has_chain, chain_at, typed_chain, method_ranked}
 use Rattle.pv_build.specs.Routine.{IsRoutine}
 
 -- ---- the exits of chains

@@ -3,8 +3,7 @@ use Rattle.std.proofs.Common.{◌≡◌, ◌≢◌, ℕ, zero, suc, ◌+◌, ◌
 use Rattle.std.specs.List.{Contains, insert}
 use Rattle.std.proofs.lemmas.Bool.{cases_lt}
 use Rattle.std.proofs.lemmas.Option.{slice_get_within, slice_get-get_or}
-use Rattle.pv_frame.proofs.FrameLaws.{some_of}
-use Rattle.pv_frame.proofs.Lists.{equal_or_not, contains_none, contains_first}
+use Rattle.pv_frame.proofs.Cited.{some_of, equal_or_not, contains_none, contains_first}
 use Rattle.pv_loops.specs.declared.forest.Forest.{Forest}
 use Rattle.pv_loops.specs.Shapes.{Edge}
 use Rattle.pv_loops.specs.Ranks.{around, IsRanking, IsOrdered}

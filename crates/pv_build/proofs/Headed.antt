@@ -3,7 +3,7 @@ use Rattle.std.proofs.Common.{◌≡◌, ℕ, ◌-◌, ◌<◌, ◌≤◌, Bool,
 use Rattle.std.proofs.lemmas.Option.{slice_get_within, slice_get_read, get_or_from_slice_get}
 use Rattle.pv_frame.specs.declared.frame.Frame.{Frame}
 use Rattle.pv_frame.specs.Frames.{IsFrameAt}
-use Rattle.pv_frame.proofs.FrameLaws.{some_of}
+use Rattle.pv_frame.proofs.Cited.{some_of}
 use Rattle.pv_flow.specs.declared.block.Block.{Block}
 use Rattle.pv_loops.specs.declared.forest.Loop.{Loop}
 use Rattle.pv_graph.specs.declared.node.Op.TheVariants as op
@@ -20,7 +20,7 @@ use Rattle.pv_terms.specs.Terms.{Grows, Keeps, IsOfSort, IsUnnamed}
 use Rattle.pv_runs.specs.Held.{local_slot, stack_slot}
 use Rattle.pv_runs.specs.Carrying.{always_carried, members_of, writes_in}
 use Rattle.std.specs.List.{list_any}
-use Rattle.pv_runs.proofs.Frames.{frame_long}
+use Rattle.pv_runs.proofs.Cited.{frame_long}
 use Rattle.pv_block.specs.declared.held.Cell.{Cell}
 use Rattle.pv_block.specs.declared.ran.State.{State}
 use Rattle.pv_block.specs.Sorted.{op_sort}

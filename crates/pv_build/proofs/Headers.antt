@@ -7,10 +7,10 @@ use Rattle.std.proofs.lemmas.List.{length-map}
 use Rattle.std.proofs.lemmas.Option.{slice_get-get_or, get_or_from_slice_get}
 use Rattle.pv_frame.specs.declared.program.Program.{Program}
 use Rattle.pv_frame.specs.declared.frame.Frame.{Frame}
-use Rattle.pv_frame.proofs.Lists.{contains_none}
+use Rattle.pv_frame.proofs.Cited.{contains_none}
 use Rattle.pv_flow.specs.declared.block.Block.{Block}
 use Rattle.pv_flow.specs.Edges.{targets_of, edges_of}
-use Rattle.pv_flow.proofs.Flows.{edges_within}
+use Rattle.pv_flow.proofs.Cited.{edges_within}
 use Rattle.pv_loops.specs.declared.forest.Loop.{Loop}
 use Rattle.pv_loops.specs.declared.forest.Forest.{Forest}
 use Rattle.pv_loops.specs.declared.forest.TheConstants.{MAX_DEPTH}
@@ -21,11 +21,9 @@ use Rattle.pv_loops.specs.Forests.{AreAround, outermost, inner}
 use Rattle.pv_loops.specs.Ranks.{header_and, headers_from, around}
 use Rattle.pv_equations.specs.Flow.{To, Exit, InChain, Flow, Heads}
 use Rattle.pv_equations.specs.Flow as flow
-use Rattle.pv_decide.proofs.Exits.{split_at}
-use Rattle.pv_decide.proofs.Making.{header_within}
+use Rattle.pv_decide.proofs.Cited.{split_at, header_within}
 use Rattle.pv_runs.specs.Carrying.{members_of}
-use Rattle.pv_runs.proofs.Edges.{exit_edge, edge_exit}
-use Rattle.pv_runs.proofs.Members.{member_of, in_shape}
+use Rattle.pv_runs.proofs.Cited.{exit_edge, edge_exit, member_of, in_shape}
 use Rattle.pv_build.specs.Homes.{up}
 use Rattle.pv_build.specs.Routine.{IsRoutine}
 use Rattle.pv_build.proofs.Trees as trees

@@ -1,7 +1,7 @@
 -- What stands in a list after an insertion.
 use Rattle.std.proofs.Common.{◌≡◌, ℕ, zero, suc, ◌<◌, ◌≤◌, List, [], ◌∷◌, length, Some, slice_get, refl, sym, ap, arith}
 use Rattle.std.specs.List.{insert}
-use Rattle.pv_frame.proofs.FrameLaws.{some_of}
+use Rattle.pv_frame.proofs.Cited.{some_of}
 
 -- the place j after an insertion at p is what was the place i
 pub record IsMoved (p i j : ℕ) : Type 0 where

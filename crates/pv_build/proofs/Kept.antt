@@ -13,7 +13,7 @@ use Rattle.pv_terms.specs.declared.names.Named.{Named}
 use Rattle.pv_terms.specs.Reads.{Reads}
 use Rattle.pv_terms.specs.Terms.{IsFlat, Grows, IsOfSort, ReadsOver}
 use Rattle.pv_terms.specs.Fold.{ReadsMaybe}
-use Rattle.pv_terms.proofs.Reading.{names_stand}
+use Rattle.pv_terms.proofs.Cited.{names_stand}
 use Rattle.pv_block.specs.declared.held.Cell.{Cell}
 use Rattle.pv_block.specs.Ran.{IsCellOf}
 use Rattle.pv_build.specs.declared.slot.Part.{Part}

@@ -13,7 +13,7 @@ use Rattle.pv_flow.specs.Answers.{Answers}
 use Rattle.pv_loops.specs.declared.forest.Forest.{Forest}
 use Rattle.pv_graph.specs.Graphs.{Graph}
 use Rattle.pv_runs.specs.Methods.{IsShaped}
-use Rattle.pv_live.proofs.ListLaws.{needed_agree}
+use Rattle.pv_live.proofs.Cited.{needed_agree}
 use Rattle.pv_build.specs.Structure.{MeetsShape, IsLaidOut}
 use Rattle.pv_build.specs.Routine.{IsRoutine}
 use Rattle.pv_build.specs.Unfolded.{IsBuilt}

@@ -7,7 +7,7 @@ use Rattle.pv_decide.specs.declared.tree.Target.TheVariants as target
 use Rattle.pv_terms.specs.declared.names.Named.{Named}
 use Rattle.pv_terms.specs.Reads.{AreNames}
 use Rattle.pv_terms.specs.Laws.{depths}
-use Rattle.pv_terms.proofs.Reading.{names_stand, extends_stand}
+use Rattle.pv_terms.proofs.Cited.{names_stand, extends_stand}
 use Rattle.pv_build.specs.declared.source.Given.{Given}
 use Rattle.pv_build.specs.declared.method.Method.{Method}
 use Rattle.pv_build.specs.Sources.{FoldsTo, FoldsToOne}

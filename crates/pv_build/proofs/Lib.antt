@@ -52,3 +52,4 @@ pub mod Opened
 pub mod Headed
 pub mod LoopOpened
 pub mod Around
+pub mod Cited

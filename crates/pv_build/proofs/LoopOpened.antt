@@ -1,7 +1,7 @@
 -- A loop that is opened, from what its calls gave.
 use Rattle.std.proofs.Common.{◌≡◌, ℕ, ◌≤◌, true, false, List, [], length, Some, slice_get, slice_set, sym, ◌∙◌, subst, arith}
 use Rattle.pv_frame.specs.Frames.{IsFrameAt}
-use Rattle.pv_frame.proofs.FrameLaws.{some_of}
+use Rattle.pv_frame.proofs.Cited.{some_of}
 use Rattle.pv_flow.specs.declared.block.Block.{Block}
 use Rattle.pv_loops.specs.declared.forest.Loop.{Loop}
 use Rattle.pv_graph.specs.declared.node.Op.TheVariants as op

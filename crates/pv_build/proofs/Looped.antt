@@ -6,13 +6,13 @@ use Rattle.pv_loops.specs.declared.forest.Loop.{Loop}
 use Rattle.pv_graph.specs.Walks.{In}
 use Rattle.pv_equations.specs.Flow.{Heads}
 use Rattle.pv_equations.specs.Equations.{Values, AreEquations}
-use Rattle.pv_equations.proofs.Law.{solvable}
+use Rattle.pv_equations.proofs.Cited.{solvable}
 use Rattle.pv_decide.specs.declared.aim.Scope.{Scope}
 use Rattle.pv_decide.specs.declared.aim.Scope.TheVariants as scope
 use Rattle.pv_decide.specs.declared.tree.Target.{Target}
 use Rattle.pv_decide.specs.declared.tree.Target.TheVariants as target
 use Rattle.pv_decide.specs.Sites.{Inside, loops_of}
-use Rattle.pv_decide.proofs.Making.{under}
+use Rattle.pv_decide.proofs.Cited.{under}
 use Rattle.pv_terms.specs.Laws.{depths}
 use Rattle.pv_runs.specs.Laws.{IsRanked}
 use Rattle.pv_build.specs.declared.method.Method.{Method}

@@ -1,14 +1,14 @@
 -- The open loop whose thetas are tied, where nodes were added before.
 use Rattle.std.proofs.Common.{◌≡◌, ℕ, ◌<◌, ◌≤◌, List, [], length, Some, slice_get, inl, refl, sym, subst, arith}
 use Rattle.pv_loops.specs.declared.forest.Loop.{Loop}
-use Rattle.pv_graph.proofs.Elements.{found}
+use Rattle.pv_graph.proofs.Cited.{found}
 use Rattle.pv_graph.specs.Walks.{In}
 use Rattle.pv_graph.specs.Graphs.{Graph}
 use Rattle.pv_graph.specs.declared.node.Op.TheVariants as op
 use Rattle.pv_graph.specs.declared.node.OpSort.TheVariants.{T}
 use Rattle.pv_decide.specs.declared.tree.Target.TheVariants as target
 use Rattle.pv_terms.specs.Terms.{Grows, HasItsSort, ReadsOver}
-use Rattle.pv_terms.proofs.Growing.{grows_by_then}
+use Rattle.pv_terms.proofs.Cited.{grows_by_then}
 use Rattle.pv_build.specs.declared.source.Given.{Given}
 use Rattle.pv_build.specs.declared.method.Method.{Method}
 use Rattle.pv_build.specs.declared.method.Made.{Made}

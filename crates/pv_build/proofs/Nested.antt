@@ -4,7 +4,7 @@ use Rattle.std.specs.Prelude.{◌==◌, if◌then◌else◌}
 use Rattle.std.specs.List.{Contains}
 use Rattle.std.proofs.lemmas.Bool.{eqb-true, eq-eqb}
 use Rattle.std.proofs.lemmas.List.Elements.{Contains-append_right, Contains-append_cases}
-use Rattle.pv_frame.proofs.Lists.{contains_none, contains_first, contains_more, contains_cases}
+use Rattle.pv_frame.proofs.Cited.{contains_none, contains_first, contains_more, contains_cases}
 use Rattle.pv_flow.specs.Edges.{FromEntry, entry, along}
 use Rattle.pv_loops.specs.declared.forest.Forest.{Forest}
 use Rattle.pv_loops.specs.Shapes.{Edge, IsShape}

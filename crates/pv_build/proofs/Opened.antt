@@ -8,7 +8,7 @@ use Rattle.std.proofs.lemmas.Option.{slice_get_within}
 use Rattle.pv_frame.specs.declared.frame.Frame.{Frame}
 use Rattle.pv_flow.specs.declared.block.Block.{Block}
 use Rattle.pv_frame.specs.Frames.{IsFrameAt}
-use Rattle.pv_frame.proofs.FrameLaws.{some_of}
+use Rattle.pv_frame.proofs.Cited.{some_of}
 use Rattle.pv_loops.specs.declared.forest.Loop.{Loop}
 use Rattle.pv_graph.specs.declared.node.Op.{Op}
 use Rattle.pv_graph.specs.declared.node.Op.TheVariants as op
@@ -25,8 +25,7 @@ use Rattle.pv_terms.specs.declared.names.Named.{Named}
 use Rattle.pv_terms.specs.Reads.{named, Reads}
 use Rattle.pv_terms.specs.Terms.{IsOfSort, IsUnnamed}
 use Rattle.pv_terms.specs.Laws.{depths, IsUnfinishedName, IsTiedName}
-use Rattle.pv_terms.proofs.Reading.{extends_stand}
-use Rattle.pv_terms.proofs.Growing.{sorted_within}
+use Rattle.pv_terms.proofs.Cited.{extends_stand, sorted_within}
 use Rattle.pv_block.specs.declared.ran.State.{State}
 use Rattle.pv_block.specs.declared.ran.Ran.{Ran}
 use Rattle.pv_block.specs.Ran.{slot_of, IsStateOf}

@@ -7,7 +7,7 @@ use Rattle.pv_frame.specs.declared.sort.Sort.{Sort}
 use Rattle.pv_frame.specs.declared.sort.Sort.TheVariants as sort
 use Rattle.pv_frame.specs.declared.frame.Frame.{Frame}
 use Rattle.pv_frame.specs.declared.program.Program.{Program}
-use Rattle.pv_frame.proofs.FrameLaws.{some_of}
+use Rattle.pv_frame.proofs.Cited.{some_of}
 use Rattle.pv_graph.specs.declared.node.Op.{Op}
 use Rattle.pv_graph.specs.declared.node.OpSort.TheVariants as sorts
 use Rattle.pv_graph.specs.Graphs.{Graph}
@@ -18,8 +18,7 @@ use Rattle.pv_terms.specs.declared.names.Named.{Named}
 use Rattle.pv_terms.specs.Reads.{Reads}
 use Rattle.pv_terms.specs.Terms.{IsFlatOrOut, GrowsBy, IsOfSort, IsValue, KeepsSort, ReadsOut, ReadsTokenOut}
 use Rattle.pv_terms.specs.Laws.{depths, IsTiedName, Making}
-use Rattle.pv_terms.proofs.Reading.{names_stand}
-use Rattle.pv_terms.proofs.Growing.{grows_wider}
+use Rattle.pv_terms.proofs.Cited.{names_stand, grows_wider}
 use Rattle.pv_runs.specs.Held.{by_turns}
 use Rattle.pv_block.specs.declared.held.Cell.{Cell}
 use Rattle.pv_block.specs.declared.ran.State.{State}

@@ -3,7 +3,7 @@ use Rattle.std.proofs.Common.{◌≡◌, ◌≢◌, ℕ, ◌+◌, ◌<◌, ◌�
 use Rattle.std.specs.List.{Contains}
 use Rattle.pv_loops.specs.declared.forest.Loop.{Loop}
 use Rattle.pv_loops.specs.declared.forest.TheConstants.{MAX_DEPTH}
-use Rattle.pv_graph.proofs.Elements.{found}
+use Rattle.pv_graph.proofs.Cited.{found}
 use Rattle.pv_graph.specs.Walks.{In}
 use Rattle.pv_graph.specs.Graphs.{Graph}
 use Rattle.pv_build.specs.declared.method.Method.{Method}

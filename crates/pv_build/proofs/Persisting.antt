@@ -15,7 +15,7 @@ use Rattle.pv_terms.specs.declared.names.Named.{Named}
 use Rattle.pv_terms.specs.Reads.{Reads, Stand, Within}
 use Rattle.pv_terms.specs.Terms.{GrowsBy, Opens, IsOfSort}
 use Rattle.pv_terms.specs.Fold.{IsMaybeOf}
-use Rattle.pv_terms.proofs.Reading.{standing_reads, extends_stand}
+use Rattle.pv_terms.proofs.Cited.{standing_reads, extends_stand}
 use Rattle.pv_block.specs.declared.held.Cell.{Cell}
 use Rattle.pv_block.specs.declared.ran.State.{State}
 use Rattle.pv_block.specs.declared.ran.Ending.{Ending}

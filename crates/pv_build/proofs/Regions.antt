@@ -4,7 +4,7 @@ use Rattle.std.specs.Prelude.{slice_index}
 use Rattle.std.specs.List.{AllZip, Contains}
 use Rattle.std.proofs.lemmas.Bool.Decides.{nat_tests}
 use Rattle.std.proofs.lemmas.List.Elements.{Contains-append_right}
-use Rattle.pv_frame.proofs.FrameLaws.{some_of}
+use Rattle.pv_frame.proofs.Cited.{some_of}
 use Rattle.pv_loops.specs.declared.forest.Loop.{Loop}
 use Rattle.pv_loops.specs.declared.forest.TheConstants.{MAX_DEPTH}
 use Rattle.pv_graph.specs.Walks.{In}
@@ -14,9 +14,7 @@ use Rattle.pv_equations.specs.Flow.{Flow}
 use Rattle.pv_equations.specs.Equations.{Values, AreEquations}
 use Rattle.pv_decide.specs.Sites.{Inside, loops_of}
 use Rattle.pv_decide.specs.Walks.{inner}
-use Rattle.pv_decide.proofs.Exits.{split_at}
-use Rattle.pv_decide.proofs.Making.{under}
-use Rattle.pv_decide.proofs.Following.{inner_is}
+use Rattle.pv_decide.proofs.Cited.{split_at, under, inner_is}
 use Rattle.pv_runs.specs.Laws.{IsRanked}
 use Rattle.pv_terms.specs.Laws.{depths}
 use Rattle.pv_build.specs.declared.method.Method.{Method}

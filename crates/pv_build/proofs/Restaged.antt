@@ -4,7 +4,7 @@ use Rattle.std.specs.List.{Contains}
 use Rattle.std.proofs.lemmas.List.{length-replicate}
 use Rattle.std.proofs.lemmas.Option.{slice_get_within, same_Some}
 use Rattle.std.proofs.Math.ListN.{length-set}
-use Rattle.pv_frame.proofs.Lists.{equal_or_not, get_set, get_set_other}
+use Rattle.pv_frame.proofs.Cited.{equal_or_not, get_set, get_set_other}
 use Rattle.pv_flow.specs.declared.block.Block.{Block}
 use Rattle.pv_loops.specs.declared.forest.Loop.{Loop}
 use Rattle.pv_graph.specs.Walks.{In}

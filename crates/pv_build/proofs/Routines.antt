@@ -7,13 +7,13 @@ use Rattle.pv_frame.specs.declared.program.Program.{Program}
 use Rattle.pv_frame.specs.declared.frame.Frame.{Frame}
 use Rattle.pv_flow.specs.declared.block.Block.{Block}
 use Rattle.pv_flow.specs.Edges.{targets_of, edges_of, FromEntry}
-use Rattle.pv_flow.proofs.Flows.{entry_block, edges_within, edges_reach}
+use Rattle.pv_flow.proofs.Cited.{entry_block, edges_within, edges_reach}
 use Rattle.pv_loops.specs.declared.forest.Forest.{Forest}
 use Rattle.pv_loops.specs.Shapes.{IsShape}
 use Rattle.pv_loops.specs.Ranks.{around, HasRanking}
-use Rattle.pv_loops.proofs.Forested.{ranking}
+use Rattle.pv_loops.proofs.Cited.{ranking}
 use Rattle.pv_decide.specs.Around.{AreListed}
-use Rattle.pv_decide.proofs.Making as making
+use Rattle.pv_decide.proofs.Cited as making
 use Rattle.pv_build.specs.Routine.{IsRoutine}
 use Rattle.pv_build.specs.Arranged.{IsArranged}
 use Rattle.pv_build.specs.Spots.{outside, first_of, IsSpot}

@@ -5,7 +5,7 @@ use Rattle.std.proofs.lemmas.Option.{slice_get_within, same_Some}
 use Rattle.pv_loops.specs.declared.forest.Loop.{Loop}
 use Rattle.pv_graph.specs.Graphs.{Graph}
 use Rattle.pv_graph.specs.declared.node.OpSort.TheVariants.{I, T}
-use Rattle.pv_graph.proofs.Tying.{set_same, set_other, set_length}
+use Rattle.pv_graph.proofs.Cited.{set_same, set_other, set_length}
 use Rattle.pv_terms.specs.Reads.{Reads}
 use Rattle.pv_terms.specs.Terms.{IsOfSort}
 use Rattle.pv_build.specs.declared.method.Method.{Method}

@@ -2,7 +2,7 @@
 use Rattle.std.proofs.Common.{◌≡◌, ◌≢◌, ℕ, zero, suc, ◌-◌, ◌<◌, List, [], ◌∷◌, ◌++◌, length, get_or, Option, Some, None, option_map, slice_get, refl, sym, ap, ◌∙◌, subst, arith}
 use Rattle.std.proofs.lemmas.List.{length-map}
 use Rattle.std.proofs.lemmas.Option.{slice_get_within, slice_get-get_or, same_Some}
-use Rattle.pv_frame.proofs.FrameLaws.{some_of}
+use Rattle.pv_frame.proofs.Cited.{some_of}
 use Rattle.pv_flow.specs.declared.block.Exit as kinds
 use Rattle.pv_flow.specs.declared.block.Block.{Block}
 use Rattle.pv_loops.specs.declared.forest.Loop.{Loop}
@@ -25,14 +25,14 @@ use Rattle.pv_decide.specs.Folds.{IsExitOf, IsTestOf, IsAimedAt, NodeFits, AreSo
 use Rattle.pv_decide.specs.Walks as walks
 use Rattle.pv_decide.specs.Walks.{target_of, inner, leaving, exit_gives, leaves_of, tests_of}
 use Rattle.pv_decide.specs.Trees.{scope_by, scope_of, IsTreeOf, IsRegion}
-use Rattle.pv_decide.proofs.Making.{under}
+use Rattle.pv_decide.proofs.Cited.{under}
 use Rattle.pv_runs.specs.Blocks.{numbered_dest, numbered_exit, numbered}
-use Rattle.pv_runs.proofs.Edges.{chain_at}
+use Rattle.pv_runs.proofs.Cited.{chain_at}
 use Rattle.pv_terms.specs.declared.names.Named.{Named}
 use Rattle.pv_terms.specs.Reads.{Reads, Stand}
 use Rattle.pv_terms.specs.Terms.{GrowsBy, IsOfSort}
 use Rattle.pv_terms.specs.Laws.{depths}
-use Rattle.pv_terms.proofs.Reading.{standing_reads}
+use Rattle.pv_terms.proofs.Cited.{standing_reads}
 use Rattle.pv_block.specs.declared.ran.Leaving.{Leaving}
 use Rattle.pv_block.specs.declared.ran.Ran.{Ran}
 use Rattle.pv_block.specs.Standing.{Entry, StandsFor}

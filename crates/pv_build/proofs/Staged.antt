@@ -5,14 +5,13 @@ use Rattle.std.proofs.lemmas.Option.{slice_get_within}
 use Rattle.pv_graph.specs.declared.node.Op.{Op}
 use Rattle.pv_graph.specs.declared.node.Op.TheVariants as op
 use Rattle.pv_graph.specs.declared.node.Node.{Node}
-use Rattle.pv_graph.proofs.Elements.{found}
+use Rattle.pv_graph.proofs.Cited.{found}
 use Rattle.pv_graph.specs.Walks.{In}
 use Rattle.pv_graph.specs.Graphs.{Graph, Extends}
 use Rattle.pv_equations.specs.Equations.{Values, first_kid}
 use Rattle.pv_terms.specs.Terms.{has_depth, IsFlat, GrowsBy, Grows}
 use Rattle.pv_terms.specs.Laws.{depths, IsTiedName}
-use Rattle.pv_terms.proofs.Reading.{same_node, names_stand}
-use Rattle.pv_terms.proofs.Growing.{grows_wider}
+use Rattle.pv_terms.proofs.Cited.{same_node, names_stand, grows_wider}
 use Rattle.pv_build.specs.declared.method.Method.{Method}
 use Rattle.pv_build.specs.declared.method.Made.{Made}
 use Rattle.pv_build.specs.declared.method.Theta.{Theta}

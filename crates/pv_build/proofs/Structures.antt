@@ -11,8 +11,7 @@ use Rattle.pv_frame.specs.Causes.{cause}
 use Rattle.pv_flow.specs.declared.block.Block.{Block}
 use Rattle.pv_flow.specs.Edges.{edges_of}
 use Rattle.pv_flow.specs.Answers.{Answers, most_blocks, HasTooMany}
-use Rattle.pv_flow.proofs.Flows.{entry_block, edges_within}
-use Rattle.pv_flow.proofs.OneFlow.{one_flow}
+use Rattle.pv_flow.proofs.Cited.{entry_block, edges_within, one_flow}
 use Rattle.pv_loops.specs.declared.fault.TStep.{TStep}
 use Rattle.pv_loops.specs.declared.forest.TheConstants.{MAX_DEPTH}
 use Rattle.pv_loops.specs.Shapes.{IsShape}

@@ -5,7 +5,7 @@ use Rattle.std.specs.List.{Contains}
 use Rattle.std.proofs.lemmas.Bool.{eqb-true, eq-eqb}
 use Rattle.std.proofs.lemmas.List.{get_or_default}
 use Rattle.std.proofs.lemmas.Option.{slice_get_read}
-use Rattle.pv_frame.proofs.Lists.{contains_none, contains_first, contains_more, contains_cases}
+use Rattle.pv_frame.proofs.Cited.{contains_none, contains_first, contains_more, contains_cases}
 use Rattle.pv_loops.specs.declared.forest.Loop.{Loop}
 use Rattle.pv_loops.specs.declared.forest.Forest.{Forest}
 use Rattle.pv_loops.specs.declared.forest.TheConstants.{MAX_DEPTH}

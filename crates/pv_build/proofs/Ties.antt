@@ -9,13 +9,11 @@ use Rattle.pv_graph.specs.declared.node.Op.TheVariants as op
 use Rattle.pv_graph.specs.declared.node.OpSort.{OpSort}
 use Rattle.pv_graph.specs.declared.node.OpSort.TheVariants.{T, H, R}
 use Rattle.pv_graph.specs.declared.node.Node.{Node}
-use Rattle.pv_graph.proofs.Elements.{found}
+use Rattle.pv_graph.proofs.Cited.{found, set_same, set_other, set_length, tie_keeps_rule}
 use Rattle.pv_graph.specs.Nodes.{node_of}
 use Rattle.pv_graph.specs.Walks.{In}
 use Rattle.pv_graph.specs.Graphs.{Graph, IsWellMade}
 use Rattle.pv_graph.specs.Laws.{StaysIn}
-use Rattle.pv_graph.proofs.Tying.{set_same, set_other, set_length}
-use Rattle.pv_graph.proofs.TieRule.{tie_keeps_rule}
 use Rattle.pv_equations.specs.Flow.{To}
 use Rattle.pv_equations.specs.Equations.{Values, AreEquations, never_exp, tree_of, Back}
 use Rattle.pv_decide.specs.declared.aim.Scope.TheVariants as scope
@@ -26,7 +24,7 @@ use Rattle.pv_terms.specs.Reads.{Reads, AreNames, Stand}
 use Rattle.pv_terms.specs.Fold.{IsMaybeOf, ReadsMaybe}
 use Rattle.pv_terms.specs.Terms.{IsFlat, IsOfSort}
 use Rattle.pv_terms.specs.Laws.{depths, IsTiedName}
-use Rattle.pv_terms.proofs.Reading.{same_node, same_op, names_stand, extends_stand, tied_stand, stand_then, reads_stand}
+use Rattle.pv_terms.proofs.Cited.{same_node, same_op, names_stand, extends_stand, tied_stand, stand_then, reads_stand}
 use Rattle.pv_runs.specs.Blocks.{numbered_dest}
 use Rattle.pv_block.specs.Sorted.{op_sort}
 use Rattle.pv_block.specs.Ran.{slot_of, slot_at, dest_at, FitsFrame, IsSortedExit}

@@ -7,21 +7,16 @@ use Rattle.pv_frame.specs.declared.program.Program.{Program}
 use Rattle.pv_frame.specs.declared.frame.Frame.{Frame}
 use Rattle.pv_flow.specs.declared.block.Block.{Block}
 use Rattle.pv_flow.specs.Edges.{edges_of, FromEntry, entry, along}
-use Rattle.pv_flow.proofs.Flows.{edges_reach}
+use Rattle.pv_flow.proofs.Cited.{edges_reach}
 use Rattle.pv_loops.specs.declared.forest.Forest.{Forest}
 use Rattle.pv_equations.specs.Exp.{Exp}
 use Rattle.pv_equations.specs.Flow.{Part, put, Dest, To, Exit, Chain, Leave, Test, InChain, Flow, Heads, Edge, Shape}
 use Rattle.pv_equations.specs.Equations.{Target, Node, Back, Finish, Returning, Leaving, Place, On, Again, Header, Gone, Ended, Seen, Joins, IsChain, Values, outs, AtPlace, IsExit, IsTree, first_of_region, first_loops, tree_of, or_else, never_exp, Given, AreEquations}
-use Rattle.pv_equations.proofs.Follow.{seen_once, seen_to}
-use Rattle.pv_equations.proofs.Moves.{Goes, move}
-use Rattle.pv_equations.proofs.Walks.{Walk, stop, go, walk_then, IsNode, Walks, walk_around, header_back}
+use Rattle.pv_equations.proofs.Cited.{seen_once, seen_to, Goes, move, Walk, stop, go, walk_then, IsNode, Walks, walk_around, header_back}
 use Rattle.pv_runs.specs.Blocks.{place_chain}
 use Rattle.pv_runs.specs.Methods.{flow_of}
 use Rattle.pv_runs.specs.Laws.{IsRanked}
-use Rattle.pv_runs.proofs.Clean.{program_clean}
-use Rattle.pv_runs.proofs.Edges.{edge_exit}
-use Rattle.pv_runs.proofs.Ranked.{method_ranked}
-use Rattle.pv_runs.proofs.Typed.{typed_chain}
+use Rattle.pv_runs.proofs.Cited.{program_clean, edge_exit, method_ranked, typed_chain}
 use Rattle.pv_build.specs.Routine.{IsRoutine}
 
 -- ---- a tree gives something where an exit on its walks does

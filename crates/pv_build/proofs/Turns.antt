@@ -9,13 +9,12 @@ use Rattle.pv_flow.specs.declared.block.Block.{Block}
 use Rattle.pv_flow.specs.Edges.{edges_of}
 use Rattle.pv_loops.specs.declared.forest.Loop.{Loop}
 use Rattle.pv_loops.specs.Shapes.{Edge}
-use Rattle.pv_graph.proofs.Elements.{found}
+use Rattle.pv_graph.proofs.Cited.{found}
 use Rattle.pv_decide.specs.declared.site.Site.{Site}
 use Rattle.pv_decide.specs.declared.tree.Target.{Target}
 use Rattle.pv_decide.specs.declared.tree.Target.TheVariants as target
 use Rattle.pv_decide.specs.Sites.{IsAround, GoesTo, AreOrdered, place_of}
-use Rattle.pv_decide.proofs.Making.{edge_of, under}
-use Rattle.pv_decide.proofs.Places.{at_place, place_is, place_low}
+use Rattle.pv_decide.proofs.Cited.{edge_of, under, at_place, place_is, place_low}
 use Rattle.pv_build.specs.declared.method.Method.{Method}
 use Rattle.pv_build.specs.declared.method.Made.{Made}
 use Rattle.pv_build.specs.Stages.{IsMethod, HasRun, AreDone, loops_around}

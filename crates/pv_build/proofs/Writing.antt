@@ -16,12 +16,11 @@ use Rattle.pv_frame.specs.declared.frame.Frame.{Frame}
 use Rattle.pv_frame.specs.Stacks.{is_wide, last_local, popped, moved, has_room, first_cleared, set_local}
 use Rattle.pv_frame.specs.Effects.{takes}
 use Rattle.pv_frame.specs.Programs.{IsAt}
-use Rattle.pv_frame.proofs.FrameLaws.{some_of, if_some, popped_sorts}
+use Rattle.pv_frame.proofs.Cited.{some_of, if_some, popped_sorts}
 use Rattle.pv_runs.specs.Held.{Cell, Held, cell_sort, local_cell, increased_cell, unset, push, with_result, local_cells, held_at, acted_on, acted, local_slot}
 use Rattle.pv_runs.specs.Blocks.{acted_along}
 use Rattle.pv_runs.specs.Carrying.{holds_wide, writes_local, writes_heap, writes, writes_along}
-use Rattle.pv_runs.proofs.Options.{mapped, bound}
-use Rattle.pv_runs.proofs.Runs.{turns_local}
+use Rattle.pv_runs.proofs.Cited.{mapped, bound, turns_local}
 use Rattle.pv_build.specs.declared.carrying.Walk.{Walk}
 use Rattle.pv_build.specs.Carried.{Knows, Stores, IsOther, Acts, Walked}
 use Rattle.pv_build.proofs.Storing.{store_changes, changed, replaced, not_replaced}

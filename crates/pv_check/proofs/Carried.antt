@@ -10,7 +10,7 @@ use Rattle.pv_steps.specs.declared.step.Step.TheVariants.{Axiom, Flip, Chain, Se
 use Rattle.pv_steps.specs.Steps.{OpenBlock, assumed_in, open_after}
 use Rattle.pv_steps.specs.Right.{AddsNode, ClosesPair, RightOver}
 use Rattle.pv_axioms.specs.Entries.{Instance}
-use Rattle.pv_axioms.proofs.SameNodes.{same_instance}
+use Rattle.pv_axioms.proofs.Cited.{same_instance}
 
 abbrev pub prepared_as : Graph → Bool → Graph
 prepared_as g p = record { nodes = g.nodes; sorts = g.sorts; is_open = g.is_open; base = g.base; is_prepared = p }

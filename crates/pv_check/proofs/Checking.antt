@@ -9,7 +9,7 @@ use Rattle.pv_steps.specs.declared.step.Step.TheVariants as steps
 use Rattle.pv_steps.specs.declared.step.Step.{Step}
 use Rattle.pv_steps.specs.Right.{AddsNode, Grows, GraphAfter, RightOver}
 use Rattle.pv_steps.specs.Accepted.{AllRight, IsConcluded, Derives, Rejects, first_steps}
-use Rattle.pv_steps.proofs.Growing.{after_same}
+use Rattle.pv_steps.proofs.Cited.{after_same}
 use Rattle.pv_axioms.specs.Entries.{Instance}
 use Rattle.pv_check.specs.Growth.{GrowsTo}
 use Rattle.pv_check.specs.Kept.{AreKept}

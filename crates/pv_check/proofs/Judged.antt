@@ -5,7 +5,7 @@ use Rattle.pv_value.specs.declared.memory.Memory.{Memory}
 use Rattle.pv_alike.specs.Least.{Rooted}
 use Rattle.pv_steps.specs.declared.step.Step.{Step}
 use Rattle.pv_steps.specs.Accepted.{Derives, Rejects}
-use Rattle.pv_steps.proofs.Laws.{accepted_not_rejected, rejected_once}
+use Rattle.pv_steps.proofs.Cited.{accepted_not_rejected, rejected_once}
 use Rattle.pv_axioms.specs.Entries.{Instance}
 use Rattle.pv_check.specs.declared.checker.Checked.{Checked}
 use Rattle.pv_check.specs.declared.checker.Checked.TheVariants.{Accepted, Rejected}

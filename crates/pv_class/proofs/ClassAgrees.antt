@@ -2,7 +2,7 @@
 use Rattle.std.proofs.Common.{◌≡◌, ℕ, ◌+◌, ◌≤◌, List, [], ◌++◌, length, drop, refl, sym, ap, subst, ◌∙◌, append_assoc, arith}
 use Rattle.std.proofs.lemmas.List.{length-append, append-nil, drop_at}
 use Rattle.pv_pool.specs.Pools.{IsPoolText, IsPoolAt}
-use Rattle.pv_pool.proofs.Formats.{IsBytes, bytes_behind}
+use Rattle.pv_pool.proofs.Cited.{IsBytes, bytes_after}
 use Rattle.pv_class.specs.declared.class.TheConstants.{LONGEST_FILE}
 use Rattle.pv_class.specs.declared.file.ClassFile.{ClassFile}
 use Rattle.pv_class.specs.Grammars.{Takes}
@@ -88,7 +88,7 @@ takes_class bytes file c =
       rest = rest;
       head_is = subst Q (sym spelled) head_taken;
       after = after;
-      pool_is = record { text = i.pool_text; rest = later; stands = stands; is = d.pool; behind = refl };
+      pool_is = record { text = i.pool_text; rest = later; stands = stands; is = d.pool; ends = refl };
       tail_is = subst P (append-nil later ∙ sym last) tested;
     }
 
@@ -123,8 +123,8 @@ class_taken bytes file fits small t =
     let len : length front ≡ 8 = ap length h.text in
     let after_head : t.rest ≡ pool.text ++ pool.rest = sym (drop_at front t.rest 8 len) ∙ ap (λ (u : List ℕ). drop 8 u) (sym p.1) ∙ pool.stands in
     let parts : bytes ≡ front ++ (pool.text ++ pool.rest) = p.1 ∙ ap (λ (u : List ℕ). front ++ u) after_head in
-    let last : drop t.after bytes ≡ pool.rest = parts_after bytes front pool.text pool.rest t.after parts len pool.behind in
-    let fits_last : IsBytes pool.rest = bytes_behind (pool.text ++ pool.rest) pool.text pool.rest refl (bytes_behind bytes front (pool.text ++ pool.rest) parts fits) in
+    let last : drop t.after bytes ≡ pool.rest = parts_after bytes front pool.text pool.rest t.after parts len pool.ends in
+    let fits_last : IsBytes pool.rest = bytes_after (pool.text ++ pool.rest) pool.text pool.rest refl (bytes_after bytes front (pool.text ++ pool.rest) parts fits) in
     let P : List ℕ → Type 0 = λ u. Takes (tail file.pool) u file.methods [] in
     let q = (untested_texts file.pool).takes pool.rest file.methods [] fits_last (tail_untested file.pool pool.rest file.methods [] (subst P last t.tail_is)) in
     let later : pool.rest ≡ tail_text q.2.items = q.1 ∙ append-nil q.0 ∙ q.2.text in

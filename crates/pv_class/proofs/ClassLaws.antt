@@ -1,7 +1,7 @@
 -- The bytes of a class file are those of no other, and there is one answer to a file.
 use Rattle.std.proofs.Common.{◌≡◌, ℕ, List, [], drop, Result, sym, ap, ◌∙◌}
 use Rattle.pv_pool.specs.declared.entry.Entry.{Entry}
-use Rattle.pv_pool.proofs.Formats.{IsBytes}
+use Rattle.pv_pool.proofs.Cited.{IsBytes}
 use Rattle.pv_class.specs.declared.file.Method.{Method}
 use Rattle.pv_class.specs.declared.file.ClassFile.{ClassFile}
 use Rattle.pv_class.specs.declared.fault.ClassFault.{ClassFault}

@@ -5,14 +5,14 @@ use Rattle.std.proofs.lemmas.Bool.{and_parts, and_from, eq-eqb, eqb-true, leb-tr
 use Rattle.std.proofs.lemmas.List.{append-nil}
 use Rattle.pv_pool.specs.declared.entry.Entry.{Entry}
 use Rattle.pv_pool.specs.Pools.{HasText, HasClass}
-use Rattle.pv_pool.proofs.Formats.{Then, Done}
+use Rattle.pv_pool.proofs.Cited.{Then, Done}
 use Rattle.pv_class.specs.declared.file.Method.{Method}
 use Rattle.pv_class.specs.declared.fault.Cause.TheVariants as cause
 use Rattle.pv_class.specs.Checks.{holds, class, class_or_none}
 use Rattle.pv_class.specs.Grammars.{Grammar, give, here, check, bind, Takes, failure}
 use Rattle.pv_class.specs.Grammars as grammar
 use Rattle.pv_class.specs.ClassGrammar.{in_file, skipped, interface, field, all_methods, head, class_front, class_end, tail}
-use Rattle.pv_class.specs.Items.{u2, u4, IsU2, table, IsTable, Attribute, attribute_text, FitsAttribute, Member, member_text, FitsMember}
+use Rattle.pv_class.specs.Items.{u2, u4, IsU2, table, IsTable, Attribute, attribute_text, FitsAttribute, MemberInfo, member_text, FitsMemberInfo}
 use Rattle.pv_class.specs.ClassFiles.{IsField, IsMethod, AreDistinct}
 use Rattle.pv_class.proofs.Takings.{IsTexts, same_texts, then_texts, check_texts, here_texts, give_texts, then_takes, takes_then, Follow, with_u2, with_u4, joined, ended, Table, table_texts}
 use Rattle.pv_class.proofs.ItemTexts.{both_of, of_both, IsIndex, with_index, IsAttribute, attributes_texts, IsInterface, interface_texts, IsPlainField, field_texts}
@@ -113,8 +113,8 @@ pub record TailItems : Type 0 where
   pub this : ℕ
   pub super : ℕ
   pub interfaces : List ℕ
-  pub fields : List Member
-  pub methods : List Member
+  pub fields : List MemberInfo
+  pub methods : List MemberInfo
   pub attributes : List Attribute
 
 abbrev pub tail_text : TailItems → List ℕ
@@ -128,9 +128,9 @@ pub record IsTail (pool : List Entry) (t : List ℕ) (all : List Method) : Type 
   pub super : IsIndex (class_or_none pool) items.super
   pub interfaces : IsTable IsU2 items.interfaces
   pub are_interfaces : AllByRecursion (HasClass pool) items.interfaces
-  pub fields : IsTable FitsMember items.fields
+  pub fields : IsTable FitsMemberInfo items.fields
   pub are_fields : AllByRecursion (IsField pool) items.fields
-  pub methods : IsTable FitsMember items.methods
+  pub methods : IsTable FitsMemberInfo items.methods
   pub are_methods : AllZip (IsMethod pool) items.methods all
   pub distinct : AreDistinct all
   pub attributes : IsTable FitsAttribute items.attributes
@@ -173,7 +173,7 @@ to_tail pool t all s =
     let ms = fs.others in
     let attrs = ms.others in
     let interfaces = both_of IsU2 (HasClass pool) is.fits.0 is.fits.4 in
-    let fields = both_of FitsMember (IsField pool) fs.fits.0 fs.fits.4 in
+    let fields = both_of FitsMemberInfo (IsField pool) fs.fits.0 fs.fits.4 in
     let attributes = both_of FitsAttribute (λ a. HasText pool a.name) attrs.fits.0 attrs.fits.4 in
     let items : TailItems = record { flags = f.flags; this = f.this; super = f.super; interfaces = is.fits.0; fields = fs.fits.0; methods = ms.fits.members; attributes = attrs.fits.0 } in
     let later = beside is.parts is.fits.2 (beside fs.parts fs.fits.2 (beside ms.parts ms.fits.text (ended attrs.front attrs.parts attrs.others.0 ∙ attrs.fits.2))) in
@@ -206,7 +206,7 @@ of_tail pool t all s =
     let first = u2 i.flags ++ (u2 i.this ++ u2 i.super) in
     let front : IsClassFront pool first tt = record { flags = i.flags; this = i.this; super = i.super; text = refl; flags_fit = s.flags; this_is = s.this; super_is = s.super } in
     let interfaces : Table u2 (IsInterface pool) I (length i.interfaces) = (i.interfaces, refl, refl, s.interfaces.0, of_both IsU2 (HasClass pool) i.interfaces s.interfaces.1 s.are_interfaces) in
-    let fields : Table member_text (IsPlainField pool) F (length i.fields) = (i.fields, refl, refl, s.fields.0, of_both FitsMember (IsField pool) i.fields s.fields.1 s.are_fields) in
+    let fields : Table member_text (IsPlainField pool) F (length i.fields) = (i.fields, refl, refl, s.fields.0, of_both FitsMemberInfo (IsField pool) i.fields s.fields.1 s.are_fields) in
     let methods : AreMethods pool M all = record { members = i.methods; text = refl; fits = s.methods; are = s.are_methods; distinct = s.distinct } in
     let attributes : Table attribute_text (IsAttribute pool) A (length i.attributes) = (i.attributes, refl, refl, s.attributes.0, of_both FitsAttribute (λ a. HasText pool a.name) i.attributes s.attributes.1 s.are_attributes) in
     let e4 : E4 pool all A all = record { first = length i.attributes; front = A; back = []; parts = sym (append-nil A); fits = attributes; others = (refl, refl) } in

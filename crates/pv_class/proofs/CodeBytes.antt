@@ -3,11 +3,11 @@ use Rattle.std.proofs.Common.{◌≡◌, ℕ, zero, suc, ◌<◌, List, [], ◌�
 use Rattle.std.specs.List.{AllByRecursion, AllZip, Contains, flat_map}
 use Rattle.std.proofs.lemmas.List.Concat.{flat_map-cons}
 use Rattle.pv_pool.specs.declared.entry.Entry.{Entry}
-use Rattle.pv_pool.proofs.Formats.{IsBytes, IsBytes-left, IsBytes-right}
+use Rattle.pv_pool.proofs.Cited.{IsBytes, IsBytes-left, IsBytes-right}
 use Rattle.pv_class.specs.declared.file.Code.{Code}
 use Rattle.pv_class.specs.declared.file.Method.{Method}
 use Rattle.pv_class.specs.declared.file.ClassFile.{ClassFile}
-use Rattle.pv_class.specs.Items.{u2, u4, table, Attribute, attribute_text, Member, member_text, CodeItems, code_text, Items, file_text}
+use Rattle.pv_class.specs.Items.{u2, u4, table, Attribute, attribute_text, MemberInfo, member_text, CodeItems, code_text, Items, file_text}
 use Rattle.pv_class.specs.ClassFiles.{OneCode, CodeAmong, IsMethod, IsClass}
 
 -- the code of this method, if it has one
@@ -35,7 +35,7 @@ code_bytes c t = front c.code _ (after (u4 (length c.code)) _ (after (u2 c.max_l
 contents_bytes : (a : Attribute) → Text (attribute_text a) → Text a.contents
 contents_bytes a t = after (u4 (length a.contents)) a.contents (after (u2 a.name) _ t)
 
-attributes_bytes : (m : Member) → Text (member_text m) → Text (flat_map attribute_text m.attributes)
+attributes_bytes : (m : MemberInfo) → Text (member_text m) → Text (flat_map attribute_text m.attributes)
 attributes_bytes m t = after (u2 (length m.attributes)) _ (after (u2 m.desc) _ (after (u2 m.name) _ (after (u2 m.flags) _ t)))
 
 one_code : (pool : List Entry) (attributes : List Attribute) (code : Code) → Text (flat_map attribute_text attributes) → OneCode pool attributes code → IsBytes code.bytes
@@ -44,10 +44,10 @@ one_code pool attributes code t one =
     let contents = subst Text one.holds.spelled (contents_bytes one.attribute text) in
     subst (λ (c : Code). IsBytes c.bytes) (sym one.holds.held) (code_bytes one.items contents).bytes
 
-method_bytes : (pool : List Entry) (m : Member) (method : Method) → Text (member_text m) → IsMethod pool m method → HasBytes method
+method_bytes : (pool : List Entry) (m : MemberInfo) (method : Method) → Text (member_text m) → IsMethod pool m method → HasBytes method
 method_bytes pool m method t is code has = one_code pool m.attributes code (attributes_bytes m t) (subst (CodeAmong pool m.attributes) has is.code)
 
-methods_bytes : (pool : List Entry) (ms : List Member) (methods : List Method) → Text (flat_map member_text ms) → AllZip (IsMethod pool) ms methods → AllByRecursion HasBytes methods
+methods_bytes : (pool : List Entry) (ms : List MemberInfo) (methods : List Method) → Text (flat_map member_text ms) → AllZip (IsMethod pool) ms methods → AllByRecursion HasBytes methods
 methods_bytes pool [] [] t are = tt
 methods_bytes pool [] (method ∷ methods) t are = absurd are
 methods_bytes pool (m ∷ ms) [] t are = absurd are

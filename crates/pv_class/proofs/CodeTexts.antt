@@ -5,7 +5,7 @@ use Rattle.std.proofs.lemmas.List.{length-append, append-nil}
 use Rattle.pv_pool.specs.declared.entry.Entry.{Entry}
 use Rattle.pv_pool.specs.Pools.{HasText}
 use Rattle.std.specs.Int.{w32}
-use Rattle.pv_pool.proofs.Formats.{IsBytes, bytes_behind, Then, Done, wide32}
+use Rattle.pv_pool.proofs.Cited.{IsBytes, bytes_after, Then, Done, wide32}
 use Rattle.pv_class.specs.declared.room.Room.{Room}
 use Rattle.pv_class.specs.declared.file.Code.{Code}
 use Rattle.pv_class.specs.declared.fault.Cause.TheVariants as cause
@@ -219,7 +219,7 @@ code_takes pool start bytes c rest fits h =
     let p = (number_texts in_file w32 wide32).takes bytes size o.1 fits o.2 in
     let left = length o.1 in
     let b = body_taken pool (in_code start size left) start size left o.1 c rest o.3 in
-    let q = (body_texts pool (in_code start size left) start).takes o.1 c rest (bytes_behind bytes p.0 o.1 p.1 fits) b.0 in
+    let q = (body_texts pool (in_code start size left) start).takes o.1 c rest (bytes_after bytes p.0 o.1 p.1 fits) b.0 in
     let contents = q.0 in
     let len : size ≡ length contents = omega (arith, b.1, ap length q.1, length-append contents rest) in
     let text : p.0 ++ contents ≡ contents_text contents = ap (λ (u : List ℕ). u ++ contents) (p.2.0 ∙ ap (λ (n : ℕ). u4 n) len) in

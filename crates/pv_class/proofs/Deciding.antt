@@ -11,9 +11,7 @@ use Rattle.pv_value.specs.declared.descriptor.Descriptor.{Descriptor}
 use Rattle.pv_value.specs.declared.descriptor.JType.{JType}
 use Rattle.pv_value.specs.Descriptors.{IsFieldType, IsResult, IsMethodType}
 use Rattle.pv_value.specs.Reading.{field_at, ReadsParams}
-use Rattle.pv_value.proofs.Once.{no_bracket, method_again}
-use Rattle.pv_value.proofs.FieldTypes.{is_whole as whole_is, is_unread, is_longer}
-use Rattle.pv_value.proofs.MethodTypes.{method_takes, is_shorter}
+use Rattle.pv_value.proofs.Cited.{no_bracket, method_again, is_whole as whole_is, is_unread, is_longer, method_takes, is_shorter}
 use Rattle.pv_pool.specs.declared.entry.Entry.{Entry}
 use Rattle.pv_pool.specs.declared.entry.Entry.TheVariants as entry
 use Rattle.pv_pool.specs.Pools.{entry_under, HasText, HasClass}

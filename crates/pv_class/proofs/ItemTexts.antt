@@ -8,17 +8,17 @@ use Rattle.pv_pool.specs.declared.entry.Entry.{Entry}
 use Rattle.pv_pool.specs.declared.entry.Entry.TheVariants.{Utf8}
 use Rattle.pv_pool.specs.Pools.{entry_under, HasText, HasClass}
 use Rattle.pv_pool.specs.Readers.{◌>>=◌, text_of, text_under}
-use Rattle.pv_pool.proofs.Formats.{Done, Then}
+use Rattle.pv_pool.proofs.Cited.{Done, Then}
 use Rattle.pv_class.specs.declared.room.Room.{Room}
-use Rattle.pv_class.specs.declared.member.Member as front
-use Rattle.pv_class.specs.declared.member.Kind.{Kind}
-use Rattle.pv_class.specs.declared.member.Kind.TheVariants as kind
+use Rattle.pv_class.specs.declared.member.MemberHead as front
+use Rattle.pv_class.specs.declared.member.MemberKind.{MemberKind}
+use Rattle.pv_class.specs.declared.member.MemberKind.TheVariants as kind
 use Rattle.pv_class.specs.declared.fault.Cause.TheVariants as cause
 use Rattle.pv_class.specs.Checks.{Check, Passes, utf8, class}
 use Rattle.pv_class.specs.Grammars.{Grammar, bind, failure}
 use Rattle.pv_class.specs.Grammars as grammar
 use Rattle.pv_class.specs.ClassGrammar.{in_file, index, contents, skipped, interface, handler, member, field, typed, text_at, or_nothing}
-use Rattle.pv_class.specs.Items.{u2, u4, IsU2, table, Attribute, attribute_text, FitsAttribute, Member, member_text, FitsMember, Handler, handler_text, FitsHandler}
+use Rattle.pv_class.specs.Items.{u2, u4, IsU2, table, Attribute, attribute_text, FitsAttribute, MemberInfo, member_text, FitsMemberInfo, Handler, handler_text, FitsHandler}
 use Rattle.pv_class.specs.ClassFiles.{IsField}
 use Rattle.pv_class.proofs.Takings.{IsTexts, same_texts, then_texts, check_texts, here_texts, give_texts, Follow, follow_texts, with_u2, with_u4, with_run, IsU4, itself, HasLength, joined, ended, One, Table, table_texts}
 
@@ -152,26 +152,26 @@ handler_texts room =
 -- ---- fields
 
 -- what a field or a method begins with
-pub record IsFront (k : Kind) (pool : List Entry) (t : List ℕ) (m : front.Member) : Type 0 where
+pub record IsFront (k : MemberKind) (pool : List Entry) (t : List ℕ) (m : front.MemberHead) : Type 0 where
   pub text : t ≡ u2 m.flags ++ (u2 m.name ++ u2 m.desc)
   pub flags : IsU2 m.flags
   pub name : IsIndex (utf8 pool) m.name
   pub desc : IsIndex (utf8 pool) m.desc
   pub typed : Passes (typed k (text_at pool m.desc))
 
-pub member_texts : (k : Kind) (pool : List Entry) → IsTexts (member k pool) in_file (IsFront k pool)
+pub member_texts : (k : MemberKind) (pool : List Entry) → IsTexts (member k pool) in_file (IsFront k pool)
 unfolding member
 member_texts k pool =
-    let made : ℕ → ℕ → ℕ → front.Member = λ flags name desc. record { flags = flags; name = name; desc = desc } in
-    let T3 : ℕ → ℕ → ℕ → List ℕ → front.Member → Type 0 = λ flags name desc t m. Passes (typed k (text_at pool desc)) × Done (made flags name desc) t m in
-    let T2 : ℕ → ℕ → List ℕ → front.Member → Type 0 = λ flags name. Follow u2 (IsIndex (utf8 pool)) (T3 flags name) in
-    let T1 : ℕ → List ℕ → front.Member → Type 0 = λ flags. Follow u2 (IsIndex (utf8 pool)) (T2 flags) in
+    let made : ℕ → ℕ → ℕ → front.MemberHead = λ flags name desc. record { flags = flags; name = name; desc = desc } in
+    let T3 : ℕ → ℕ → ℕ → List ℕ → front.MemberHead → Type 0 = λ flags name desc t m. Passes (typed k (text_at pool desc)) × Done (made flags name desc) t m in
+    let T2 : ℕ → ℕ → List ℕ → front.MemberHead → Type 0 = λ flags name. Follow u2 (IsIndex (utf8 pool)) (T3 flags name) in
+    let T1 : ℕ → List ℕ → front.MemberHead → Type 0 = λ flags. Follow u2 (IsIndex (utf8 pool)) (T2 flags) in
     same_texts (here_texts (λ left. with_u2 in_file T1 (λ flags. with_index in_file (utf8 pool) (T2 flags) (λ name. with_index in_file (utf8 pool) (T3 flags name) (λ desc. check_texts (typed k (text_at pool desc)) (failure cause.Descriptor left) (give_texts (made flags name desc)))))))
     (λ t m a.
     let b = a.4 in
     let c = b.4 in
     let all : IsFront k pool t (made a.0 b.0 c.0) = record { text = joined (u2 a.0) a.2 (joined (u2 b.0) b.2 (ended (u2 c.0) c.2 c.4.1.0)); flags = a.3; name = b.3; desc = c.3; typed = c.4.0 } in
-    subst (λ (n : front.Member). IsFront k pool t n) (sym c.4.1.1) all)
+    subst (λ (n : front.MemberHead). IsFront k pool t n) (sym c.4.1.1) all)
     (λ t m s. (
       m.flags,
       u2 m.name ++ u2 m.desc,
@@ -187,22 +187,22 @@ member_texts k pool =
     ))
 
 -- the attributes after the front of a member
-abbrev pub with_attributes : front.Member → List Attribute → Member
+abbrev pub with_attributes : front.MemberHead → List Attribute → MemberInfo
 with_attributes m attributes = record { flags = m.flags; name = m.name; desc = m.desc; attributes = attributes }
 
-abbrev pub front_of : Member → front.Member
+abbrev pub front_of : MemberInfo → front.MemberHead
 front_of m = record { flags = m.flags; name = m.name; desc = m.desc }
 
-abbrev pub front_text : front.Member → List ℕ
+abbrev pub front_text : front.MemberHead → List ℕ
 front_text m = u2 m.flags ++ (u2 m.name ++ u2 m.desc)
 
 pub member_parts : (a b c d : List ℕ) → (a ++ (b ++ c)) ++ d ≡ a ++ (b ++ (c ++ d))
 member_parts a b c d = simp append_assoc
 
-abbrev pub IsPlainField : List Entry → Member → Type 0
-IsPlainField pool m = FitsMember m × IsField pool m
+abbrev pub IsPlainField : List Entry → MemberInfo → Type 0
+IsPlainField pool m = FitsMemberInfo m × IsField pool m
 
-field_typed : (pool : List Entry) (m : Member) → IsField pool m → (t : JType) × IsFieldType (text_at pool m.desc) t
+field_typed : (pool : List Entry) (m : MemberInfo) → IsField pool m → (t : JType) × IsFieldType (text_at pool m.desc) t
 field_typed pool m is = subst (λ (desc : List ℕ). (t : JType) × IsFieldType desc t) (sym (text_read pool m.desc is.desc is.desc_is)) is.typed
 
 pub field_texts : (pool : List Entry) → IsTexts (field pool) in_file (One member_text (IsPlainField pool))

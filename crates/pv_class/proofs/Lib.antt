@@ -17,3 +17,4 @@ pub mod ClassAgrees
 pub mod ClassLaws
 mod Examples
 pub mod CodeBytes
+pub mod Cited

@@ -6,9 +6,9 @@ use Rattle.pv_value.specs.declared.descriptor.Descriptor.{Descriptor}
 use Rattle.pv_value.specs.Descriptors.{IsMethodType}
 use Rattle.pv_pool.specs.declared.entry.Entry.{Entry}
 use Rattle.pv_pool.specs.Pools.{HasText}
-use Rattle.pv_pool.proofs.Formats.{Then, Done}
-use Rattle.pv_class.specs.declared.member.Member as front
-use Rattle.pv_class.specs.declared.member.Kind.TheVariants as kind
+use Rattle.pv_pool.proofs.Cited.{Then, Done}
+use Rattle.pv_class.specs.declared.member.MemberHead as front
+use Rattle.pv_class.specs.declared.member.MemberKind.TheVariants as kind
 use Rattle.pv_class.specs.declared.file.Code.{Code}
 use Rattle.pv_class.specs.declared.file.Method.{Method}
 use Rattle.pv_class.specs.declared.signature.Signature.{Signature}
@@ -16,7 +16,7 @@ use Rattle.pv_class.specs.declared.fault.Cause.TheVariants as cause
 use Rattle.pv_class.specs.Checks.{Passes, new}
 use Rattle.pv_class.specs.Grammars.{failure}
 use Rattle.pv_class.specs.ClassGrammar.{in_file, text_at, signature_of, method_of, signature, signatures, method, methods, all_methods}
-use Rattle.pv_class.specs.Items.{u2, IsU2, table, IsTable, attribute_text, FitsAttribute, Member, member_text, FitsMember}
+use Rattle.pv_class.specs.Items.{u2, IsU2, table, IsTable, attribute_text, FitsAttribute, MemberInfo, member_text, FitsMemberInfo}
 use Rattle.pv_class.specs.ClassFiles.{IsMethod, AreDistinct}
 use Rattle.pv_class.proofs.Takings.{IsTexts, same_texts, then_texts, check_texts, here_texts, give_texts, Follow, with_u2, joined, ended}
 use Rattle.pv_class.proofs.ItemTexts.{both_of, of_both, text_found, text_read, text_is, IsFront, member_texts, with_attributes, front_of, front_text, member_parts}
@@ -28,13 +28,13 @@ use Rattle.pv_class.proofs.Distinct.{Fresh, fresh_distinct, distinct_fresh}
 
 -- a method that is new after others with these signatures
 abbrev IsNew : List Entry → List Signature → List ℕ → Method → Type 0
-IsNew pool seen t method = (m : Member) × (t ≡ member_text m) × FitsMember m × IsMethod pool m method × (Contains seen (signature method) → ⊥)
+IsNew pool seen t method = (m : MemberInfo) × (t ≡ member_text m) × FitsMemberInfo m × IsMethod pool m method × (Contains seen (signature method) → ⊥)
 
-abbrev AfterFront : List Entry → front.Member → List ℕ → Method → Type 0
+abbrev AfterFront : List Entry → front.MemberHead → List ℕ → Method → Type 0
 AfterFront pool m = Follow u2 IsU2 (λ n. Then (Option Code) Method (KeepAll pool None n) (λ code. Done (method_of pool m code)))
 
 abbrev Parts : List Entry → List Signature → List ℕ → Method → Type 0
-Parts pool seen = Then front.Member Method (IsFront kind.Method pool) (λ m t y. Passes (new seen (signature_of pool m)) × AfterFront pool m t y)
+Parts pool seen = Then front.MemberHead Method (IsFront kind.Method pool) (λ m t y. Passes (new seen (signature_of pool m)) × AfterFront pool m t y)
 
 to_new : (pool : List Entry) (seen : List Signature) (t : List ℕ) (y : Method) → Parts pool seen t y → IsNew pool seen t y
 to_new pool seen t y s =
@@ -49,7 +49,7 @@ to_new pool seen t y s =
     let made = method_of pool m k.first in
     let later : s.back ≡ table attribute_text attrs = joined (u2 b.0) b.2 (ended k.front k.parts k.others.0 ∙ k.fits.2) ∙ ap (λ (n : ℕ). u2 n ++ flat_map attribute_text attrs) (sym len) in
     let text : t ≡ member_text all = s.parts ∙ ap (λ (u : List ℕ). u ++ s.back) f.text ∙ ap (λ (u : List ℕ). front_text m ++ u) later ∙ member_parts (u2 m.flags) (u2 m.name) (u2 m.desc) (table attribute_text attrs) in
-    let fits : FitsMember all = record { flags = f.flags; name = f.name.0; desc = f.desc.0; attributes = (subst IsU2 (sym len) b.3, both.0) } in
+    let fits : FitsMemberInfo all = record { flags = f.flags; name = f.name.0; desc = f.desc.0; attributes = (subst IsU2 (sym len) b.3, both.0) } in
     let is : IsMethod pool all made = record { flags = refl; name = text_found pool m.name f.name.1; desc = text_found pool m.desc f.desc.1; typed = f.typed; attributes = both.1; code = code_among pool attrs k.first k.fits.4 } in
     let whole : IsNew pool seen t made = (all, text, fits, is, s.others.0) in
     subst (λ (x : Method). IsNew pool seen t x) (sym k.others.1) whole
@@ -84,7 +84,7 @@ of_new pool seen t y s =
 method_texts : (pool : List Entry) (seen : List Signature) → IsTexts (method pool seen) in_file (IsNew pool seen)
 unfolding method
 method_texts pool seen =
-    let last : front.Member → ℕ → List ℕ → Method → Type 0 = λ m n. Then (Option Code) Method (KeepAll pool None n) (λ code. Done (method_of pool m code)) in
+    let last : front.MemberHead → ℕ → List ℕ → Method → Type 0 = λ m n. Then (Option Code) Method (KeepAll pool None n) (λ code. Done (method_of pool m code)) in
     same_texts (here_texts (λ left. then_texts (member_texts kind.Method pool) (λ m. check_texts (new seen (signature_of pool m)) (failure cause.Duplicate left) (with_u2 in_file (last m) (λ n. then_texts (kept_texts pool n None) (λ code. give_texts (method_of pool m code)))))))
     (to_new pool seen)
     (of_new pool seen)
@@ -93,7 +93,7 @@ method_texts pool seen =
 
 abbrev AreNew : List Entry → ℕ → List Method → List ℕ → List Method → Type 0
 AreNew pool n so_far t all =
-    (ms : List Member) × (ys : List Method) × (length ms ≡ n) × (t ≡ flat_map member_text ms) × AllByRecursion FitsMember ms × AllZip (IsMethod pool) ms ys × Fresh so_far ys × (all ≡ so_far ++ ys)
+    (ms : List MemberInfo) × (ys : List Method) × (length ms ≡ n) × (t ≡ flat_map member_text ms) × AllByRecursion FitsMemberInfo ms × AllZip (IsMethod pool) ms ys × Fresh so_far ys × (all ≡ so_far ++ ys)
 
 none_left : (pool : List Entry) (so_far : List Method) (t : List ℕ) (all : List Method) → AreNew pool 0 so_far t all → Done so_far t all
 none_left pool so_far t all ([], [], len, e, fits, zip, fresh, is) = (e, is ∙ append-nil so_far)
@@ -130,9 +130,9 @@ methods_texts pool (suc n) so_far = same_texts (then_texts (method_texts pool (s
 -- ---- all methods
 
 pub record AreMethods (pool : List Entry) (t : List ℕ) (all : List Method) : Type 0 where
-  pub members : List Member
+  pub members : List MemberInfo
   pub text : t ≡ table member_text members
-  pub fits : IsTable FitsMember members
+  pub fits : IsTable FitsMemberInfo members
   pub are : AllZip (IsMethod pool) members all
   pub distinct : AreDistinct all
 

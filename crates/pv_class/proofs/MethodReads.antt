@@ -3,8 +3,8 @@ use Rattle.std.proofs.Common.{◌≡◌, ℕ, suc, ◌+◌, ◌-◌, ◌<◌, �
 use Rattle.pv_pool.specs.declared.entry.Entry.{Entry}
 use Rattle.pv_class.specs.declared.file.Code.{Code}
 use Rattle.pv_class.specs.declared.file.Method.{Method}
-use Rattle.pv_class.specs.declared.member.Member.{Member}
-use Rattle.pv_class.specs.declared.member.Kind.TheVariants as kind
+use Rattle.pv_class.specs.declared.member.MemberHead.{MemberHead}
+use Rattle.pv_class.specs.declared.member.MemberKind.TheVariants as kind
 use Rattle.pv_class.specs.declared.signature.Signature.{Signature}
 use Rattle.pv_class.specs.declared.fault.Cause.TheVariants as cause
 use Rattle.pv_class.specs.declared.fault.Failure.{Failure}
@@ -18,20 +18,20 @@ use Rattle.pv_class.proofs.Grammars.{read_then, read_give, fails_first, fails_as
 
 -- ---- a method
 
-abbrev after_count : List Entry → Member → ℕ → Grammar Method
+abbrev after_count : List Entry → MemberHead → ℕ → Grammar Method
 after_count pool m n = bind (attributes pool n None) (λ code. give (method_of pool m code))
 
-abbrev after_check : List Entry → Member → Grammar Method
+abbrev after_check : List Entry → MemberHead → Grammar Method
 after_check pool m = bind (u2 in_file) (λ n. after_count pool m n)
 
-abbrev after_member : List Entry → List Signature → ℕ → Member → Grammar Method
+abbrev after_member : List Entry → List Signature → ℕ → MemberHead → Grammar Method
 after_member pool seen left m = check (new seen (signature_of pool m)) (failure cause.Duplicate left) (after_check pool m)
 
 pub member_fails : (pool : List Entry) (seen : List Signature) (bytes : List ℕ) (s : Stop) → Fails s (read (member kind.Method pool) bytes) → Fails s (read (method pool seen) bytes)
 unfolding method read
 member_fails pool seen bytes s h = fails_first (member kind.Method pool) (λ m. after_member pool seen (length bytes) m) bytes s h
 
-read_member : (pool : List Entry) (seen : List Signature) (bytes rest : List ℕ) (m : Member) → read (member kind.Method pool) bytes ≡ Ok (m, rest) → read (method pool seen) bytes ≡ read (after_member pool seen (length bytes) m) rest
+read_member : (pool : List Entry) (seen : List Signature) (bytes rest : List ℕ) (m : MemberHead) → read (member kind.Method pool) bytes ≡ Ok (m, rest) → read (method pool seen) bytes ≡ read (after_member pool seen (length bytes) m) rest
 unfolding method read
 read_member pool seen bytes rest m e = read_then (member kind.Method pool) (λ m. after_member pool seen (length bytes) m) bytes m rest e
 
@@ -43,23 +43,23 @@ check_failed : {A : Type 0} (seen : List Signature) (s : Signature) (f : Failure
 unfolding read
 check_failed seen s f g bytes e = rw e refl
 
-pub duplicate : (pool : List Entry) (seen : List Signature) (bytes rest : List ℕ) (m : Member) → read (member kind.Method pool) bytes ≡ Ok (m, rest) → passes (new seen (signature_of pool m)) ≡ false → read (method pool seen) bytes ≡ Err (failure cause.Duplicate (length bytes))
+pub duplicate : (pool : List Entry) (seen : List Signature) (bytes rest : List ℕ) (m : MemberHead) → read (member kind.Method pool) bytes ≡ Ok (m, rest) → passes (new seen (signature_of pool m)) ≡ false → read (method pool seen) bytes ≡ Err (failure cause.Duplicate (length bytes))
 duplicate pool seen bytes rest m e old = read_member pool seen bytes rest m e ∙ check_failed seen (signature_of pool m) (failure cause.Duplicate (length bytes)) (after_check pool m) rest old
 
-read_check : (pool : List Entry) (seen : List Signature) (bytes rest : List ℕ) (m : Member) → read (member kind.Method pool) bytes ≡ Ok (m, rest) → passes (new seen (signature_of pool m)) ≡ true → read (method pool seen) bytes ≡ read (after_check pool m) rest
+read_check : (pool : List Entry) (seen : List Signature) (bytes rest : List ℕ) (m : MemberHead) → read (member kind.Method pool) bytes ≡ Ok (m, rest) → passes (new seen (signature_of pool m)) ≡ true → read (method pool seen) bytes ≡ read (after_check pool m) rest
 read_check pool seen bytes rest m e fresh = read_member pool seen bytes rest m e ∙ check_passed seen (signature_of pool m) (failure cause.Duplicate (length bytes)) (after_check pool m) rest fresh
 
-pub count_fails : (pool : List Entry) (seen : List Signature) (bytes rest : List ℕ) (m : Member) (s : Stop) → read (member kind.Method pool) bytes ≡ Ok (m, rest) → passes (new seen (signature_of pool m)) ≡ true → Fails s (read (u2 in_file) rest) → Fails s (read (method pool seen) bytes)
+pub count_fails : (pool : List Entry) (seen : List Signature) (bytes rest : List ℕ) (m : MemberHead) (s : Stop) → read (member kind.Method pool) bytes ≡ Ok (m, rest) → passes (new seen (signature_of pool m)) ≡ true → Fails s (read (u2 in_file) rest) → Fails s (read (method pool seen) bytes)
 count_fails pool seen bytes rest m s e fresh h = fails_as s _ _ (read_check pool seen bytes rest m e fresh) (fails_first (u2 in_file) (λ n. after_count pool m n) rest s h)
 
-read_count : (pool : List Entry) (seen : List Signature) (bytes rest more : List ℕ) (m : Member) (n : ℕ) → read (member kind.Method pool) bytes ≡ Ok (m, rest) → passes (new seen (signature_of pool m)) ≡ true → read (u2 in_file) rest ≡ Ok (n, more) → read (method pool seen) bytes ≡ read (after_count pool m n) more
+read_count : (pool : List Entry) (seen : List Signature) (bytes rest more : List ℕ) (m : MemberHead) (n : ℕ) → read (member kind.Method pool) bytes ≡ Ok (m, rest) → passes (new seen (signature_of pool m)) ≡ true → read (u2 in_file) rest ≡ Ok (n, more) → read (method pool seen) bytes ≡ read (after_count pool m n) more
 read_count pool seen bytes rest more m n e fresh f = read_check pool seen bytes rest m e fresh ∙ read_then (u2 in_file) (λ n. after_count pool m n) rest n more f
 
-pub code_fails : (pool : List Entry) (seen : List Signature) (bytes rest more : List ℕ) (m : Member) (n : ℕ) (s : Stop) → read (member kind.Method pool) bytes ≡ Ok (m, rest) → passes (new seen (signature_of pool m)) ≡ true → read (u2 in_file) rest ≡ Ok (n, more) → Fails s (read (attributes pool n None) more)
+pub code_fails : (pool : List Entry) (seen : List Signature) (bytes rest more : List ℕ) (m : MemberHead) (n : ℕ) (s : Stop) → read (member kind.Method pool) bytes ≡ Ok (m, rest) → passes (new seen (signature_of pool m)) ≡ true → read (u2 in_file) rest ≡ Ok (n, more) → Fails s (read (attributes pool n None) more)
     → Fails s (read (method pool seen) bytes)
 code_fails pool seen bytes rest more m n s e fresh f h = fails_as s _ _ (read_count pool seen bytes rest more m n e fresh f) (fails_first (attributes pool n None) (λ code. give (method_of pool m code)) more s h)
 
-pub method_reads : (pool : List Entry) (seen : List Signature) (bytes rest more end : List ℕ) (m : Member) (n : ℕ) (code : Option Code) → read (member kind.Method pool) bytes ≡ Ok (m, rest) → passes (new seen (signature_of pool m)) ≡ true → read (u2 in_file) rest ≡ Ok (n, more)
+pub method_reads : (pool : List Entry) (seen : List Signature) (bytes rest more end : List ℕ) (m : MemberHead) (n : ℕ) (code : Option Code) → read (member kind.Method pool) bytes ≡ Ok (m, rest) → passes (new seen (signature_of pool m)) ≡ true → read (u2 in_file) rest ≡ Ok (n, more)
     → read (attributes pool n None) more ≡ Ok (code, end) → read (method pool seen) bytes ≡ Ok (method_of pool m code, end)
 method_reads pool seen bytes rest more end m n code e fresh f h =
     read_count pool seen bytes rest more m n e fresh f ∙ read_then (attributes pool n None) (λ code. give (method_of pool m code)) more code end h ∙ read_give (method_of pool m code) end

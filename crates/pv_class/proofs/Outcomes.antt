@@ -6,8 +6,7 @@ use Rattle.pv_pool.specs.declared.fault.PoolFault.{PoolFault}
 use Rattle.pv_pool.specs.declared.fault.PoolFault.TheVariants as fault
 use Rattle.pv_pool.specs.Pools.{IsPoolAt}
 use Rattle.pv_pool.specs.Faults as pool
-use Rattle.pv_pool.proofs.Formats.{IsBytes}
-use Rattle.pv_pool.proofs.Once.{one_answer, one_pool}
+use Rattle.pv_pool.proofs.Cited.{IsBytes, one_answer, one_pool}
 use Rattle.pv_class.specs.declared.class.TheConstants.{LONGEST_FILE}
 use Rattle.pv_class.specs.declared.file.Method.{Method}
 use Rattle.pv_class.specs.declared.file.ClassFile.{ClassFile}

@@ -4,7 +4,7 @@ use Rattle.std.specs.List.{flat_map, AllByRecursion}
 use Rattle.std.specs.Int.{Width, w16, w32, from_be_bytes, to_be_bytes}
 use Rattle.std.proofs.lemmas.List.{length-append, append-nil}
 use Rattle.pv_pool.specs.Entries.{FitsNumber}
-use Rattle.pv_pool.proofs.Formats.{IsBytes, IsBytes-left, bytes_behind, Then, Done, Run, Number, IsWide, wide16, wide32}
+use Rattle.pv_pool.proofs.Cited.{IsBytes, IsBytes-left, bytes_after, Then, Done, Run, Number, IsWide, wide16, wide32}
 use Rattle.pv_class.specs.declared.room.Room.{Room}
 use Rattle.pv_class.specs.declared.fault.Failure.{Failure}
 use Rattle.pv_class.specs.Checks.{Check, Passes}
@@ -52,7 +52,7 @@ then_texts {g = g} {k = k} f r = record {
   takes = λ bytes y rest fits h.
       let o = then_takes g k bytes y rest h in
       let p = f.takes bytes o.0 o.1 fits o.2 in
-      let q = (r o.0).takes o.1 y rest (bytes_behind bytes p.0 o.1 p.1 fits) o.3 in
+      let q = (r o.0).takes o.1 y rest (bytes_after bytes p.0 o.1 p.1 fits) o.3 in
       (p.0 ++ q.0, p.1 ∙ ap (λ (u : List ℕ). p.0 ++ u) q.1 ∙ sym (append_assoc p.0 q.0 rest), record { first = o.0; front = p.0; back = q.0; parts = refl; fits = p.2; others = q.2 });
   again = λ t y rest s le.
       let P : List ℕ → Type 0 = λ u. Takes g u s.first (s.back ++ rest) in

@@ -11,7 +11,7 @@ use Rattle.pv_class.specs.declared.class.TheConstants.{LONGEST_FILE}
 use Rattle.pv_class.specs.declared.file.Code.{Code}
 use Rattle.pv_class.specs.declared.file.Method.{Method}
 use Rattle.pv_class.specs.declared.file.ClassFile.{ClassFile}
-use Rattle.pv_class.specs.Items.{Attribute, Member, CodeItems, Items, code_text, file_text, FitsCode, FitsItems}
+use Rattle.pv_class.specs.Items.{Attribute, MemberInfo, CodeItems, Items, code_text, file_text, FitsCode, FitsItems}
 
 abbrev pub code_word : List ℕ
 code_word = codes "Code"
@@ -47,7 +47,7 @@ CodeAmong pool attributes None = AllByRecursion (λ a. ¬ IsCodeAttribute pool a
 CodeAmong pool attributes (Some code) = OneCode pool attributes code
 
 -- a field of a class file (JVMS 4.5)
-pub record IsField (pool : List Entry) (m : Member) : Type 0 where
+pub record IsField (pool : List Entry) (m : MemberInfo) : Type 0 where
   pub name : HasText pool m.name
   pub desc : List ℕ
   pub desc_is : text_under pool m.desc ≡ Some desc
@@ -55,7 +55,7 @@ pub record IsField (pool : List Entry) (m : Member) : Type 0 where
   pub attributes : AllByRecursion (λ a. HasText pool a.name) m.attributes
 
 -- a method of a class file, and what is kept of it (JVMS 4.6)
-pub record IsMethod (pool : List Entry) (m : Member) (method : Method) : Type 0 where
+pub record IsMethod (pool : List Entry) (m : MemberInfo) (method : Method) : Type 0 where
   pub flags : method.flags ≡ m.flags
   pub name : text_under pool m.name ≡ Some method.name
   pub desc : text_under pool m.desc ≡ Some method.desc

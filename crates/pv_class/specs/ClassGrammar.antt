@@ -5,9 +5,9 @@ use Rattle.pv_pool.specs.declared.entry.Entry.{Entry}
 use Rattle.pv_pool.specs.Readers.{text_under}
 use Rattle.pv_class.specs.declared.fault.Cause.TheVariants as cause
 use Rattle.pv_class.specs.declared.room.Room.{Room}
-use Rattle.pv_class.specs.declared.member.Member.{Member}
-use Rattle.pv_class.specs.declared.member.Kind.{Kind}
-use Rattle.pv_class.specs.declared.member.Kind.TheVariants as kind
+use Rattle.pv_class.specs.declared.member.MemberHead.{MemberHead}
+use Rattle.pv_class.specs.declared.member.MemberKind.{MemberKind}
+use Rattle.pv_class.specs.declared.member.MemberKind.TheVariants as kind
 use Rattle.pv_class.specs.declared.file.Code.{Code}
 use Rattle.pv_class.specs.declared.file.Method.{Method}
 use Rattle.pv_class.specs.declared.signature.Signature.{Signature}
@@ -45,12 +45,12 @@ unfoldable pub interface : Room → List Entry → Grammar (Unit {0})
 interface room pool = index room (class pool) >>= λ i. give tt
 
 -- what the descriptor of a member is tested for
-abbrev pub typed : Kind → List ℕ → Check
+abbrev pub typed : MemberKind → List ℕ → Check
 typed kind.Field desc = field_type desc
 typed kind.Method desc = method_type desc
 
 -- what a field or a method begins with (JVMS 4.5, 4.6)
-unfoldable pub member : Kind → List Entry → Grammar Member
+unfoldable pub member : MemberKind → List Entry → Grammar MemberHead
 member k pool = here λ left.
     u2 in_file >>= λ flags. index in_file (utf8 pool) >>= λ name. index in_file (utf8 pool) >>= λ desc.
     check (typed k (text_at pool desc)) (failure cause.Descriptor left) (give (record { flags = flags; name = name; desc = desc }))
@@ -94,10 +94,10 @@ unfoldable pub attributes : List Entry → ℕ → Option Code → Grammar (Opti
 attributes pool zero so_far = give so_far
 attributes pool (suc n) so_far = attribute pool so_far >>= λ now. attributes pool n now
 
-abbrev pub signature_of : List Entry → Member → Signature
+abbrev pub signature_of : List Entry → MemberHead → Signature
 signature_of pool m = record { name = text_at pool m.name; desc = text_at pool m.desc }
 
-abbrev pub method_of : List Entry → Member → Option Code → Method
+abbrev pub method_of : List Entry → MemberHead → Option Code → Method
 method_of pool m code = record { flags = m.flags; name = text_at pool m.name; desc = text_at pool m.desc; code = code }
 
 -- a method after others with these signatures (JVMS 4.6)

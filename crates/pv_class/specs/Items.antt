@@ -32,16 +32,16 @@ pub record FitsAttribute (a : Attribute) : Type 0 where
   pub contents : length a.contents < 2 ^ 32
 
 -- a field or a method (JVMS 4.5, 4.6)
-pub record Member : Type 0 where
+pub record MemberInfo : Type 0 where
   pub flags : ℕ
   pub name : ℕ
   pub desc : ℕ
   pub attributes : List Attribute
 
-abbrev pub member_text : Member → List ℕ
+abbrev pub member_text : MemberInfo → List ℕ
 member_text m = u2 m.flags ++ (u2 m.name ++ (u2 m.desc ++ table attribute_text m.attributes))
 
-pub record FitsMember (m : Member) : Type 0 where
+pub record FitsMemberInfo (m : MemberInfo) : Type 0 where
   pub flags : IsU2 m.flags
   pub name : IsU2 m.name
   pub desc : IsU2 m.desc
@@ -92,8 +92,8 @@ pub record Items : Type 0 where
   pub this : ℕ
   pub super : ℕ
   pub interfaces : List ℕ
-  pub fields : List Member
-  pub methods : List Member
+  pub fields : List MemberInfo
+  pub methods : List MemberInfo
   pub attributes : List Attribute
 
 abbrev pub file_text : Items → List ℕ
@@ -108,6 +108,6 @@ pub record FitsItems (i : Items) : Type 0 where
   pub this : IsU2 i.this
   pub super : IsU2 i.super
   pub interfaces : IsTable IsU2 i.interfaces
-  pub fields : IsTable FitsMember i.fields
-  pub methods : IsTable FitsMember i.methods
+  pub fields : IsTable FitsMemberInfo i.fields
+  pub methods : IsTable FitsMemberInfo i.methods
   pub attributes : IsTable FitsAttribute i.attributes

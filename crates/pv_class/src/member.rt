@@ -14,14 +14,14 @@ use std::alloc::Global;
 
 /// What begins so.
 #[derive(Clone, Copy)]
-pub(crate) enum Kind {
+pub(crate) enum MemberKind {
     Field,
     Method,
 }
 
 /// The flags of a field or a method, and the indices of its name and its descriptor.
 #[derive(Clone, Copy)]
-pub(crate) struct Member {
+pub(crate) struct MemberHead {
     pub flags: u16,
     pub name: u16,
     pub desc: u16,
@@ -52,12 +52,12 @@ fn is_method_type(alloc: Global, text: &[u8]) -> Result<bool, Memory>
 }
 
 /// Whether a text is the descriptor of such a member.
-fn is_typed(alloc: Global, kind: Kind, text: &[u8]) -> Result<bool, Memory>
+fn is_typed(alloc: Global, kind: MemberKind, text: &[u8]) -> Result<bool, Memory>
     ensures { IfOk result (λ is. is ≡ passes (typed kind text.now)) }
 {
     match kind {
-        Kind::Field => Ok(is_field_type(text)),
-        Kind::Method => is_method_type(alloc, text),
+        MemberKind::Field => Ok(is_field_type(text)),
+        MemberKind::Method => is_method_type(alloc, text),
     }
 }
 
@@ -65,10 +65,10 @@ fn is_typed(alloc: Global, kind: Kind, text: &[u8]) -> Result<bool, Memory>
 #[tactic(auto, unfolding(crate::specs::Reading::read, crate::specs::Grammars::bind, crate::specs::ClassGrammar::index, crate::specs::ClassGrammar::member))]
 pub(crate) fn member_at<'a>(
     alloc: Global,
-    kind: Kind,
+    kind: MemberKind,
     pool: &Pool,
     bytes: &'a [u8],
-) -> Result<(Member, &'a [u8]), Stop>
+) -> Result<(MemberHead, &'a [u8]), Stop>
     ensures { Gives (λ x. (x.0, x.1.now)) result (read (member kind pool.now) bytes.now) }
 {
     let (flags, rest) = u16_at(IN_FILE, bytes)?;
@@ -77,5 +77,5 @@ pub(crate) fn member_at<'a>(
     if !is_typed(alloc, kind, text_at(pool, desc))? {
         return Err(failed(Cause::Descriptor, bytes.len()));
     }
-    Ok((Member { flags, name, desc }, rest))
+    Ok((MemberHead { flags, name, desc }, rest))
 }

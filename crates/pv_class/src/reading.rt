@@ -9,7 +9,7 @@ use crate::code::code_at;
 use crate::fault::{Cause, Stop};
 use crate::file::{Code, Method, Methods};
 use crate::items::{contents_at, text_index_at, u16_at};
-use crate::member::{Kind, Member, member_at, text_at};
+use crate::member::{MemberHead, MemberKind, member_at, text_at};
 use crate::room::{IN_FILE, failed};
 use crate::seen::Seen;
 use crate::signature::Signature;
@@ -22,7 +22,7 @@ use std::alloc::Global;
 fn field_at<'a>(alloc: Global, pool: &Pool, bytes: &'a [u8]) -> Result<&'a [u8], Stop>
     ensures { Gives (λ x. (tt, x.now)) result (read (field pool.now) bytes.now) }
 {
-    let (_member, rest) = member_at(alloc, Kind::Field, pool, bytes)?;
+    let (_member, rest) = member_at(alloc, MemberKind::Field, pool, bytes)?;
     let (_attributes, rest) = table_at(Entries::Attributes, pool, IN_FILE, rest)?;
     Ok(rest)
 }
@@ -89,7 +89,7 @@ fn attributes_at<'a>(
 }
 
 /// The signature of a method.
-fn signature_of(alloc: Global, pool: &Pool, member: Member) -> Result<Signature, Memory>
+fn signature_of(alloc: Global, pool: &Pool, member: MemberHead) -> Result<Signature, Memory>
     ensures { IfOk result (λ s. s ≡ signature_of pool.now member) }
 {
     Ok(Signature {
@@ -102,7 +102,7 @@ fn signature_of(alloc: Global, pool: &Pool, member: Member) -> Result<Signature,
 fn method_of(
     alloc: Global,
     pool: &Pool,
-    member: Member,
+    member: MemberHead,
     code: Option<Code>,
 ) -> Result<Method, Memory>
     ensures { IfOk result (λ m. m ≡ method_of pool.now member code) }
@@ -125,7 +125,7 @@ fn method_at<'a>(
     ensures read { Gives (λ x. (x.0, x.1.now)) result (read (method pool.now seen.old) bytes.now) }
     ensures seen { IfOk result (λ x. seen.new ≡ seen.old ++ signature x.0 ∷ []) }
 {
-    let (member, rest) = member_at(alloc, Kind::Method, pool, bytes)?;
+    let (member, rest) = member_at(alloc, MemberKind::Method, pool, bytes)?;
     let signature = signature_of(alloc, pool, member)?;
     if !seen.put(signature)? {
         return Err(failed(Cause::Duplicate, bytes.len()));

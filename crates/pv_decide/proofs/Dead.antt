@@ -3,7 +3,7 @@ use Rattle.std.proofs.Common.{◌≡◌, ◌≢◌, ℕ, zero, suc, ◌+◌, ◌
 use Rattle.pv_equations.specs.Exp.{Exp}
 use Rattle.pv_equations.specs.Flow.{Part, put, To, Exit, Chain, Leave, Test, InChain, Flow, Heads}
 use Rattle.pv_equations.specs.Equations.{Place, On, Again, Header, Gone, Ended, Joins, IsChain, Values, outs, AtPlace, IsExit, IsTree, OfToken, Hits, Ahead, now, later, never_exp}
-use Rattle.pv_equations.proofs.Moves.{About, about}
+use Rattle.pv_equations.proofs.Cited.{About, about}
 use Rattle.pv_flow.specs.declared.block.Exit as code
 use Rattle.pv_flow.specs.declared.block.Exit.TheVariants as dest
 use Rattle.pv_decide.specs.declared.site.Site.{Site}

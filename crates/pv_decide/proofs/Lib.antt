@@ -10,3 +10,4 @@ pub mod Walked
 pub mod Reached
 pub mod Making
 pub mod OfFlow
+pub mod Cited

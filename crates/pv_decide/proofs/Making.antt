@@ -3,7 +3,7 @@ use Rattle.std.proofs.Common.{◌≡◌, ℕ, zero, suc, ◌+◌, ◌-◌, ◌<�
 use Rattle.std.specs.List.{All, Contains}
 use Rattle.std.proofs.lemmas.Option.{slice_get_within, slice_get-get_or, slice_get-map, get_or_from_slice_get}
 use Rattle.std.proofs.lemmas.List.{length-map}
-use Rattle.pv_frame.proofs.Lists.{contains_more, contains_cases, contains_none}
+use Rattle.pv_frame.proofs.Cited.{contains_more, contains_cases, contains_none}
 use Rattle.pv_flow.specs.declared.block.Exit.{Exit}
 use Rattle.pv_flow.specs.declared.block.Exit.TheVariants as exit
 use Rattle.pv_flow.specs.declared.block.Block.{Block}

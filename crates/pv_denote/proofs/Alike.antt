@@ -11,7 +11,7 @@ use Rattle.pv_graph.specs.declared.node.Op.{Op}
 use Rattle.pv_graph.specs.Ops.{Shape, plain, choice, theta, eval, pass, shift, root, shape}
 use Rattle.pv_graph.specs.Forms.{Form, form}
 use Rattle.pv_graph.specs.Graphs.{Graph, form_at, IsGraph}
-use Rattle.pv_graph.proofs.NodeLaws.{bind_some, node_at}
+use Rattle.pv_graph.proofs.Cited.{bind_some, node_at}
 use Rattle.pv_denote.specs.Denote.{Index, at_depth, truth, count_of, unit_of, fault_of, heap_of, by_iteration, ending, shaped, formed, den, looks}
 use Rattle.pv_denote.specs.Meaning.{index_of, AreSmall}
 use Rattle.pv_denote.specs.Given.{MayEvaluate}

@@ -22,7 +22,7 @@ use Rattle.pv_graph.specs.Ops.{Shape, plain, choice, theta, eval, pass, shift, r
 use Rattle.pv_graph.specs.Forms.{Form, form}
 use Rattle.pv_denote.specs.Denote.{Index, at_depth, numbers, scalar_on, truth, looked, end_part, result_part, fault_part, heap_part, over_call, strict, shaped, formed, den, looks}
 use Rattle.pv_denote.specs.Means.{Ending, Means}
-use Rattle.pv_graph.proofs.NodeLaws.{bind_some}
+use Rattle.pv_graph.proofs.Cited.{bind_some}
 use Rattle.pv_denote.proofs.Values.{With, den_says}
 
 -- the counts that an operation gives: 0, and one more than a kid's

@@ -19,7 +19,7 @@ use Rattle.pv_graph.specs.Ops.{plain, shape, is_depth, alike, eval_sort, shift_s
 use Rattle.pv_graph.specs.Forms.{Form}
 use Rattle.pv_graph.specs.Walks.{In}
 use Rattle.pv_graph.specs.Graphs.{Graph, form_at, IsGraph}
-use Rattle.pv_graph.proofs.NodeLaws.{bind_some, form_there, kid_within, sort_there, tied}
+use Rattle.pv_graph.proofs.Cited.{bind_some, form_there, kid_within, sort_there, tied}
 use Rattle.pv_denote.specs.Denote.{Index, at_depth, values, truth, looked, count_of, by_iteration, formed, den, looks}
 use Rattle.pv_denote.specs.Given.{Gives, Stops, MayEvaluate, IsSmall, over_kids, value_of}
 use Rattle.pv_denote.specs.declared.setting.Setting.{Setting}

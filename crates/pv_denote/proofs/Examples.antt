@@ -10,7 +10,7 @@ use Rattle.pv_value.specs.Spelled.{bind, params_at}
 use Rattle.pv_value.specs.Worlds.{empty_world}
 use Rattle.pv_value.specs.Heaps.{written}
 use Rattle.pv_value.specs.Narrowing.{kept, shown, read_as}
-use Rattle.pv_value.proofs.Writes.{read_same}
+use Rattle.pv_value.proofs.Cited.{read_same}
 use Rattle.pv_value.specs.declared.name.Sym.{Sym}
 use Rattle.pv_value.specs.declared.heap.Heap.{Heap}
 use Rattle.pv_value.specs.declared.heap.Loc.{Loc}
@@ -37,7 +37,7 @@ use Rattle.pv_graph.specs.Graphs.{form_at}
 use Rattle.pv_graph.specs.Calls.{AreSorts}
 use Rattle.std.specs.List.{AllZip}
 use Rattle.pv_graph.specs.Unfold.{UnfoldEqually}
-use Rattle.pv_graph.proofs.Bisimulations.{Matched, Bisimulates, bisimulates_unfolds}
+use Rattle.pv_graph.proofs.Cited.{Matched, Bisimulates, bisimulates_unfolds}
 
 abbrev node : Op → List ℕ → Node
 node o ks = record { op = o; kids = ks }

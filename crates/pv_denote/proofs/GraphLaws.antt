@@ -7,7 +7,7 @@ use Rattle.pv_graph.specs.Walks.{In}
 use Rattle.pv_graph.specs.Graphs.{form_at}
 use Rattle.pv_denote.specs.Laws.{MoreFuel, ValueOnce, ValueMeans, UnfoldsMeans, GrowthKeeps, NotFree, ClosedValue, SpineValue, ValueSort, SettledValue}
 use Rattle.pv_denote.proofs.Values.{den_later, value_once, den_makes}
-use Rattle.pv_graph.proofs.NodeLaws.{in_or_not, in_range, node_at, kid_within, growth_unfolds, HasSortAt, graph_sorted, sort_there}
+use Rattle.pv_graph.proofs.Cited.{in_or_not, in_range, node_at, kid_within, growth_unfolds, HasSortAt, graph_sorted, sort_there}
 use Rattle.pv_denote.proofs.Simulated.{unfolds_value}
 use Rattle.pv_denote.proofs.Independent.{value_says, not_free, closed_value, spine_has}
 use Rattle.pv_denote.proofs.Settling.{value_is, settled_value}

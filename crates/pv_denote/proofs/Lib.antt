@@ -15,3 +15,4 @@ pub mod Alike
 pub mod Readings
 pub mod Tying
 pub mod TreeMeans
+pub mod Cited

@@ -5,7 +5,7 @@ use Rattle.std.proofs.Math.Seq.{drop-cons}
 use Rattle.std.proofs.lemmas.List.{append-nil}
 use Rattle.pv_value.specs.Spelled.{bind, field_type, method_type}
 use Rattle.pv_value.specs.Descriptors.{IsFieldType, IsMethodType}
-use Rattle.pv_value.proofs.Spelling.{field_spelled, method_spelled}
+use Rattle.pv_value.proofs.Cited.{field_spelled, method_spelled}
 use Rattle.pv_value.specs.declared.descriptor.JType.{JType}
 use Rattle.pv_value.specs.declared.descriptor.Descriptor.{Descriptor}
 use Rattle.pv_value.specs.declared.outcome.Val.{Val}

@@ -30,7 +30,7 @@ use Rattle.pv_graph.specs.Graphs.{IsRanged}
 use Rattle.pv_graph.specs.Walks.{In, itself, along, IsSettled, Move, down, move_to, Edge, KeepsRule}
 use Rattle.pv_denote.proofs.Values.{With, den_says, den_makes}
 use Rattle.pv_denote.proofs.Indices.{at_id}
-use Rattle.pv_graph.proofs.Sorting.{ShapeTakes, KidCount, zip_length, kid_count, shape_takes, theta_depth}
+use Rattle.pv_graph.proofs.Cited.{ShapeTakes, KidCount, zip_length, kid_count, shape_takes, theta_depth}
 use Rattle.pv_denote.proofs.Typing.{Gives, strict_is}
 use Rattle.pv_denote.proofs.Cycles.{Looks, Ends, ends, all_end}
 

@@ -8,7 +8,7 @@ use Rattle.pv_graph.specs.Ops.{shape}
 use Rattle.pv_graph.specs.Forms.{Form}
 use Rattle.pv_denote.specs.Denote.{Index, den, Value}
 use Rattle.pv_graph.specs.Unfold.{UnfoldsAs}
-use Rattle.pv_graph.proofs.Bisimulations.{Bisimulates, Simulates, bisimulates_simulates, bisimulates_flip, unfolds_bisimulates}
+use Rattle.pv_graph.proofs.Cited.{Bisimulates, Simulates, bisimulates_simulates, bisimulates_flip, unfolds_bisimulates}
 use Rattle.pv_denote.proofs.Values.{With, den_says, den_makes}
 use Rattle.pv_denote.proofs.Mapped.{moves_all, Stays, means_map}
 

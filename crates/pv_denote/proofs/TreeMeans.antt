@@ -11,7 +11,7 @@ use Rattle.pv_graph.specs.Forms.{Form, form}
 use Rattle.pv_graph.specs.Unfold.{Tree, Trees, cut, over, none, first}
 use Rattle.pv_graph.specs.Finite.{IsTree, AreTrees}
 use Rattle.pv_graph.specs.Graphs.{form_at}
-use Rattle.pv_graph.proofs.Bisimulations.{Matched, Bisimulates}
+use Rattle.pv_graph.proofs.Cited.{Matched, Bisimulates}
 use Rattle.pv_denote.specs.Denote.{Index, Value}
 use Rattle.pv_denote.specs.Means.{Means}
 use Rattle.pv_denote.specs.TreeValues.{list_of, top_of, TreeValue}

@@ -9,7 +9,7 @@ use Rattle.pv_graph.specs.Forms.{Form, form}
 use Rattle.pv_graph.specs.Graphs.{Graph, form_of, form_at}
 use Rattle.pv_graph.specs.Calls.{Tied}
 use Rattle.pv_graph.specs.Walks.{In, Reaches, itself, along}
-use Rattle.pv_graph.proofs.Bisimulations.{Matched, Bisimulates, bisimulates_unfolds}
+use Rattle.pv_graph.proofs.Cited.{Matched, Bisimulates, bisimulates_unfolds}
 use Rattle.pv_denote.specs.Laws.{TieKeeps}
 use Rattle.pv_denote.proofs.Simulated.{bisimulated}
 

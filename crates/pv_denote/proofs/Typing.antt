@@ -17,13 +17,10 @@ use Rattle.pv_value.specs.Heaps.{IsHeap, IsLoc, read, written}
 use Rattle.pv_value.specs.Inputs.{IsInput, IsOfSort, IsOfResult}
 use Rattle.pv_value.specs.Worlds.{IsWorld, IsReply}
 use Rattle.pv_value.specs.Operations.{Word, int, long, takes, gives, scalar_of, IsOfWord}
-use Rattle.pv_value.proofs.OperationLaws.{scalar_fits}
+use Rattle.pv_value.proofs.Cited.{scalar_fits, method_type_once, method_spelled, IsHeap-written}
 use Rattle.pv_value.specs.Worlds as worlds
 use Rattle.pv_value.specs.Worlds.{length_of, literal_of}
 use Rattle.pv_value.specs.Narrowing.{narrowed, heap_number, kept, shown, element_type, static_place, field_place, read_as, written_as}
-use Rattle.pv_value.proofs.Once.{method_type_once}
-use Rattle.pv_value.proofs.Spelling.{method_spelled}
-use Rattle.pv_value.proofs.Writes.{IsHeap-written}
 use Rattle.pv_value.specs.declared.world.World.{World}
 use Rattle.pv_value.specs.declared.name.Sym.{Sym}
 use Rattle.pv_value.specs.declared.heap.Heap.{Heap}
@@ -52,8 +49,7 @@ use Rattle.pv_graph.specs.Ops.{plain, shape, exactly, param_sort, word_sort, typ
 use Rattle.pv_denote.specs.Denote.{number_of, param_of, is_clear, same_ref, operand, num_of, scalar_on, scalar_value, numbers, default_of, reply_result, reply_fault, reply_heap, end_part, result_part, fault_part, heap_part, over_call, strict}
 use Rattle.pv_denote.specs.Typed.{IsFault, IsOf}
 use Rattle.pv_graph.specs.Graphs.{IsRanged}
-use Rattle.pv_graph.proofs.NodeLaws.{bind_some}
-use Rattle.pv_graph.proofs.Sorting.{exactly_are}
+use Rattle.pv_graph.proofs.Cited.{bind_some, exactly_are}
 
 -- ---- results
 

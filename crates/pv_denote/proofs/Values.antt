@@ -14,7 +14,7 @@ use Rattle.pv_graph.specs.declared.node.Op.{Op}
 use Rattle.pv_graph.specs.Ops.{Shape, plain, choice, theta, eval, pass, shift, root, shape}
 use Rattle.pv_graph.specs.Forms.{Form, form}
 use Rattle.pv_denote.specs.Denote.{Index, at_depth, values, truth, count_of, unit_of, fault_of, heap_of, result_of, by_iteration, looked, ending, shaped, formed, den, looks, Value}
-use Rattle.pv_graph.proofs.NodeLaws.{bind_some}
+use Rattle.pv_graph.proofs.Cited.{bind_some}
 use Rattle.pv_denote.specs.Means.{IsTrueAt, PassFrom, Ending, Means}
 
 -- ---- more fuel

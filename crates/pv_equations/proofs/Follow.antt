@@ -11,7 +11,7 @@ use Rattle.pv_graph.specs.declared.node.Op.TheVariants as op
 use Rattle.pv_graph.specs.Ops as ops
 use Rattle.pv_denote.specs.Denote.{Index, at_depth, strict, truth}
 use Rattle.pv_denote.specs.Means.{Means}
-use Rattle.pv_denote.proofs.Indices.{at_same, at_other}
+use Rattle.pv_denote.proofs.Cited.{at_same, at_other}
 use Rattle.pv_equations.proofs.Lands.{lands_once, lands_on, lands_in, lands_header, lands_gone}
 use Rattle.pv_equations.specs.Exp.{Exp, Exps, Over, NoExp, Then, one, two, three, listed, made}
 use Rattle.pv_equations.specs.Flow.{Part, Parts, Slot, Of, NoPart, More, put, put_all, PartIs, PartsAre, Kind, Return, Dest, To, End, Exit, Chain, Leave, Test, InChain, Flow, TokenPart, kept, calls, Heads, Edge, Shape, Chooses, Steps, Runs, ends, goes, Starts}

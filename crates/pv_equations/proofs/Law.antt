@@ -10,7 +10,7 @@ use Rattle.pv_denote.specs.Denote.{Index}
 use Rattle.pv_graph.specs.Unfold.{UnfoldsAs}
 use Rattle.pv_graph.specs.Graphs.{Graph, form_at}
 use Rattle.pv_denote.specs.Meaning.{Value}
-use Rattle.pv_denote.proofs.Simulated.{unfolds_value}
+use Rattle.pv_denote.proofs.Cited.{unfolds_value}
 use Rattle.pv_equations.specs.Exp.{Exp}
 use Rattle.pv_equations.specs.Flow.{Flow, Shape, Starts, Runnable}
 use Rattle.pv_equations.specs.Equations.{Values, form_of, AreEquations}

@@ -32,3 +32,4 @@ pub mod Typed
 pub mod Running
 pub mod Examples
 pub mod ExampleRuns
+pub mod Cited

@@ -9,8 +9,8 @@ use Rattle.pv_graph.specs.declared.node.Op.TheVariants as op
 use Rattle.pv_graph.specs.Ops as ops
 use Rattle.pv_denote.specs.Denote.{Index, at_depth, strict, truth}
 use Rattle.pv_denote.specs.Means.{Means}
-use Rattle.pv_denote.proofs.Indices.{at_same, at_at}
-use Rattle.pv_graph.proofs.NodeLaws.{bind_some}
+use Rattle.pv_denote.proofs.Cited.{at_same, at_at}
+use Rattle.pv_graph.proofs.Cited.{bind_some}
 use Rattle.pv_denote.specs.Denote.{numbers}
 use Rattle.pv_value.specs.Worlds as worlds
 use Rattle.pv_value.specs.declared.name.Sym.{Sym}

@@ -5,7 +5,7 @@ use Rattle.pv_graph.specs.Ops as ops
 use Rattle.pv_graph.specs.Forms.{Form}
 use Rattle.pv_graph.specs.Walks.{In, open_kids, Free, here, below}
 use Rattle.pv_graph.specs.Unfold.{UnfoldsAs}
-use Rattle.pv_graph.proofs.Bisimulations.{Simulates, bisimulates_simulates, unfolds_bisimulates}
+use Rattle.pv_graph.proofs.Cited.{Simulates, bisimulates_simulates, unfolds_bisimulates}
 
 opened : {N M : Type 0} (T : N → M → Type 0) (d : ℕ) (s : ops.Shape) (ks : List N) (ls : List M) → AllZip T ks ls → AllZip T (open_kids d s ks) (open_kids d s ls)
 opened {N} {M} T d (ops.eval e) (k ∷ ks) (l ∷ ls) h = go (e == d)

@@ -7,7 +7,7 @@ use Rattle.pv_insn.specs.declared.insn.Case.{Case}
 use Rattle.pv_frame.specs.declared.action.Action.{Action}
 use Rattle.pv_frame.specs.declared.action.Action.TheVariants as act
 use Rattle.pv_frame.specs.Effects.{successors}
-use Rattle.pv_frame.proofs.Lists.{all_parts, contains_first, contains_more, contains_cases, contains_none}
+use Rattle.pv_frame.proofs.Cited.{all_parts, contains_first, contains_more, contains_cases, contains_none}
 use Rattle.pv_flow.specs.Exits.{Departure, Goes, Returns, Throws, branches_on_no, branched, departures, ends_block, targets}
 use Rattle.pv_flow.specs.Finding.{GoesBelow}
 

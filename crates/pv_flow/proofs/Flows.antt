@@ -10,8 +10,7 @@ use Rattle.pv_frame.specs.Effects.{successors}
 use Rattle.pv_frame.specs.Programs.{IsAt}
 use Rattle.pv_frame.specs.Frames.{Reached}
 use Rattle.pv_frame.specs.Frames as frames
-use Rattle.pv_frame.proofs.FrameLaws.{some_of, no_some}
-use Rattle.pv_frame.proofs.Lists.{contains_first, contains_more, contains_cases, contains_none}
+use Rattle.pv_frame.proofs.Cited.{some_of, no_some, contains_first, contains_more, contains_cases, contains_none}
 use Rattle.pv_flow.specs.declared.block.Exit.{Exit}
 use Rattle.pv_flow.specs.declared.block.Exit.TheVariants as exit
 use Rattle.pv_flow.specs.declared.block.Block.{Block}

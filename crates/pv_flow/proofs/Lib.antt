@@ -5,3 +5,4 @@ pub mod Spans
 pub mod Making
 pub mod Flows
 pub mod OneFlow
+pub mod Cited

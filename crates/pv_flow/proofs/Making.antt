@@ -10,9 +10,7 @@ use Rattle.pv_frame.specs.declared.program.Program.{Program}
 use Rattle.pv_frame.specs.Programs.{IsAt}
 use Rattle.pv_frame.specs.Frames.{IsFrameAt, Reached, AreFrames}
 use Rattle.pv_frame.specs.Frames as frames
-use Rattle.pv_frame.proofs.FrameLaws.{no_some}
-use Rattle.pv_frame.proofs.Inferred.{reached_frame}
-use Rattle.pv_frame.proofs.Lists.{contains_first, contains_more}
+use Rattle.pv_frame.proofs.Cited.{no_some, reached_frame, contains_first, contains_more}
 use Rattle.pv_flow.specs.declared.block.Exit.{Exit}
 use Rattle.pv_flow.specs.declared.block.Block.{Block}
 use Rattle.pv_flow.specs.Exits.{Departure, Goes, Returns, Throws, departures}

@@ -8,8 +8,7 @@ use Rattle.pv_insn.specs.declared.insn.Case.{Case}
 use Rattle.pv_frame.specs.declared.action.Action.{Action}
 use Rattle.pv_frame.specs.declared.program.Program.{Program}
 use Rattle.pv_frame.specs.Programs.{IsAt}
-use Rattle.pv_frame.proofs.FrameLaws.{some_of}
-use Rattle.pv_frame.proofs.Lists.{equal_or_not, get_set, get_set_other, contains_cases, contains_none}
+use Rattle.pv_frame.proofs.Cited.{some_of, equal_or_not, get_set, get_set_other, contains_cases, contains_none}
 use Rattle.pv_flow.specs.Exits.{ends_block, targets}
 use Rattle.pv_flow.specs.Blocks.{Begins, first, target, next}
 use Rattle.pv_flow.specs.Finding.{marked, AreBegins}

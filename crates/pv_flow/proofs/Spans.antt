@@ -10,8 +10,7 @@ use Rattle.pv_frame.specs.Effects.{successors}
 use Rattle.pv_frame.specs.Programs.{IsAt}
 use Rattle.pv_frame.specs.Frames as frames
 use Rattle.pv_frame.specs.Frames.{IsFrameAt, Reached, AreFrames}
-use Rattle.pv_frame.proofs.Inferred.{reached_frame}
-use Rattle.pv_frame.proofs.Lists.{contains_first}
+use Rattle.pv_frame.proofs.Cited.{reached_frame, contains_first}
 use Rattle.pv_flow.specs.Exits.{Goes, departures, ends_block}
 use Rattle.pv_flow.specs.Blocks.{Begins, IsSpan}
 use Rattle.pv_flow.specs.Blocks as blocks

@@ -10,7 +10,7 @@ use Rattle.pv_value.specs.declared.descriptor.JType.{JType}
 use Rattle.pv_value.specs.declared.descriptor.Descriptor.{Descriptor}
 use Rattle.pv_value.specs.Descriptors.{IsFieldType, IsMethodType}
 use Rattle.pv_value.specs.declared.receiver.Form.{Form}
-use Rattle.pv_value.proofs.Once.{field_type_once}
+use Rattle.pv_value.proofs.Cited.{field_type_once}
 use Rattle.pv_pool.specs.declared.constant.Member.{Member}
 use Rattle.pv_insn.specs.declared.insn.Case.{Case}
 use Rattle.pv_frame.specs.declared.action.Action.{Action}

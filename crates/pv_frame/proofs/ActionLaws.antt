@@ -11,7 +11,7 @@ use Rattle.pv_value.specs.Descriptors.{IsLetter, IsFieldType, IsMethodType}
 use Rattle.pv_value.specs.declared.receiver.Form.{Form}
 use Rattle.pv_value.specs.declared.receiver.Form.TheVariants.{Virtual, Special, Interface}
 use Rattle.pv_value.specs.Receivers.{receiver_sym, with_receiver}
-use Rattle.pv_value.proofs.Once.{field_type_once, method_type_once}
+use Rattle.pv_value.proofs.Cited.{field_type_once, method_type_once}
 use Rattle.pv_pool.specs.declared.entry.Entry.{Entry}
 use Rattle.pv_pool.specs.declared.constant.Constant.{Constant}
 use Rattle.pv_pool.specs.declared.constant.Constant.TheVariants as constant

@@ -6,7 +6,7 @@ use Rattle.std.specs.List.{AllZip}
 use Rattle.std.proofs.lemmas.Slice.Zip.{AllZip-long}
 use Rattle.pv_value.specs.declared.descriptor.Descriptor.{Descriptor}
 use Rattle.pv_value.specs.Descriptors.{IsMethodType}
-use Rattle.pv_value.proofs.Once.{method_type_once}
+use Rattle.pv_value.proofs.Cited.{method_type_once}
 use Rattle.pv_pool.specs.declared.entry.Entry.{Entry}
 use Rattle.pv_class.specs.declared.file.ClassFile.{ClassFile}
 use Rattle.pv_class.specs.declared.file.Method.{Method}
@@ -17,8 +17,7 @@ use Rattle.pv_insn.specs.declared.fault.CodeFault.TheVariants as fault
 use Rattle.pv_insn.specs.Codes.{IsPlaced, IsCode}
 use Rattle.pv_insn.specs.Faults.{IsBad}
 use Rattle.pv_insn.specs.Answers as decoded
-use Rattle.pv_insn.proofs.Formats.{IsBytes}
-use Rattle.pv_insn.proofs.Answering.{code_once, good_or_bad, few}
+use Rattle.pv_insn.proofs.Cited.{IsBytes, code_once, good_or_bad, few}
 use Rattle.pv_frame.specs.declared.used.Use.{Use}
 use Rattle.pv_frame.specs.declared.action.Action.{Action}
 use Rattle.pv_frame.specs.declared.cause.CauseKind.{CauseKind}

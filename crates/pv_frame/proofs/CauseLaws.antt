@@ -2,7 +2,7 @@
 use Rattle.std.proofs.Common.{◌≡◌, ℕ, ◌≤◌, refl, List, [], ◌∷◌, ◌++◌, length, Some, ◌∙◌, ap, sym, subst, arith}
 use Rattle.std.specs.Prelude.{◌≢◌, ◌==◌, if◌then◌else◌}
 use Rattle.std.specs.List.{AllZip, AllByRecursion}
-use Rattle.pv_value.proofs.Once.{method_type_once}
+use Rattle.pv_value.proofs.Cited.{method_type_once}
 use Rattle.pv_pool.specs.declared.entry.Entry.{Entry}
 use Rattle.pv_class.specs.declared.file.ClassFile.{ClassFile}
 use Rattle.pv_class.specs.declared.file.Method.{Method}
@@ -13,8 +13,7 @@ use Rattle.pv_insn.specs.Codes.{IsCode}
 use Rattle.pv_insn.specs.Faults.{IsBad}
 use Rattle.pv_insn.specs.declared.insn.Insn.{Insn}
 use Rattle.pv_insn.specs.declared.insn.Insn.TheVariants as insn
-use Rattle.pv_insn.proofs.Formats.{IsBytes}
-use Rattle.pv_insn.proofs.Answering.{code_once, fault_once, good_or_bad}
+use Rattle.pv_insn.proofs.Cited.{IsBytes, code_once, fault_once, good_or_bad}
 use Rattle.pv_frame.specs.declared.action.Action.{Action}
 use Rattle.pv_frame.specs.declared.cause.CauseKind.{CauseKind}
 use Rattle.pv_frame.specs.declared.cause.CauseKind.TheVariants as kind

@@ -19,7 +19,7 @@ use Rattle.pv_insn.specs.declared.insn.Insn.{Insn}
 use Rattle.pv_insn.specs.declared.insn.Insn.TheVariants as insn
 use Rattle.pv_insn.specs.declared.insn.Placed.{Placed}
 use Rattle.pv_insn.specs.Forms.{form_of}
-use Rattle.pv_insn.proofs.Formed.{IsFormed}
+use Rattle.pv_insn.proofs.Cited.{IsFormed}
 use Rattle.pv_frame.specs.declared.used.Use.{Use}
 use Rattle.pv_frame.specs.declared.used.Use.TheVariants as used
 use Rattle.pv_frame.specs.declared.cause.CauseKind.{CauseKind}

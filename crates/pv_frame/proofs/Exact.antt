@@ -12,7 +12,7 @@ use Rattle.pv_insn.specs.declared.insn.Placed.{Placed}
 use Rattle.pv_insn.specs.declared.fault.CodeFault.{CodeFault}
 use Rattle.pv_insn.specs.Codes.{IsCode}
 use Rattle.pv_insn.specs.Faults.{IsBad}
-use Rattle.pv_insn.proofs.Formed.{formed}
+use Rattle.pv_insn.proofs.Cited.{formed}
 use Rattle.pv_frame.specs.declared.action.Action.{Action}
 use Rattle.pv_frame.specs.declared.cause.Cause.{Cause}
 use Rattle.pv_frame.specs.Actions.{IsFloatlessMethod}

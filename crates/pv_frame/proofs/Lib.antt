@@ -18,3 +18,4 @@ pub mod FlowLaws
 pub mod InferenceLaws
 pub mod AnswerLaws
 pub mod CauseExamples
+pub mod Cited

@@ -8,7 +8,7 @@ ghost use Rattle.pv_frame.specs.Actions.{local_rows, branch_rows, field_rows, fo
 ghost use Rattle.pv_frame.specs.Causes.{refused_by, NamesConstant};
 ghost use Rattle.pv_frame.specs.Acting.{HasItsText, IsActionWithOr, IsAccessOr, IsActionOr, IsFirstOf, AreActing, OnCause};
 ghost use Rattle.pv_pool.specs.Pools.{Refers};
-ghost use Rattle.pv_insn.proofs.Formed.{IsFormed};
+ghost use Rattle.pv_insn.proofs.Cited.{IsFormed};
 ghost use Rattle.pv_frame.specs.declared.used.Use.TheVariants as used;
 
 use crate::action::{Action, Comparison, Test};

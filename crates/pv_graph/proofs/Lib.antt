@@ -17,3 +17,4 @@ pub mod FiniteTrees
 pub mod Basing
 pub mod BaseLaws
 pub mod TieRule
+pub mod Cited

@@ -7,7 +7,7 @@ use Rattle.pv_value.specs.Spelled.{bind, field_type, method_type}
 use Rattle.pv_value.specs.Descriptors.{IsFieldType, IsMethodType}
 use Rattle.pv_value.specs.declared.descriptor.JType.{JType}
 use Rattle.pv_value.specs.declared.descriptor.Descriptor.{Descriptor}
-use Rattle.pv_value.proofs.Spelling.{field_spelled, method_spelled}
+use Rattle.pv_value.proofs.Cited.{field_spelled, method_spelled}
 use Rattle.pv_graph.proofs.NodeLaws.{bind_some}
 use Rattle.pv_graph.specs.contracts.node.OpSortPartialEq.TheImpl.{eq-value as sort_eq}
 use Rattle.pv_graph.specs.declared.node.OpSort.{OpSort}

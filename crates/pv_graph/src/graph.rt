@@ -156,6 +156,14 @@ impl Graph {
         &self.nodes[n as usize]
     }
 
+    /// The sort of a node.
+    pub fn sort(&self, n: NodeId) -> OpSort
+        requires { n < length self.now.nodes }
+        ensures { slice_get self.now.sorts n ≡ Some result }
+    {
+        self.sorts[n as usize]
+    }
+
     /// How many nodes there are: fewer than 2^32.
     pub fn len(&self) -> u32
         ensures len { result ≡ length self.now.nodes }

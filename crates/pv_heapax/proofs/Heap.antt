@@ -14,8 +14,7 @@ use Rattle.pv_value.specs.Heaps.{read, written}
 use Rattle.pv_value.specs.Numbers.{IsRef}
 use Rattle.pv_value.specs.Worlds.{is_boolean, home}
 use Rattle.pv_value.specs.Narrowing.{kept, shown, element_type}
-use Rattle.pv_value.proofs.Places.{locs_total, exact_places, written_zero, written_other}
-use Rattle.pv_value.proofs.Writes.{read_same, read_other}
+use Rattle.pv_value.proofs.Cited.{locs_total, exact_places, written_zero, written_other, read_same, read_other}
 use Rattle.pv_value.specs.declared.name.Sym.{Sym}
 use Rattle.pv_value.specs.declared.heap.Heap.{Heap}
 use Rattle.pv_value.specs.declared.heap.Loc.{Loc}
@@ -36,12 +35,12 @@ use Rattle.pv_graph.specs.declared.node.OpSort.TheVariants.{I, L, A, H}
 use Rattle.pv_graph.specs.Ops.{type_sort, field_sort, kind_sort, sort_over}
 use Rattle.pv_denote.specs.Denote.{strict}
 use Rattle.pv_denote.specs.Typed.{IsOf}
-use Rattle.pv_graph.proofs.NodeLaws.{bind_some}
+use Rattle.pv_graph.proofs.Cited.{bind_some}
 use Rattle.pv_pattern.specs.Patterns.{by_symbol, by_kind, getstatic, putstatic, getfield, putfield, load, var, constant, narrowed, none, first, settled, symbols_differ, kinds_differ, not_byte, constants_differ}
 use Rattle.pv_pattern.specs.Instances.{kind_type}
 use Rattle.pv_pattern.specs.Laws.{Laws}
-use Rattle.pv_pattern.proofs.Equations.{rem_again, and_one, wrap_wider, byte_fits, short_fits}
-use Rattle.pv_denote.proofs.Typing.{low_fits}
+use Rattle.pv_pattern.proofs.Cited.{rem_again, and_one, wrap_wider, byte_fits, short_fits}
+use Rattle.pv_denote.proofs.Cited.{low_fits}
 use Rattle.pv_heapax.specs.Table.{get_s, put, field_s, put_field, load_k, store_, h, heap_axioms}
 use Rattle.pv_heapax.proofs.Plain.{narrowed_val, Equation, heap_law}
 

@@ -24,15 +24,12 @@ use Rattle.pv_denote.specs.Denote.{Index, strict, Value, scalar_value}
 use Rattle.pv_denote.specs.Typed.{IsOf}
 use Rattle.pv_graph.specs.Walks.{IsSettled}
 use Rattle.pv_graph.specs.Graphs.{Graph, form_at}
-use Rattle.pv_graph.proofs.NodeLaws.{bind_some}
-use Rattle.pv_denote.proofs.Values.{value_once, den_makes}
-use Rattle.pv_graph.proofs.NodeLaws.{HasSortAt}
-use Rattle.pv_denote.proofs.GraphLaws.{sort_law}
-use Rattle.pv_graph.proofs.Sorting.{exactly_are}
+use Rattle.pv_graph.proofs.Cited.{bind_some, HasSortAt, exactly_are}
+use Rattle.pv_denote.proofs.Cited.{value_once, den_makes, sort_law}
 use Rattle.pv_pattern.specs.Patterns.{Head, getstatic, putstatic, getfield, putfield, load, store, Pattern, var, constant, narrowed, over, Patterns, none, first, Side, settled, not_free, symbols_differ, kinds_differ, not_byte, constants_differ, variables_of}
 use Rattle.pv_pattern.specs.Instances.{Names, head_op, constant_of, IsConstantAt, type_by, Narrows, Stands, StandAll, Holds}
 use Rattle.pv_pattern.specs.Laws.{Setting, Law}
-use Rattle.pv_pattern.proofs.Nodes.{same_at, kids_sorted, settled_has, plain_is}
+use Rattle.pv_pattern.proofs.Cited.{same_at, kids_sorted, settled_has, plain_is}
 use Rattle.pv_heapax.specs.Table.{rule}
 
 -- ---- operations on the heap

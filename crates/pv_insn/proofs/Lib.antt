@@ -13,3 +13,4 @@ pub mod Sizes
 pub mod Within
 pub mod Formed
 pub mod SmallCodes
+pub mod Cited

@@ -14,7 +14,7 @@ use Rattle.pv_frame.specs.Stacks.{is_wide, popped, moved, has_room, last_local, 
 use Rattle.pv_frame.specs.Effects.{takes, gives, successors}
 use Rattle.pv_frame.specs.Programs.{IsAt}
 use Rattle.pv_frame.specs.Frames.{same, holds, pushed, frame_done, frame_after}
-use Rattle.pv_frame.proofs.FrameLaws.{Less, some_of, no_some, if_some, framed}
+use Rattle.pv_frame.proofs.Cited.{Less, some_of, no_some, if_some, framed}
 use Rattle.pv_live.specs.Live.{Writes, Live, read, later}
 use Rattle.pv_live.specs.Needed.{IsNeededSort}
 

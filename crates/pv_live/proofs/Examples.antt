@@ -9,8 +9,7 @@ use Rattle.pv_frame.specs.declared.action.Action.TheVariants as act
 use Rattle.pv_frame.specs.declared.program.Program.{Program}
 use Rattle.pv_frame.specs.Effects.{successors}
 use Rattle.pv_frame.specs.Programs.{IsAt}
-use Rattle.pv_frame.proofs.FrameLaws.{some_of, no_some}
-use Rattle.pv_frame.proofs.Lists.{contains_none, contains_cases}
+use Rattle.pv_frame.proofs.Cited.{some_of, no_some, contains_none, contains_cases}
 use Rattle.pv_live.specs.Live.{Reads, Writes, Live, read, later}
 use Rattle.pv_live.specs.Needed.{IsNeededSort, IsNeededFrame}
 

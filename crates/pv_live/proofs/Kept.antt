@@ -14,9 +14,7 @@ use Rattle.pv_frame.specs.declared.frame.Frame.{Frame}
 use Rattle.pv_frame.specs.Stacks.{is_wide, popped, moved, has_room, first_cleared, set_local}
 use Rattle.pv_frame.specs.Effects.{takes, gives, successors}
 use Rattle.pv_frame.specs.Frames.{same, holds, pushed, padded_sorts, passed_to, entry_frame, frame_done, frame_after, IsFrameAt, LeadsTo, Agrees, Reached, first, next, IsInferred}
-use Rattle.pv_frame.proofs.FrameLaws.{Less, some_of, no_some, if_some, framed}
-use Rattle.pv_frame.proofs.Inferred.{all_contains, typed_goes, leads_nowhere, reached_frame}
-use Rattle.pv_frame.proofs.Lists.{contains_none}
+use Rattle.pv_frame.proofs.Cited.{Less, some_of, no_some, if_some, framed, all_contains, typed_goes, leads_nowhere, reached_frame, contains_none}
 use Rattle.pv_live.specs.Needed.{IsNeededAt, AreNeeded}
 use Rattle.pv_live.specs.Marks.{IsMarked, KnowLive, AreKept, IsKeptOption, AreKeptFrames, HasLocals, Match}
 use Rattle.pv_live.proofs.Agree.{slice_some}

@@ -4,3 +4,4 @@ pub mod Rows
 pub mod Tables
 pub mod Kept
 pub mod Examples
+pub mod Cited

@@ -12,9 +12,7 @@ use Rattle.pv_frame.specs.Stacks.{width}
 use Rattle.pv_frame.specs.Effects.{takes, successors}
 use Rattle.pv_frame.specs.Programs.{IsAt}
 use Rattle.pv_frame.specs.Frames.{entry_frame, frame_after, Flows, Finds, IsFrameAt, LeadsTo, Leaves, GoesOn, IsTyped, Agrees, AreFrames}
-use Rattle.pv_frame.proofs.FrameLaws.{Less, some_of, no_some}
-use Rattle.pv_frame.proofs.Inferred.{inferred_once}
-use Rattle.pv_frame.proofs.Lists.{contains_first, contains_more}
+use Rattle.pv_frame.proofs.Cited.{Less, some_of, no_some, inferred_once, contains_first, contains_more}
 use Rattle.pv_live.specs.Live.{Live}
 use Rattle.pv_live.specs.Needed.{IsNeededFrame, IsNeededAt, AreNeeded}
 use Rattle.pv_live.proofs.Agree.{less_way, either_way, slice_some, all_less, less_at, after_needed}

@@ -4,8 +4,7 @@ use Rattle.std.specs.Prelude.{◌⊎◌, map, option_map, slice_get}
 use Rattle.std.specs.Bool.{Decides}
 use Rattle.std.proofs.lemmas.Option.{slice_get_within, slice_get-get_or, get_or_from_slice_get, slice_get-map}
 use Rattle.std.proofs.Math.ListN.{length-set}
-use Rattle.pv_frame.proofs.FrameLaws.{some_of, no_some}
-use Rattle.pv_frame.proofs.Lists.{equal_or_not, get_set, get_set_other, contains_first, contains_more, contains_cases, contains_none}
+use Rattle.pv_frame.proofs.Cited.{some_of, no_some, equal_or_not, get_set, get_set_other, contains_first, contains_more, contains_cases, contains_none}
 use Rattle.pv_insn.specs.declared.insn.Case.{Case}
 use Rattle.pv_frame.specs.declared.action.Action.{Action}
 use Rattle.pv_live.specs.Marks.{IsMarked, Marks, MarkedAt, MarkedAtOne, IsLiveIf, IsLiveBefore}

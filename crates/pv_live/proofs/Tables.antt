@@ -8,8 +8,7 @@ use Rattle.pv_frame.specs.declared.action.Action.{Action}
 use Rattle.pv_frame.specs.declared.program.Program.{Program}
 use Rattle.pv_frame.specs.Effects.{successors}
 use Rattle.pv_frame.specs.Programs.{IsAt}
-use Rattle.pv_frame.proofs.FrameLaws.{some_of, no_some}
-use Rattle.pv_frame.proofs.Lists.{equal_or_not, get_set, get_set_other}
+use Rattle.pv_frame.proofs.Cited.{some_of, no_some, equal_or_not, get_set, get_set_other}
 use Rattle.pv_live.specs.Live.{Live, read, later}
 use Rattle.pv_live.specs.Marks.{IsMarked, Marks, MarkedAt, MarkedAtOne, IsLiveBefore, IsLiveBy, IsTable, IsDoneAt, IsDone, unmarked, unmarked_in, Visited, Swept, KnowLive}
 

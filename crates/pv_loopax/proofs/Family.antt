@@ -21,16 +21,13 @@ use Rattle.pv_graph.specs.Forms.{Form, form}
 use Rattle.pv_denote.specs.Denote.{Index, at_depth, Value}
 use Rattle.pv_denote.specs.Means.{Means}
 use Rattle.pv_graph.specs.Graphs.{Graph, form_at}
-use Rattle.pv_graph.proofs.NodeLaws.{bind_some}
-use Rattle.pv_denote.proofs.Values.{den_makes}
-use Rattle.pv_denote.proofs.Independent.{value_says}
-use Rattle.pv_graph.proofs.NodeLaws.{HasSortAt}
-use Rattle.pv_graph.proofs.Sorting.{exactly_are}
+use Rattle.pv_graph.proofs.Cited.{bind_some, HasSortAt, exactly_are}
+use Rattle.pv_denote.proofs.Cited.{den_makes, value_says}
 use Rattle.pv_pattern.specs.Patterns.{shift_d, eval_d, bare, evaluated, var, over_each, Axiom}
 use Rattle.pv_pattern.specs.Numbers.{op_number}
 use Rattle.pv_pattern.specs.Instances.{Names, IsEach}
 use Rattle.pv_pattern.specs.Laws.{Law, Laws}
-use Rattle.pv_pattern.proofs.Nodes.{one_at, two_at, same_at, kids_sorted, shift_is, eval_is, eval_at}
+use Rattle.pv_pattern.proofs.Cited.{one_at, two_at, same_at, kids_sorted, shift_is, eval_is, eval_at}
 use Rattle.pv_loopax.specs.Table.{single, family, shifts, evals, loop_axioms}
 use Rattle.pv_loopax.proofs.Single.{law_301, law_302, law_303, law_304, law_306, law_307, law_308, law_inside, law_313}
 

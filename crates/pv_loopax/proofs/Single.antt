@@ -16,11 +16,10 @@ use Rattle.pv_denote.specs.Denote.{Index, at_depth, strict, Value}
 use Rattle.pv_denote.specs.Means.{IsTrueAt, PassFrom}
 use Rattle.pv_graph.specs.Walks.{Free, IsSettled}
 use Rattle.pv_graph.specs.Graphs.{form_at}
-use Rattle.pv_denote.proofs.Independent.{not_free}
-use Rattle.pv_denote.proofs.Indices.{at_same, at_id, at_at}
+use Rattle.pv_denote.proofs.Cited.{not_free, at_same, at_id, at_at}
 use Rattle.pv_pattern.specs.Patterns.{fixed, theta_d, eval_d, pass_d, shift_d, var, not_free as is_not_free, settled}
 use Rattle.pv_pattern.specs.Laws.{Law}
-use Rattle.pv_pattern.proofs.Nodes.{none_at, one_at, two_at, three_at, same_at, settled_count, theta_first, theta_later, shift_is, eval_is, eval_at, phi_is, pass_is, plain_is, zero_has, zero_says, succ_has, succ_says}
+use Rattle.pv_pattern.proofs.Cited.{none_at, one_at, two_at, three_at, same_at, settled_count, theta_first, theta_later, shift_is, eval_is, eval_at, phi_is, pass_is, plain_is, zero_has, zero_says, succ_has, succ_says}
 use Rattle.pv_loopax.specs.Table.{op1, op2, theta, eval, pass, shift, zero_, succ, phi, rule, inside}
 
 -- from one side to the other, each way

@@ -26,3 +26,4 @@ mod Enclosing
 pub mod Forested
 mod Orders
 mod Examples
+pub mod Cited

@@ -10,8 +10,7 @@ use Rattle.pv_value.specs.declared.outcome.Outcome.TheVariants.{Returned}
 use Rattle.pv_class.specs.declared.file.ClassFile.{ClassFile}
 use Rattle.pv_class.specs.declared.file.Method.{Method}
 use Rattle.pv_class.specs.declared.file.Code.{Code}
-use Rattle.pv_insn.proofs.Formats.{IsBytes}
-use Rattle.pv_insn.proofs.SmallCodes.{one_code}
+use Rattle.pv_insn.proofs.Cited.{IsBytes, one_code}
 use Rattle.pv_frame.specs.declared.sort.Sort.{Sort}
 use Rattle.pv_frame.specs.declared.sort.Sort.TheVariants as sort
 use Rattle.pv_frame.specs.declared.used.Use.TheVariants as used
@@ -21,8 +20,7 @@ use Rattle.pv_frame.specs.Programs.{IsProgramOf}
 use Rattle.pv_frame.specs.declared.frame.Frame.{Frame}
 use Rattle.pv_frame.specs.Frames.{IsFrameAt, IsTyped, HasFrames}
 use Rattle.pv_frame.specs.Causes.{IsAccepted}
-use Rattle.pv_frame.proofs.FrameLaws.{some_of, no_some}
-use Rattle.pv_frame.proofs.CauseLaws.{one_program}
+use Rattle.pv_frame.proofs.Cited.{some_of, no_some, one_program}
 use Rattle.pv_machine.specs.Machine.{ended, start, after, Ends}
 use Rattle.pv_machine.specs.Runs.{MethodEndsOnce}
 use Rattle.pv_machine.proofs.Typing.{ends_once}

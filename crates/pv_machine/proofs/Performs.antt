@@ -22,7 +22,7 @@ use Rattle.pv_value.specs.Operations as operation
 use Rattle.pv_value.specs.Heaps.{read}
 use Rattle.pv_value.specs.Descriptors.{IsMethodType}
 use Rattle.pv_value.specs.Inputs.{IsOfResult}
-use Rattle.pv_value.proofs.Once.{method_type_once}
+use Rattle.pv_value.proofs.Cited.{method_type_once}
 use Rattle.pv_value.specs.Worlds.{IsWorld, reply}
 use Rattle.pv_value.specs.Narrowing.{shown, element_type, static_place, field_place}
 use Rattle.pv_insn.specs.declared.insn.Case.{Case}
@@ -39,8 +39,7 @@ use Rattle.pv_frame.specs.declared.program.Program.{Program}
 use Rattle.pv_frame.specs.declared.frame.Frame.{Frame}
 use Rattle.pv_frame.specs.Frames.{same, holds, local_holds, frame_done, frame_after}
 use Rattle.pv_frame.specs.Frames as frames
-use Rattle.pv_frame.proofs.StackLaws.{moved_map, has_room_map, set_local_map}
-use Rattle.pv_frame.proofs.FrameLaws.{some_of, no_some, if_some}
+use Rattle.pv_frame.proofs.Cited.{moved_map, has_room_map, set_local_map, some_of, no_some, if_some}
 use Rattle.pv_machine.specs.Machine.{State, Now, running, ended, next, pushes, writes, throws, stored, local, number_of, value_of, increased, computed, divided, tested, branches, target_of, keeps, element_fault, unless, called, done}
 use Rattle.pv_machine.specs.Runs.{frame_of, Calls}
 use Rattle.pv_machine.proofs.Values.{Gives, computed_gives, value_sort, shown_gives, kept_some, element_sort, of_sort_type, holds_gives, increased_gives, replaced_sorts}

@@ -19,7 +19,7 @@ use Rattle.pv_value.specs.declared.outcome.Fault.TheVariants as fault
 use Rattle.pv_value.specs.declared.operation.ScalarOp.TheVariants as op
 use Rattle.pv_value.specs.Heaps.{written}
 use Rattle.pv_value.specs.Worlds.{empty_world, length_of, home, reply}
-use Rattle.pv_value.proofs.Writes.{read_same}
+use Rattle.pv_value.proofs.Cited.{read_same}
 use Rattle.pv_frame.specs.declared.sort.Sort.{Sort}
 use Rattle.pv_frame.specs.declared.sort.Sort.TheVariants as sort
 use Rattle.pv_frame.specs.declared.action.Action.{Action}
@@ -32,7 +32,7 @@ use Rattle.pv_frame.specs.Programs.{IsAt}
 use Rattle.pv_frame.specs.Actions.{cases_from}
 use Rattle.pv_frame.specs.declared.frame.Frame.{Frame}
 use Rattle.pv_frame.specs.Frames.{same, local_holds, pushed, Leaves, Flows, IsFrameAt, GoesOn, IsTyped, Agrees, HasFrames, frame_after}
-use Rattle.pv_frame.proofs.FrameLaws.{some_of, no_some, if_some}
+use Rattle.pv_frame.proofs.Cited.{some_of, no_some, if_some}
 use Rattle.pv_machine.specs.Machine.{State, running, ended, start, go_on, after}
 
 abbrev int : ℕ → Num

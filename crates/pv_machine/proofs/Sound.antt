@@ -19,8 +19,8 @@ use Rattle.pv_frame.specs.declared.program.Program.{Program}
 use Rattle.pv_frame.specs.Programs.{IsAt, Does, IsProgramOf}
 use Rattle.pv_class.specs.declared.file.ClassFile.{ClassFile}
 use Rattle.pv_class.specs.declared.file.Method.{Method}
-use Rattle.pv_frame.proofs.FrameLaws.{some_of, no_some}
-use Rattle.pv_value.proofs.ReceiverSymbols.{receivers_apart}
+use Rattle.pv_frame.proofs.Cited.{some_of, no_some}
+use Rattle.pv_value.proofs.Cited.{receivers_apart}
 use Rattle.pv_machine.proofs.Performs.{IsSound}
 
 row_has : {A : Type 0} (P : A → Type 0) (rows : List (ℕ × A)) → AllByRecursion (λ r. P r.1) rows → (opcode : ℕ) (x : A) → row_of rows opcode ≡ Some x → P x

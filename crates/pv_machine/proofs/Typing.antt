@@ -20,8 +20,7 @@ use Rattle.pv_frame.specs.declared.program.Program.{Program}
 use Rattle.pv_frame.specs.Programs.{IsAt}
 use Rattle.pv_frame.specs.declared.frame.Frame.{Frame}
 use Rattle.pv_frame.specs.Frames.{Flows, LeadsTo, IsEnd, Finds, Agrees, same, frame_done, frame_after, entry_frame}
-use Rattle.pv_frame.proofs.StackLaws.{by_sorts, popped_map}
-use Rattle.pv_frame.proofs.FrameLaws.{no_some, popped_sorts, flows_flows, goes_from}
+use Rattle.pv_frame.proofs.Cited.{by_sorts, popped_map, no_some, popped_sorts, flows_flows, goes_from}
 use Rattle.pv_machine.specs.Machine.{State, Now, running, ended, start, given, done, performed, perform, perform_at, step, go_on, after}
 use Rattle.pv_machine.specs.Runs.{frame_of, IsTypedState, Waits, Proceeds, NeverStuck, EndsOnce}
 use Rattle.pv_machine.proofs.Values.{as_type_gives, start_sorts}

@@ -25,7 +25,7 @@ use Rattle.pv_frame.specs.Effects.{sort_of, sort_of_local, sort_of_type, sort_of
 use Rattle.pv_frame.specs.Actions.{IsFloatless}
 use Rattle.pv_frame.specs.declared.program.Program.{Program}
 use Rattle.pv_frame.specs.Frames.{holds, sorts_of, this_sorts, passed_to, padded_sorts}
-use Rattle.pv_frame.proofs.FrameLaws.{fits_same}
+use Rattle.pv_frame.proofs.Cited.{fits_same}
 use Rattle.pv_machine.specs.Machine.{locals_of, passed, padded, of_sort, num_of, value_of, computed, increased}
 
 -- ---- operations

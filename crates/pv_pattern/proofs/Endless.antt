@@ -29,8 +29,8 @@ use Rattle.pv_graph.specs.Forms.{form}
 use Rattle.pv_denote.specs.Denote.{Index, outside, strict, truth, den, Value}
 use Rattle.pv_graph.specs.Walks.{In, Free, here, below, open_kids, Reaches, itself, along, Move, Edge, Walk, stop, step, KeepsRule}
 use Rattle.pv_graph.specs.Graphs.{Graph, form_at, IsRanged, IsGraph}
-use Rattle.pv_denote.proofs.Values.{value_once}
-use Rattle.pv_graph.proofs.NodeLaws.{node_at}
+use Rattle.pv_denote.proofs.Cited.{value_once}
+use Rattle.pv_graph.proofs.Cited.{node_at}
 use Rattle.pv_pattern.specs.Instances.{Names, IsInstance}
 use Rattle.pv_pattern.specs.Laws.{Setting, Law}
 use Rattle.pv_pattern.proofs.Nodes.{plain_is, phi_is, eval_is, pass_is, const_has, zip_one, zip_two}

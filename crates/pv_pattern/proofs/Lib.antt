@@ -4,3 +4,4 @@ pub mod Endless
 pub mod Binding
 pub mod Answered
 pub mod Bound
+pub mod Cited

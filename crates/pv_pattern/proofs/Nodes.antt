@@ -20,11 +20,8 @@ use Rattle.pv_denote.specs.Denote.{Index, at_depth, strict, Value}
 use Rattle.pv_denote.specs.Means.{Means, PassFrom}
 use Rattle.pv_graph.specs.Walks.{IsSettled}
 use Rattle.pv_graph.specs.Graphs.{Graph, form_at}
-use Rattle.pv_denote.proofs.Values.{den_makes, value_once}
-use Rattle.pv_denote.proofs.Independent.{value_says}
-use Rattle.pv_graph.proofs.NodeLaws.{node_at, sort_there, tied, HasSortAt}
-use Rattle.pv_denote.proofs.GraphLaws.{sort_law, settled_law}
-use Rattle.pv_graph.proofs.Sorting.{shape_takes}
+use Rattle.pv_denote.proofs.Cited.{den_makes, value_once, value_says, sort_law, settled_law}
+use Rattle.pv_graph.proofs.Cited.{node_at, sort_there, tied, HasSortAt, shape_takes}
 use Rattle.pv_pattern.specs.Patterns.{Head, Pattern, over, none, first}
 use Rattle.pv_pattern.specs.Instances.{Names, head_op, constant_of, Stands}
 use Rattle.pv_pattern.specs.Laws.{Setting}

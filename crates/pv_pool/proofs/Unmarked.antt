@@ -4,7 +4,7 @@ use Rattle.std.specs.List.{flat_map, AllByRecursion}
 use Rattle.std.proofs.lemmas.List.Concat.{flat_map-cons}
 use Rattle.std.proofs.lemmas.List.Elements.{filter_map-append}
 use Rattle.pv_value.specs.declared.receiver.TheConstants.{MARK}
-use Rattle.pv_value.proofs.ReceiverSymbols.{receivers_apart}
+use Rattle.pv_value.proofs.Cited.{receivers_apart}
 use Rattle.pv_pool.specs.declared.entry.Entry.{Entry}
 use Rattle.pv_pool.specs.declared.entry.Entry.TheVariants.{Utf8}
 use Rattle.pv_pool.specs.declared.constant.Member.{Member}

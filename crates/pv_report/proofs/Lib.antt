@@ -9,3 +9,4 @@ pub mod SoFar
 pub mod Judgements
 pub mod ReadClasses
 pub mod ReportOnce
+pub mod Cited

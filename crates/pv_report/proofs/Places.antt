@@ -4,7 +4,7 @@ use Rattle.std.specs.Prelude.{slice_get}
 use Rattle.std.proofs.lemmas.Option.{slice_get-get_or}
 use Rattle.std.specs.List.{AllByRecursion, Contains}
 use Rattle.pv_base.specs.Stored.{AreBytes}
-use Rattle.pv_pool.proofs.Formats.{IsBytes}
+use Rattle.pv_pool.proofs.Cited.{IsBytes}
 
 pub all_here : {A : Type 0} (P : A → Type 0) (xs : List A) (i : ℕ) (x : A) → AllByRecursion P xs → slice_get xs i ≡ Some x → P x
 all_here P [] i x all at = absurd (cc at)

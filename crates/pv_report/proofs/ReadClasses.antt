@@ -8,7 +8,7 @@ use Rattle.pv_pool.specs.declared.entry.Entry.{Entry}
 use Rattle.pv_class.specs.declared.file.Code.{Code}
 use Rattle.pv_class.specs.declared.file.Method.{Method}
 use Rattle.pv_class.specs.declared.file.ClassFile.{ClassFile}
-use Rattle.pv_class.specs.Items.{Member}
+use Rattle.pv_class.specs.Items.{MemberInfo}
 use Rattle.pv_class.specs.ClassFiles.{IsMethod}
 use Rattle.pv_frame.specs.Answers as frame
 use Rattle.pv_report.specs.Verdicts.{HasCode}
@@ -18,7 +18,7 @@ use Rattle.pv_report.proofs.Places.{all_here, slice_at}
 abbrev HasType : Method → Type 0
 HasType m = (d : Descriptor) × IsMethodType m.desc d
 
-methods_typed : (pool : List Entry) (items : List Member) (methods : List Method) → AllZip (IsMethod pool) items methods → AllByRecursion HasType methods
+methods_typed : (pool : List Entry) (items : List MemberInfo) (methods : List Method) → AllZip (IsMethod pool) items methods → AllByRecursion HasType methods
 methods_typed pool [] [] are = tt
 methods_typed pool [] (m ∷ methods) are = absurd are
 methods_typed pool (i ∷ items) [] are = absurd are

@@ -6,11 +6,11 @@ use Rattle.pv_class.specs.declared.file.Method.{Method}
 use Rattle.pv_class.specs.declared.file.Code.{Code}
 use Rattle.pv_class.specs.declared.file.ClassFile.{ClassFile}
 use Rattle.pv_class.specs.ClassFiles.{AreDistinct}
-use Rattle.pv_pool.proofs.Formats.{IsBytes}
+use Rattle.pv_pool.proofs.Cited.{IsBytes}
 use Rattle.pv_class.specs.declared.fault.ClassFault.{ClassFault}
 use Rattle.pv_class.specs.ClassFiles.{IsClass}
 use Rattle.pv_class.specs.ClassFaults.{IsBad}
-use Rattle.pv_class.proofs.Outcomes.{is_comes, comes_once}
+use Rattle.pv_class.proofs.Cited.{is_comes, comes_once, HasBytes, class_bytes}
 use Rattle.pv_flow.specs.Edges.{edges_of}
 use Rattle.pv_report.specs.declared.verdict.Side.{Side}
 use Rattle.pv_report.specs.declared.verdict.Side.TheVariants as side
@@ -18,13 +18,12 @@ use Rattle.pv_report.specs.declared.verdict.Verdict.{Verdict}
 use Rattle.pv_report.specs.declared.verdict.Verdict.TheVariants as verdict
 use Rattle.pv_report.specs.declared.report.Judgement.{Judgement}
 use Rattle.pv_report.specs.declared.report.Judgement.TheVariants as judgement
-use Rattle.pv_class.proofs.CodeBytes.{HasBytes, class_bytes}
 use Rattle.pv_frame.specs.declared.cause.Cause.{Cause}
 use Rattle.pv_frame.specs.declared.program.Program.{Program}
-use Rattle.pv_frame.proofs.CauseLaws.{one_program, one_cause, accepted_or_refused}
+use Rattle.pv_frame.proofs.Cited.{one_program, one_cause, accepted_or_refused}
 use Rattle.pv_build.specs.Structure.{IsStructured, MeetsShape}
 use Rattle.pv_build.specs.Conversion.{Meets, Form}
-use Rattle.pv_build.proofs.Structures.{one_shape_cause, not_structured}
+use Rattle.pv_build.proofs.Cited.{one_shape_cause, not_structured}
 use Rattle.pv_report.specs.Roots.{HaveRoots, Alike}
 use Rattle.pv_report.specs.Verdicts.{HasCode, IsVerdict, IsVerdictOn}
 use Rattle.pv_report.specs.Partners.{IsPartner}

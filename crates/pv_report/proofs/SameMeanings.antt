@@ -9,23 +9,22 @@ use Rattle.pv_value.specs.declared.outcome.Val.TheVariants as val
 use Rattle.pv_value.specs.Descriptors.{IsMethodType}
 use Rattle.pv_value.specs.Worlds.{IsWorld}
 use Rattle.pv_value.specs.Inputs.{Fits}
-use Rattle.pv_value.proofs.Once.{method_type_once}
+use Rattle.pv_value.proofs.Cited.{method_type_once}
 use Rattle.pv_class.specs.declared.file.ClassFile.{ClassFile}
 use Rattle.pv_class.specs.declared.file.Method.{Method}
-use Rattle.pv_pool.proofs.Formats.{IsBytes}
-use Rattle.pv_class.proofs.CodeBytes.{HasBytes}
+use Rattle.pv_pool.proofs.Cited.{IsBytes}
+use Rattle.pv_class.proofs.Cited.{HasBytes}
 use Rattle.pv_machine.specs.Machine.{IsProgram, Ends}
 use Rattle.pv_machine.specs.SameMeaning.{AreEquivalentMethods}
 use Rattle.pv_graph.specs.Graphs.{Graph, form_at}
 use Rattle.pv_denote.specs.Denote.{outside}
 use Rattle.pv_denote.specs.Meaning.{Value}
-use Rattle.pv_denote.proofs.Simulated.{unfolds_value}
+use Rattle.pv_denote.proofs.Cited.{unfolds_value}
 use Rattle.pv_equations.specs.Equations.{Values, AreEquations}
-use Rattle.pv_equations.proofs.Law.{solvable}
+use Rattle.pv_equations.proofs.Cited.{solvable}
 use Rattle.pv_loops.specs.declared.forest.TheConstants.{MAX_DEPTH}
 use Rattle.pv_runs.specs.Methods.{flow_of}
-use Rattle.pv_runs.proofs.Ranked.{method_ranked}
-use Rattle.pv_runs.proofs.Converted.{method_converts}
+use Rattle.pv_runs.proofs.Cited.{method_ranked, method_converts}
 use Rattle.pv_build.specs.Unfolded.{none_of}
 use Rattle.pv_build.specs.Conversion.{Form, IsRootOf}
 use Rattle.pv_report.specs.Roots.{HaveRoots, Alike}

@@ -4,33 +4,32 @@ use Rattle.std.specs.Prelude.{IfOk, Result, Ok, Err}
 use Rattle.pv_value.specs.declared.memory.Memory.{Memory}
 use Rattle.pv_class.specs.declared.file.ClassFile.{ClassFile}
 use Rattle.pv_class.specs.declared.file.Method.{Method}
-use Rattle.pv_class.proofs.CodeBytes.{HasBytes}
+use Rattle.pv_class.proofs.Cited.{HasBytes}
 use Rattle.pv_frame.specs.declared.program.Program.{Program}
 use Rattle.pv_frame.specs.declared.frame.Frame.{Frame}
 use Rattle.pv_live.specs.Needed.{AreNeeded}
-use Rattle.pv_frame.proofs.CauseLaws.{one_program}
-use Rattle.pv_live.proofs.ListLaws.{needed_once}
+use Rattle.pv_frame.proofs.Cited.{one_program}
+use Rattle.pv_live.proofs.Cited.{needed_once}
 use Rattle.pv_flow.specs.declared.block.Block.{Block}
 use Rattle.pv_flow.specs.Blocks.{IsFlow}
 use Rattle.pv_flow.specs.Edges.{edges_of}
-use Rattle.pv_flow.proofs.OneFlow.{one_flow}
+use Rattle.pv_flow.proofs.Cited.{one_flow}
 use Rattle.pv_loops.specs.Forests.{IsForest, IsSameForest}
-use Rattle.pv_loops.proofs.Unique.{one_forest}
+use Rattle.pv_loops.proofs.Cited.{one_forest}
 use Rattle.pv_graph.specs.declared.node.Node.{Node}
 use Rattle.pv_graph.specs.declared.node.OpSort.TheVariants.{R}
 use Rattle.pv_graph.specs.Unfold.{UnfoldsAs}
 use Rattle.pv_graph.specs.Graphs.{Graph, IsGraph, IsWellMade, form_at}
 use Rattle.pv_graph.specs.Calls.{IsOpenTheta, empty_graph, Sealed}
-use Rattle.pv_graph.proofs.CallLaws.{empty_made}
-use Rattle.pv_graph.proofs.NodeLaws.{growth_unfolds}
+use Rattle.pv_graph.proofs.Cited.{empty_made, growth_unfolds}
 use Rattle.pv_equations.specs.Flow.{Flow}
 use Rattle.pv_terms.specs.Terms.{Enlarges, IsOfSort}
-use Rattle.pv_terms.proofs.Growing.{sorted_within}
+use Rattle.pv_terms.proofs.Cited.{sorted_within}
 use Rattle.pv_runs.specs.Methods.{flow_of}
 use Rattle.pv_build.specs.Unfolded.{IsUnfolded}
 use Rattle.pv_build.specs.Conversion.{Form, IsRootOf}
 use Rattle.pv_alike.specs.Least.{Rooted, IsLeast, IsLeastOf}
-use Rattle.pv_alike.proofs.LeastLaws.{least_one}
+use Rattle.pv_alike.proofs.Cited.{least_one}
 use Rattle.pv_report.specs.Roots.{HaveRoots, Alike, HaveLeast, IsWhole}
 use Rattle.pv_report.proofs.SameFlows.{same_flow, alike_flows}
 use Rattle.pv_report.proofs.SameMeanings.{solved}

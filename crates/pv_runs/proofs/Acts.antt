@@ -29,10 +29,9 @@ use Rattle.pv_value.specs.Worlds.{literal_of}
 use Rattle.pv_denote.specs.Denote as denote
 use Rattle.pv_frame.specs.Stacks.{Taken, popped, moved, has_room, set_local}
 use Rattle.pv_frame.specs.Effects.{sort_of, sort_of_local, sort_of_type, sort_of_word, takes}
-use Rattle.pv_frame.proofs.FrameLaws.{some_of, if_some, popped_sorts}
+use Rattle.pv_frame.proofs.Cited.{some_of, if_some, popped_sorts}
 use Rattle.pv_machine.specs.Machine.{State, Now, running, next, pushes, stored, increased, done, performed}
-use Rattle.pv_machine.proofs.Values.{shown_gives, kept_some}
-use Rattle.pv_machine.proofs.Performs.{no_nums, one_num}
+use Rattle.pv_machine.proofs.Cited.{shown_gives, kept_some, no_nums, one_num}
 use Rattle.pv_graph.specs.declared.node.Op.TheVariants as op
 use Rattle.pv_denote.specs.Denote.{strict}
 use Rattle.pv_equations.specs.Flow.{Part, Of, NoPart, More, PartIs}

@@ -22,7 +22,7 @@ use Rattle.pv_frame.specs.declared.program.Program.{Program}
 use Rattle.pv_frame.specs.declared.frame.Frame.{Frame}
 use Rattle.pv_frame.specs.Stacks.{fits, is_wide, popped, moved, has_room, first_cleared, set_local}
 use Rattle.pv_frame.specs.Effects.{takes}
-use Rattle.pv_frame.proofs.FrameLaws.{some_of, no_some, if_some}
+use Rattle.pv_frame.proofs.Cited.{some_of, no_some, if_some}
 use Rattle.pv_equations.specs.Flow as flow
 use Rattle.pv_equations.specs.Flow.{Part, Parts, Slot, Exit, Chain, Leave, InChain, NamesBelow, AllBelow, InTests}
 use Rattle.pv_runs.specs.Held.{local_place, stack_place, local_slot, stack_slot, Cell, Held, cell_sort, number_part, parts_of, unset, local_part, stack_part, local_cells, stack_cells, held_at, push, of_cell, local_cell, increased_cell, unit_part, clear_part, after_call, with_result, acted_on, acted}

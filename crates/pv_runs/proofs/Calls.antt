@@ -15,16 +15,15 @@ use Rattle.pv_value.specs.declared.outcome.Outcome.TheVariants.{Returned, Threw}
 use Rattle.pv_value.specs.declared.outcome.Val.{Val}
 use Rattle.pv_value.specs.declared.outcome.Val.TheVariants as val
 use Rattle.pv_value.specs.Spelled.{bind, method_type}
-use Rattle.pv_value.proofs.Once.{method_type_once}
+use Rattle.pv_value.proofs.Cited.{method_type_once, method_spelled}
 use Rattle.pv_value.specs.Descriptors.{IsMethodType}
 use Rattle.pv_value.specs.Inputs.{IsOfResult}
 use Rattle.pv_value.specs.Worlds as worlds
 use Rattle.pv_value.specs.Worlds.{IsWorld}
-use Rattle.pv_value.proofs.Spelling.{method_spelled}
 use Rattle.pv_frame.specs.Effects.{sort_of_type}
 use Rattle.pv_frame.specs.declared.program.Program.{Program}
 use Rattle.pv_machine.specs.Machine.{State, called}
-use Rattle.pv_machine.proofs.Values.{of_sort_type}
+use Rattle.pv_machine.proofs.Cited.{of_sort_type}
 use Rattle.pv_graph.specs.declared.node.Op.TheVariants as op
 use Rattle.pv_denote.specs.Denote.{strict, numbers, reply_result, end_part, result_part, fault_part as fault_of_reply, heap_part, over_call}
 use Rattle.pv_equations.specs.Flow.{Part, Of, NoPart, More, call_token, PartIs, PartsAre, Throw, Chain, Leave, Waits}

@@ -19,23 +19,21 @@ use Rattle.pv_frame.specs.Stacks.{Taken}
 use Rattle.pv_frame.specs.Programs.{IsAt}
 use Rattle.pv_frame.specs.Frames.{IsFrameAt, GoesOn, AreFrames}
 use Rattle.pv_frame.specs.Frames as frames-of
-use Rattle.pv_frame.proofs.FrameLaws.{some_of}
+use Rattle.pv_frame.proofs.Cited.{some_of}
 use Rattle.pv_machine.specs.Machine as machine
 use Rattle.pv_machine.specs.Machine.{State, Now, running, ended, step}
 use Rattle.pv_machine.specs.Runs.{IsTypedState}
-use Rattle.pv_machine.proofs.Performs.{IsSound}
-use Rattle.pv_machine.proofs.Typing.{stays_typed}
+use Rattle.pv_machine.proofs.Cited.{IsSound, stays_typed}
 use Rattle.pv_flow.specs.declared.block.Block.{Block}
 use Rattle.pv_flow.specs.Blocks.{Begins, IsBlockAt, IsFlow}
 use Rattle.pv_flow.specs.Blocks as blocks-of
 use Rattle.pv_flow.specs.Exits.{departures}
-use Rattle.pv_flow.proofs.Departing.{target_or_next, goes_to_successors}
+use Rattle.pv_flow.proofs.Cited.{target_or_next, goes_to_successors}
 use Rattle.pv_loops.specs.declared.forest.Forest.{Forest}
 use Rattle.pv_equations.specs.Flow as flows
 use Rattle.pv_equations.specs.Flow.{PartIs, Kind, Dest, To, End, Exit, Chain, Leave, InChain, Flow, Chooses, Steps, Parts, call_token, PartsAre, Ends, Waits}
 use Rattle.pv_equations.specs.Root.{IsOutcome, Next, Goes as Onward, Stops, then as followed, after, MachineEnds, Carries}
-use Rattle.pv_equations.proofs.Follow.{chooses_in}
-use Rattle.pv_equations.proofs.Machine.{after_rest}
+use Rattle.pv_equations.proofs.Cited.{chooses_in, after_rest}
 use Rattle.pv_runs.specs.Held.{Held, held_at}
 use Rattle.pv_runs.specs.Chains.{to}
 use Rattle.pv_runs.specs.Blocks.{number_at, numbered_dest, numbered_exit, numbered}

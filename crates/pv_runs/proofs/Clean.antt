@@ -28,11 +28,10 @@ use Rattle.pv_frame.specs.declared.program.Program.{Program}
 use Rattle.pv_frame.specs.Programs.{IsAt, Does, IsProgramOf}
 use Rattle.pv_class.specs.declared.file.ClassFile.{ClassFile}
 use Rattle.pv_class.specs.declared.file.Method.{Method}
-use Rattle.pv_frame.proofs.FrameLaws.{some_of, no_some}
+use Rattle.pv_frame.proofs.Cited.{some_of, no_some}
 use Rattle.pv_value.specs.Spelled.{field_type}
-use Rattle.pv_value.proofs.Spelling.{field_spelled}
-use Rattle.pv_value.proofs.ReceiverSymbols.{receivers_apart}
-use Rattle.pv_denote.proofs.Typing.{wider}
+use Rattle.pv_value.proofs.Cited.{field_spelled, receivers_apart}
+use Rattle.pv_denote.proofs.Cited.{wider}
 use Rattle.pv_runs.specs.Matches.{IsClean}
 use Rattle.pv_runs.proofs.Ranges.{signed_range}
 

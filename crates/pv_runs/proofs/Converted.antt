@@ -11,16 +11,16 @@ use Rattle.pv_value.specs.Inputs.{Fits}
 use Rattle.pv_class.specs.declared.file.ClassFile.{ClassFile}
 use Rattle.pv_class.specs.declared.file.Method.{Method}
 use Rattle.pv_class.specs.declared.file.Code.{Code}
-use Rattle.pv_insn.proofs.Formats.{IsBytes}
+use Rattle.pv_insn.proofs.Cited.{IsBytes}
 use Rattle.pv_frame.specs.declared.program.Program.{Program}
 use Rattle.pv_frame.specs.declared.frame.Frame.{Frame}
 use Rattle.pv_frame.specs.Frames.{AreFrames}
-use Rattle.pv_frame.proofs.CauseLaws.{one_program}
+use Rattle.pv_frame.proofs.Cited.{one_program}
 use Rattle.pv_machine.specs.Machine as machine
 use Rattle.pv_machine.specs.Machine.{State, start, IsProgram, RunEnds, Ends}
 use Rattle.pv_flow.specs.declared.block.Block.{Block}
 use Rattle.pv_flow.specs.Blocks.{IsFlow}
-use Rattle.pv_flow.proofs.Flows.{entry_block}
+use Rattle.pv_flow.proofs.Cited.{entry_block}
 use Rattle.pv_loops.specs.declared.forest.Forest.{Forest}
 use Rattle.pv_loops.specs.declared.forest.TheConstants.{MAX_DEPTH}
 use Rattle.pv_denote.specs.Denote.{Index}
@@ -31,7 +31,7 @@ use Rattle.pv_equations.specs.Exp.{Exp}
 use Rattle.pv_equations.specs.Flow.{To, Exit, Flow, Steps, Left, Waits, Runnable}
 use Rattle.pv_equations.specs.Equations.{Values, form_of, AreEquations}
 use Rattle.pv_equations.specs.Root.{root_of, after, MachineEnds, Finishes}
-use Rattle.pv_equations.proofs.Law.{graph_machine}
+use Rattle.pv_equations.proofs.Cited.{graph_machine}
 use Rattle.pv_runs.specs.Matches.{IsCleanProgram}
 use Rattle.pv_runs.specs.Methods.{flow_of}
 use Rattle.pv_runs.specs.Laws.{IsRanked, MethodConverts}

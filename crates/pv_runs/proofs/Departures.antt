@@ -15,8 +15,7 @@ use Rattle.pv_frame.specs.declared.action.Action.{Action}
 use Rattle.pv_frame.specs.declared.action.Action.TheVariants as act
 use Rattle.pv_frame.specs.Stacks.{popped}
 use Rattle.pv_frame.specs.Effects.{takes}
-use Rattle.pv_frame.proofs.FrameLaws.{some_of}
-use Rattle.pv_frame.proofs.Lists.{contains_first, contains_more, contains_cases, contains_none}
+use Rattle.pv_frame.proofs.Cited.{some_of, contains_first, contains_more, contains_cases, contains_none}
 use Rattle.pv_flow.specs.Exits.{Departure, Goes, Returns, Throws, branches_on_no, branched, departures}
 use Rattle.pv_equations.specs.Flow as flow
 use Rattle.pv_equations.specs.Flow.{Part, Exit, Chain, Leave, InChain}

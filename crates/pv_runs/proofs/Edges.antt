@@ -9,8 +9,7 @@ use Rattle.pv_frame.specs.declared.program.Program.{Program}
 use Rattle.pv_frame.specs.declared.frame.Frame.{Frame}
 use Rattle.pv_frame.specs.Effects.{successors}
 use Rattle.pv_frame.specs.Programs.{IsAt}
-use Rattle.pv_frame.proofs.FrameLaws.{some_of, no_some}
-use Rattle.pv_frame.proofs.Lists.{contains_cases, contains_none}
+use Rattle.pv_frame.proofs.Cited.{some_of, no_some, contains_cases, contains_none}
 use Rattle.pv_flow.specs.declared.block.Exit as kinds
 use Rattle.pv_flow.specs.declared.block.Exit.TheVariants as exit
 use Rattle.pv_flow.specs.declared.block.Block.{Block}
@@ -18,9 +17,7 @@ use Rattle.pv_flow.specs.Exits.{Departure, Goes, Returns, Throws, departures}
 use Rattle.pv_flow.specs.Blocks.{IsBlockAt, IsExit, IsFlow}
 use Rattle.pv_flow.specs.Edges as edges
 use Rattle.pv_flow.specs.Edges.{edges_of}
-use Rattle.pv_flow.proofs.Departing.{goes_to_successors}
-use Rattle.pv_flow.proofs.Flows.{edges_of_code, edges_within}
-use Rattle.pv_flow.proofs.Spans.{at_within}
+use Rattle.pv_flow.proofs.Cited.{goes_to_successors, edges_of_code, edges_within, at_within}
 use Rattle.pv_equations.specs.Flow as flow
 use Rattle.pv_equations.specs.Flow.{Dest, To, End, Return, Exit, Chain, Leave, InChain}
 use Rattle.pv_runs.specs.Held.{Held}

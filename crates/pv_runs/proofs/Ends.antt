@@ -20,7 +20,7 @@ use Rattle.pv_value.specs.declared.outcome.Fault.TheVariants as fault
 use Rattle.pv_value.specs.declared.outcome.Outcome.TheVariants.{Returned}
 use Rattle.pv_value.specs.declared.outcome.Val.{Val}
 use Rattle.pv_value.specs.declared.outcome.Val.TheVariants as val
-use Rattle.pv_value.proofs.OperationLaws.{scalar_exact}
+use Rattle.pv_value.proofs.Cited.{scalar_exact}
 use Rattle.pv_value.specs.Operations as operation
 use Rattle.pv_value.specs.Heaps.{read, written}
 use Rattle.pv_value.specs.Worlds as worlds
@@ -34,13 +34,12 @@ use Rattle.pv_frame.specs.declared.action.Action.TheVariants as act
 use Rattle.pv_frame.specs.Stacks.{Taken, popped}
 use Rattle.pv_frame.specs.Effects.{sort_of, sort_of_type, sort_of_word, sort_of_kind, sorts_of_result, takes}
 use Rattle.pv_frame.specs.declared.program.Program.{Program}
-use Rattle.pv_frame.proofs.FrameLaws.{some_of}
+use Rattle.pv_frame.proofs.Cited.{some_of}
 use Rattle.pv_machine.specs.Machine.{State, Now, ended, next, pushes, branches, given, done, performed}
-use Rattle.pv_machine.proofs.Values.{Gives, shown_gives, kept_some, element_sort, as_type_gives}
-use Rattle.pv_machine.proofs.Performs.{no_nums}
+use Rattle.pv_machine.proofs.Cited.{Gives, shown_gives, kept_some, element_sort, as_type_gives, no_nums}
 use Rattle.pv_graph.specs.declared.node.Op.TheVariants as op
 use Rattle.pv_denote.specs.Denote.{strict}
-use Rattle.pv_denote.proofs.Typing.{wider, low_fits}
+use Rattle.pv_denote.proofs.Cited.{wider, low_fits}
 use Rattle.pv_equations.specs.Flow as flow
 use Rattle.pv_equations.specs.Flow.{Part, Of, NoPart, More, PartIs, Exit, Chain, Leave, Chooses}
 use Rattle.pv_runs.specs.Held.{Cell, Held, cell_sort, unit_part, null_part, acted_on, with_result}

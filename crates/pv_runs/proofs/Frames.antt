@@ -15,8 +15,7 @@ use Rattle.pv_frame.specs.declared.frame.Frame.{Frame}
 use Rattle.pv_frame.specs.Stacks.{is_wide, width, popped, moved, has_room, first_cleared, set_local}
 use Rattle.pv_frame.specs.Effects.{takes, gives, successors}
 use Rattle.pv_frame.specs.Frames.{same, holds, pushed, padded_sorts, passed_to, frame_done, frame_after, IsFrameAt, LeadsTo, IsEnd, Reached, first, next, AreFrames}
-use Rattle.pv_frame.proofs.FrameLaws.{some_of, no_some, if_some, framed}
-use Rattle.pv_frame.proofs.Lists.{contains_cases, contains_none}
+use Rattle.pv_frame.proofs.Cited.{some_of, no_some, if_some, framed, contains_cases, contains_none}
 
 -- ---- an action leaves as many locals
 

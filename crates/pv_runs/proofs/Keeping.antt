@@ -9,8 +9,7 @@ use Rattle.pv_frame.specs.declared.action.Action.{Action}
 use Rattle.pv_frame.specs.declared.program.Program.{Program}
 use Rattle.pv_frame.specs.declared.frame.Frame.{Frame}
 use Rattle.pv_frame.specs.Frames.{IsFrameAt, AreFrames}
-use Rattle.pv_frame.proofs.FrameLaws.{some_of, no_some}
-use Rattle.pv_frame.proofs.Lists.{contains_cases, contains_none}
+use Rattle.pv_frame.proofs.Cited.{some_of, no_some, contains_cases, contains_none}
 use Rattle.pv_flow.specs.declared.block.Block.{Block}
 use Rattle.pv_flow.specs.Exits.{Departure, Goes, Returns, Throws, departures}
 use Rattle.pv_flow.specs.Blocks.{IsFlow}

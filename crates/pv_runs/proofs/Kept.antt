@@ -13,7 +13,7 @@ use Rattle.pv_frame.specs.declared.program.Program.{Program}
 use Rattle.pv_frame.specs.Stacks.{is_wide, popped, moved, has_room, first_cleared, set_local}
 use Rattle.pv_frame.specs.Effects.{takes}
 use Rattle.pv_frame.specs.Programs.{IsAt}
-use Rattle.pv_frame.proofs.FrameLaws.{some_of, if_some, popped_sorts}
+use Rattle.pv_frame.proofs.Cited.{some_of, if_some, popped_sorts}
 use Rattle.pv_equations.specs.Flow.{Part, TokenPart, calls}
 use Rattle.pv_runs.specs.Held.{local_slot, Cell, Held, cell_sort, local_cell, increased_cell, unset, local_part, stack_part, push, call_parts, with_result, slots_of, acted_on, acted}
 use Rattle.pv_runs.specs.Carrying.{holds_wide, writes_local, writes_heap, writes, writes_along}

@@ -27,7 +27,7 @@ use Rattle.pv_value.specs.Narrowing.{shown, kept, field_place, element_type}
 use Rattle.pv_insn.specs.declared.insn.Case.{Case}
 use Rattle.pv_frame.specs.Effects.{sort_of, sort_of_word}
 use Rattle.pv_frame.specs.declared.program.Program.{Program}
-use Rattle.pv_frame.proofs.FrameLaws.{some_of}
+use Rattle.pv_frame.proofs.Cited.{some_of}
 use Rattle.pv_machine.specs.Machine.{State, Now, running, ended, goes, throws, pushes, number_of, value_of, divided, branches, target_of, element_fault, unless}
 use Rattle.pv_graph.specs.declared.node.Op.TheVariants as op
 use Rattle.pv_denote.specs.Denote.{strict}

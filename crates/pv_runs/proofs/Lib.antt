@@ -26,3 +26,4 @@ pub mod Carried
 pub mod Ranked
 pub mod Converted
 mod Examples
+pub mod Cited

@@ -12,7 +12,7 @@ use Rattle.pv_frame.specs.declared.sort.Sort.{Sort}
 use Rattle.pv_frame.specs.declared.sort.Sort.TheVariants as sort
 use Rattle.pv_frame.specs.Stacks.{fits, is_wide, last_local, has_room, first_cleared, set_local}
 use Rattle.pv_frame.specs.Effects.{sort_of_local}
-use Rattle.pv_frame.proofs.FrameLaws.{fits_same}
+use Rattle.pv_frame.proofs.Cited.{fits_same}
 use Rattle.pv_machine.specs.Machine.{of_sort}
 use Rattle.pv_equations.specs.Flow.{PartIs}
 use Rattle.pv_runs.specs.Held.{Cell, cell_sort, unset, of_cell}

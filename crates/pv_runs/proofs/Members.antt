@@ -5,7 +5,7 @@ use Rattle.std.specs.List.{Contains}
 use Rattle.std.proofs.lemmas.Bool.{cases_lt, eqb-true, eq-eqb}
 use Rattle.std.proofs.lemmas.List.{get_or_past}
 use Rattle.std.proofs.lemmas.Option.{slice_get-get_or}
-use Rattle.pv_frame.proofs.FrameLaws.{some_of, no_some}
+use Rattle.pv_frame.proofs.Cited.{some_of, no_some}
 use Rattle.pv_loops.specs.declared.forest.Loop.{Loop}
 use Rattle.pv_loops.specs.declared.forest.Forest.{Forest}
 use Rattle.pv_loops.specs.declared.forest.TheConstants.{MAX_DEPTH}

@@ -18,15 +18,14 @@ use Rattle.pv_value.specs.declared.operation.ScalarOp.{ScalarOp}
 use Rattle.pv_value.specs.declared.operation.ScalarOp.TheVariants.{Iand}
 use Rattle.pv_value.specs.declared.world.World.{World}
 use Rattle.pv_value.specs.Operations as operation
-use Rattle.pv_value.proofs.OperationLaws.{scalar_fits, scalar_exact}
+use Rattle.pv_value.proofs.Cited.{scalar_fits, scalar_exact, type_num}
 use Rattle.pv_value.specs.Narrowing.{narrowed, shown}
 use Rattle.pv_value.specs.Inputs.{IsOfType, IsOfSort}
 use Rattle.pv_value.specs.Numbers.{IsNum}
 use Rattle.pv_value.specs.Worlds.{IsWorld, length_of}
-use Rattle.pv_value.proofs.Fitting.{type_num}
-use Rattle.pv_frame.proofs.FrameLaws.{some_of, no_some}
+use Rattle.pv_frame.proofs.Cited.{some_of, no_some}
 use Rattle.pv_machine.specs.Machine.{num_of, value_of}
-use Rattle.pv_denote.proofs.Typing.{wider, low_fits}
+use Rattle.pv_denote.proofs.Cited.{wider, low_fits}
 use Rattle.pv_runs.specs.Matches.{InRange}
 
 -- ---- where ints come from

@@ -12,11 +12,11 @@ use Rattle.pv_frame.specs.Frames.{AreFrames}
 use Rattle.pv_flow.specs.declared.block.Block.{Block}
 use Rattle.pv_flow.specs.Blocks.{IsFlow}
 use Rattle.pv_flow.specs.Edges.{targets_of, edges_of}
-use Rattle.pv_flow.proofs.Flows.{entry_block, edges_within}
+use Rattle.pv_flow.proofs.Cited.{entry_block, edges_within}
 use Rattle.pv_loops.specs.declared.forest.Forest.{Forest}
 use Rattle.pv_loops.specs.Shapes.{IsShape}
 use Rattle.pv_loops.specs.Forests.{IsForest}
-use Rattle.pv_loops.proofs.Forested.{ranking}
+use Rattle.pv_loops.proofs.Cited.{ranking}
 use Rattle.pv_loops.specs.Ranks.{around, IsRanking}
 use Rattle.pv_loops.specs.Ranks as ranks
 use Rattle.pv_equations.specs.Flow.{Part, Flow, To, Exit, Chain, InChain, LeadsBack, turns, passes, Shape, Compact, NamesBelow, InTests, IsFinite}

@@ -15,9 +15,9 @@ use Rattle.pv_value.specs.Inputs.{IsOfType, Fits}
 use Rattle.pv_frame.specs.declared.program.Program.{Program}
 use Rattle.pv_frame.specs.declared.frame.Frame.{Frame}
 use Rattle.pv_frame.specs.Frames.{Agrees}
-use Rattle.pv_frame.proofs.FrameLaws.{some_of}
+use Rattle.pv_frame.proofs.Cited.{some_of}
 use Rattle.pv_machine.specs.Machine.{locals_of, passed, padded, start}
-use Rattle.pv_machine.proofs.Typing.{starts}
+use Rattle.pv_machine.proofs.Cited.{starts}
 use Rattle.pv_graph.specs.declared.node.Op.{Op}
 use Rattle.pv_graph.specs.declared.node.Op.TheVariants as op
 use Rattle.pv_graph.specs.declared.node.OpSort.{OpSort}

@@ -18,7 +18,7 @@ use Rattle.pv_frame.specs.declared.action.Comparison.TheVariants as comparison
 use Rattle.pv_frame.specs.declared.action.Test.{Test}
 use Rattle.pv_frame.specs.declared.action.Test.TheVariants as test
 use Rattle.pv_frame.specs.Effects.{sort_of, sort_of_word, test_takes}
-use Rattle.pv_frame.proofs.FrameLaws.{some_of}
+use Rattle.pv_frame.proofs.Cited.{some_of}
 use Rattle.pv_machine.specs.Machine.{number_of, compares, tested}
 use Rattle.pv_graph.specs.declared.node.Op.TheVariants as op
 use Rattle.pv_denote.specs.Denote.{strict, truth, is_clear}

@@ -15,7 +15,7 @@ use Rattle.pv_frame.specs.declared.action.Action.TheVariants as act
 use Rattle.pv_frame.specs.Stacks.{Taken, popped, moved, has_room, set_local}
 use Rattle.pv_frame.specs.Effects.{takes}
 use Rattle.pv_frame.specs.declared.program.Program.{Program}
-use Rattle.pv_frame.proofs.FrameLaws.{some_of, if_some}
+use Rattle.pv_frame.proofs.Cited.{some_of, if_some}
 use Rattle.pv_machine.specs.Machine.{State}
 use Rattle.pv_equations.specs.Flow as flow
 use Rattle.pv_equations.specs.Flow.{Part, Parts, Slot, Of, NoPart, More, call_token, PartIs, PartsAre, Exit, Chain, Leave, InChain}

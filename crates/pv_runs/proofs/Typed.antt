@@ -18,15 +18,12 @@ use Rattle.pv_frame.specs.Stacks.{Taken, popped, moved, has_room, set_local}
 use Rattle.pv_frame.specs.Effects.{sort_of_type, sort_of_word, sorts_of_result, test_takes, takes, successors}
 use Rattle.pv_frame.specs.Frames.{same, holds, frame_done, frame_after, Flows, IsFrameAt, LeadsTo, IsEnd, Finds, GoesOn, Reached, AreFrames}
 use Rattle.pv_frame.specs.Frames as frame
-use Rattle.pv_frame.proofs.FrameLaws.{some_of, no_some, if_some, fits_same, popped_sorts, flows_flows, goes_from}
-use Rattle.pv_frame.proofs.StackLaws.{by_sorts, popped_map, moved_map, has_room_map, set_local_map}
-use Rattle.pv_frame.proofs.Meeting.{flows_itself}
-use Rattle.pv_frame.proofs.Inferred.{reached_frame}
+use Rattle.pv_frame.proofs.Cited.{some_of, no_some, if_some, fits_same, popped_sorts, flows_flows, goes_from, by_sorts, popped_map, moved_map, has_room_map, set_local_map, flows_itself, reached_frame}
 use Rattle.pv_flow.specs.declared.block.Block.{Block}
 use Rattle.pv_flow.specs.Exits.{ends_block}
 use Rattle.pv_flow.specs.Blocks.{Begins, IsSpan, IsFlow}
 use Rattle.pv_flow.specs.Blocks as blocks
-use Rattle.pv_flow.proofs.Departing.{goes_on}
+use Rattle.pv_flow.proofs.Cited.{goes_on}
 use Rattle.pv_equations.specs.Flow.{Part, Exit, Chain}
 use Rattle.pv_runs.specs.Held.{Cell, Held, cell_sort, unset, of_cell, push, increased_cell, local_cells, stack_cells, held_at, with_result, acted_on, acted}
 use Rattle.pv_runs.specs.Chains.{to, branch, test_part, chain_with, given_chain, last_chain, ends_method, chain_of}

@@ -14,7 +14,7 @@ use Rattle.pv_value.specs.Spelled.{bind}
 use Rattle.pv_frame.specs.Effects.{sort_of, sort_of_word}
 use Rattle.pv_machine.specs.Machine as machine
 use Rattle.pv_machine.specs.Machine.{number_of, value_of, computed}
-use Rattle.pv_machine.proofs.Values.{shape, value_sort}
+use Rattle.pv_machine.proofs.Cited.{shape, value_sort}
 use Rattle.pv_frame.specs.declared.sort.Sort.{Sort}
 use Rattle.pv_denote.specs.Denote as denote
 use Rattle.pv_denote.specs.Denote.{operand, scalar_on, scalar_value}

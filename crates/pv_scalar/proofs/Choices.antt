@@ -20,14 +20,11 @@ use Rattle.pv_denote.specs.Means.{IsTrueAt}
 use Rattle.pv_denote.specs.Typed.{IsOf}
 use Rattle.pv_graph.specs.Walks.{IsSettled}
 use Rattle.pv_graph.specs.Graphs.{Graph, form_at}
-use Rattle.pv_denote.proofs.Values.{den_makes, value_once}
-use Rattle.pv_graph.proofs.NodeLaws.{HasSortAt}
-use Rattle.pv_denote.proofs.GraphLaws.{sort_law}
-use Rattle.pv_graph.proofs.Sorting.{shape_takes}
-use Rattle.pv_graph.proofs.Sorting.{exactly_are}
+use Rattle.pv_denote.proofs.Cited.{den_makes, value_once, sort_law}
+use Rattle.pv_graph.proofs.Cited.{HasSortAt, shape_takes, exactly_are}
 use Rattle.pv_pattern.specs.Patterns.{fixed, var, settled}
 use Rattle.pv_pattern.specs.Laws.{Setting, Law, Laws}
-use Rattle.pv_pattern.proofs.Nodes.{none_at, two_at, three_at, same_at, kids_sorted, settled_has, plain_is, phi_is}
+use Rattle.pv_pattern.proofs.Cited.{none_at, two_at, three_at, same_at, kids_sorted, settled_has, plain_is, phi_is}
 use Rattle.pv_scalar.specs.Table.{rule, op0, op2, phi, both, zero_, one_, refs, choices, tokens}
 use Rattle.pv_scalar.proofs.Terms.{const_has}
 

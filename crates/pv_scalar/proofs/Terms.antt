@@ -22,14 +22,12 @@ use Rattle.pv_denote.specs.Denote.{Index, strict, Value, operand, num_of, scalar
 use Rattle.pv_denote.specs.Typed.{IsOf}
 use Rattle.pv_graph.specs.Walks.{IsSettled}
 use Rattle.pv_graph.specs.Graphs.{Graph, form_at}
-use Rattle.pv_denote.proofs.Values.{value_once, den_makes}
-use Rattle.pv_graph.proofs.NodeLaws.{HasSortAt}
-use Rattle.pv_denote.proofs.GraphLaws.{sort_law}
-use Rattle.pv_graph.proofs.Sorting.{exactly_are}
+use Rattle.pv_denote.proofs.Cited.{value_once, den_makes, sort_law}
+use Rattle.pv_graph.proofs.Cited.{HasSortAt, exactly_are}
 use Rattle.pv_pattern.specs.Patterns.{Atom, number, named, fixed, Pattern, var, constant, fold, over, none, first, Side, settled, not_free, symbols_differ, kinds_differ, not_byte, constants_differ, variables}
 use Rattle.pv_pattern.specs.Instances.{Names, constant_of, IsConstantAt, atom_of, folded, Stands, Holds}
 use Rattle.pv_pattern.specs.Laws.{Setting, Law}
-use Rattle.pv_pattern.proofs.Nodes.{none_at, one_at, two_at, same_at, kids_sorted, settled_has, plain_is}
+use Rattle.pv_pattern.proofs.Cited.{none_at, one_at, two_at, same_at, kids_sorted, settled_has, plain_is}
 use Rattle.pv_scalar.specs.Table.{rule}
 
 -- a number or a variable for constants, in a fold

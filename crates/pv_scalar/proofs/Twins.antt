@@ -9,8 +9,8 @@ use Rattle.pv_pattern.specs.Patterns.{number, named, constant, fold, settled}
 use Rattle.pv_pattern.specs.Laws.{Law, Laws}
 use Rattle.pv_scalar.specs.Table.{rule, sc1, sc2, add, sub, mul, div, rem, shl, shr, ushr, and, or, xor, neg, zero_, one_, minus, at, x, y, z, twins, ints, longs, int_folds, long_folds}
 use Rattle.pv_scalar.proofs.Terms.{v_, k_, lit, one, two, fold1, fold2, l_, c_, scalar_law}
-use Rattle.pv_denote.proofs.Typing.{low_fits}
-use Rattle.pv_pattern.proofs.Equations.{e33, e37, e38, e39, e139, e19, e24, byte_fits, short_fits, e40, e41, e43, e1, e2, e3, e4, e5, e6, e7, e8, e9, e10, e11, e12, e13, e14, e15, e16, e17, e18, e20, e21, e22, e23, e25, e26, e27, e28, e29, e30, e31, e32, e34}
+use Rattle.pv_denote.proofs.Cited.{low_fits}
+use Rattle.pv_pattern.proofs.Cited.{e33, e37, e38, e39, e139, e19, e24, byte_fits, short_fits, e40, e41, e43, e1, e2, e3, e4, e5, e6, e7, e8, e9, e10, e11, e12, e13, e14, e15, e16, e17, e18, e20, e21, e22, e23, e25, e26, e27, e28, e29, e30, e31, e32, e34}
 
 zero_fits : (s : Word) → FitsSigned (width_of s) (pos 0)
 zero_fits int = record { sfits = lit< tt }

@@ -13,10 +13,7 @@ use Rattle.pv_graph.specs.Ops.{Shape, theta, eval, pass, shift, shape}
 use Rattle.pv_graph.specs.Forms.{form}
 use Rattle.pv_denote.specs.Denote.{Index, at_depth, strict, Value, SameAt}
 use Rattle.pv_graph.specs.Walks.{In}
-use Rattle.pv_denote.proofs.Values.{value_once, den_makes}
-use Rattle.pv_denote.proofs.Independent.{value_says}
-use Rattle.pv_denote.proofs.Indices.{at_same, at_other, at_id, at_at}
-use Rattle.pv_denote.proofs.Mapped.{Moves, Stays}
+use Rattle.pv_denote.proofs.Cited.{value_once, den_makes, value_says, at_same, at_other, at_id, at_at, Moves, Stays}
 use Rattle.pv_steps.specs.Steps.{Block, Loop, Ending}
 use Rattle.pv_steps.specs.Right.{IsFresh}
 use Rattle.pv_steps.specs.Facts.{View, Keeps, Satisfies, Holds}

@@ -10,11 +10,7 @@ use Rattle.pv_graph.specs.Walks.{In, open_kids, Free, here, below, IsClosed, Spi
 use Rattle.pv_graph.specs.Graphs.{Graph, form_at, IsGraph, IsWellMade, Extends}
 use Rattle.pv_graph.specs.Nodes.{node_of}
 use Rattle.pv_graph.specs.Calls.{Added, appended}
-use Rattle.pv_graph.proofs.Elements.{found}
-use Rattle.pv_graph.proofs.NodeLaws.{kid_within, node_at, form_there}
-use Rattle.pv_graph.proofs.Appending.{appended_graph}
-use Rattle.pv_graph.proofs.Keeping.{new_added}
-use Rattle.pv_graph.proofs.CallLaws.{added_made, added_extends}
+use Rattle.pv_graph.proofs.Cited.{found, kid_within, node_at, form_there, appended_graph, new_added, added_made, added_extends}
 use Rattle.pv_steps.specs.Steps.{Step, Axiom, Flip, Chain, Set, Open, Close, Assume, Finish}
 use Rattle.pv_steps.specs.Steps as steps
 use Rattle.pv_steps.specs.Right.{AddsNode, Grows, GraphAfter}

@@ -5,9 +5,9 @@ use Rattle.std.proofs.lemmas.List.{reverse-append}
 use Rattle.std.proofs.lemmas.Option.{slice_get_within, slice_get-get_or, same_Some}
 use Rattle.pv_denote.specs.Denote.{SameAt}
 use Rattle.pv_graph.specs.Graphs.{Graph, form_at}
-use Rattle.pv_graph.proofs.Elements.{found}
-use Rattle.pv_denote.proofs.GraphLaws.{growth_law}
-use Rattle.pv_alike.proofs.LeastLaws.{least_within, first_means, second_means}
+use Rattle.pv_graph.proofs.Cited.{found}
+use Rattle.pv_denote.proofs.Cited.{growth_law}
+use Rattle.pv_alike.proofs.Cited.{least_within, first_means, second_means}
 use Rattle.pv_steps.specs.Steps.{Step, OpenBlock, blocks}
 use Rattle.pv_steps.specs.Right.{Instances, Right}
 use Rattle.pv_steps.specs.Accepted.{AllRight, LastStates, IsConcluded, first_steps, Rejects}

@@ -3,3 +3,4 @@ pub mod Blocks
 pub mod Growing
 pub mod Section
 pub mod Laws
+pub mod Cited

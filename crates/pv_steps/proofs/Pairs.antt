@@ -10,8 +10,7 @@ use Rattle.pv_graph.specs.Ops.{shape}
 use Rattle.pv_graph.specs.Forms.{form}
 use Rattle.pv_denote.specs.Denote.{Index, den, Value}
 use Rattle.pv_denote.specs.Means.{Means}
-use Rattle.pv_denote.proofs.Values.{With, den_says, den_makes}
-use Rattle.pv_denote.proofs.Mapped.{Moves, Stays, means_map}
+use Rattle.pv_denote.proofs.Cited.{With, den_says, den_makes, Moves, Stays, means_map}
 use Rattle.pv_steps.specs.Facts.{View}
 
 -- the nodes have one operation, P holds of the depth at which it looks at other iterations, and R joins their kids in order

@@ -13,12 +13,8 @@ use Rattle.pv_graph.specs.Forms.{form}
 use Rattle.pv_denote.specs.Denote.{Index, Value, SameAt}
 use Rattle.pv_graph.specs.Walks.{In, IsClosed, Spine}
 use Rattle.pv_graph.specs.Graphs.{Graph, form_at, IsGraph, IsWellMade, Extends}
-use Rattle.pv_graph.proofs.Elements.{found}
-use Rattle.pv_graph.proofs.NodeLaws.{bind_some}
-use Rattle.pv_denote.proofs.Values.{den_makes}
-use Rattle.pv_denote.proofs.Mapped.{Moves, means_map}
-use Rattle.pv_denote.proofs.Independent.{value_says, closed_value, spine_has}
-use Rattle.pv_denote.proofs.GraphLaws.{growth_law}
+use Rattle.pv_graph.proofs.Cited.{found, bind_some}
+use Rattle.pv_denote.proofs.Cited.{den_makes, Moves, means_map, value_says, closed_value, spine_has, growth_law}
 use Rattle.pv_steps.specs.Steps as steps
 use Rattle.pv_steps.specs.Steps.{Fact, Reason, Same, By, Pair, Congruence, Step, Axiom, Flip, Chain, Set, Open, Close, Assume, Finish, Block, Loop, Ending, OpenBlock, blocks, outer_of, pairs_of, assumed_in, Stated, both_sides, states, open_after, stated_at, numbered, Equality, equality_of, equality_at, AreOpen, Shows}
 use Rattle.pv_steps.specs.Right.{IsFresh, looks_at, GraphAfter, Gives, GiveAll, AreOutside, RightCongruence, ClosesPair, RightClose, RightAssume, RightFinish, Instances, RightOver, Right}

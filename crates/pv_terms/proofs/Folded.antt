@@ -6,7 +6,7 @@ use Rattle.pv_graph.specs.declared.node.OpSort.{OpSort}
 use Rattle.pv_graph.specs.declared.node.OpSort.TheVariants as sort
 use Rattle.pv_graph.specs.Ops.{same_sort, but_root, sort_over, HasSort}
 use Rattle.pv_graph.specs.Graphs.{Graph}
-use Rattle.pv_graph.proofs.Elements.{push_cases}
+use Rattle.pv_graph.proofs.Cited.{push_cases}
 use Rattle.pv_equations.specs.Exp.{Exp, Over, three}
 use Rattle.pv_equations.specs.Equations.{Joins}
 use Rattle.pv_decide.specs.declared.tree.TreeNode.{TreeNode}

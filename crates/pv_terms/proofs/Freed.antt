@@ -8,12 +8,11 @@ use Rattle.pv_graph.specs.Forms.{form}
 use Rattle.pv_graph.specs.Nodes.{node_of}
 use Rattle.pv_graph.specs.Walks.{In, open_kids, Free, here as free_here, below as free_below}
 use Rattle.pv_graph.specs.Graphs.{form_at}
-use Rattle.pv_graph.proofs.NodeLaws.{form_there, node_at}
+use Rattle.pv_graph.proofs.Cited.{form_there, node_at}
 use Rattle.pv_equations.specs.Exp.{Exp, Exps, Name, Over, NoExp, Then, two, listed}
 use Rattle.pv_equations.specs.Flow.{Flow}
 use Rattle.pv_equations.specs.Equations.{Values, FreeIn, theta, name, entered, begun, kid, first_kid}
-use Rattle.pv_equations.proofs.Free.{FreeAll}
-use Rattle.pv_equations.proofs.Levels.{free_seen}
+use Rattle.pv_equations.proofs.Cited.{FreeAll, free_seen}
 use Rattle.pv_terms.specs.declared.names.Named.{Named}
 use Rattle.pv_terms.specs.Reads.{Reads, ReadAll, AreNames}
 use Rattle.pv_terms.specs.Laws.{depths, AreTiedBelow, FreeReads}

@@ -7,12 +7,11 @@ use Rattle.pv_graph.specs.declared.node.Op.TheVariants as op
 use Rattle.pv_graph.specs.declared.node.Node.{Node}
 use Rattle.pv_graph.specs.declared.node.OpSort.{OpSort}
 use Rattle.pv_graph.specs.declared.node.OpSort.TheVariants as sort
-use Rattle.pv_graph.proofs.Elements.{found, push_cases}
+use Rattle.pv_graph.proofs.Cited.{found, push_cases, added_made, added_extends, begun_made, begun_extends}
 use Rattle.pv_graph.specs.Nodes.{node_of, IsAbsent}
 use Rattle.pv_graph.specs.Ops.{is_depth, sort_over, but_root, HaveSorts, HasSort}
 use Rattle.pv_graph.specs.Graphs.{Graph, IsGraph, IsUnfinished, Extends}
 use Rattle.pv_graph.specs.Calls.{IsSame, AreNodes, IsOpenTheta, appended, Added, Begun}
-use Rattle.pv_graph.proofs.CallLaws.{added_made, added_extends, begun_made, begun_extends}
 use Rattle.pv_terms.specs.Reads.{IsNoTheta}
 use Rattle.pv_terms.specs.Terms.{has_depth, IsFlat, IsFlatOrOut, GrowsBy, Grows, Opens, Keeps, IsOfSort, IsValue, HasItsSort, KeepsSort}
 

@@ -5,3 +5,4 @@ pub mod Growing
 pub mod Made
 pub mod Naming
 pub mod Folded
+pub mod Cited

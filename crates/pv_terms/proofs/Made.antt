@@ -9,7 +9,7 @@ use Rattle.pv_graph.specs.Nodes.{node_of}
 use Rattle.pv_graph.specs.Ops.{exactly, HaveSorts, HasSort}
 use Rattle.pv_graph.specs.Graphs.{Graph, IsGraph, IsUnfinished}
 use Rattle.pv_graph.specs.Calls.{Added, IsFree}
-use Rattle.pv_graph.proofs.CallLaws.{added_extends}
+use Rattle.pv_graph.proofs.Cited.{added_extends}
 use Rattle.pv_equations.specs.Exp.{Exp, Exps, Name, Over, NoExp, Then, one, two, made}
 use Rattle.pv_equations.specs.Equations.{FreeIn, unit_exp}
 use Rattle.pv_terms.specs.declared.names.Named.{Named}

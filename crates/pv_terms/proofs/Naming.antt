@@ -3,12 +3,11 @@ use Rattle.std.proofs.Common.{◌≡◌, ℕ, ◌<◌, List, [], ◌∷◌, ◌+
 use Rattle.std.proofs.lemmas.Option.{slice_get_within}
 use Rattle.pv_graph.specs.declared.node.Op.TheVariants as op
 use Rattle.pv_graph.specs.declared.node.OpSort.{OpSort}
-use Rattle.pv_graph.proofs.Elements.{get_last}
+use Rattle.pv_graph.proofs.Cited.{get_last, begun_extends}
 use Rattle.pv_graph.specs.Nodes.{node_of}
 use Rattle.pv_graph.specs.Walks.{In}
 use Rattle.pv_graph.specs.Graphs.{Graph, IsGraph}
 use Rattle.pv_graph.specs.Calls.{Begun}
-use Rattle.pv_graph.proofs.CallLaws.{begun_extends}
 use Rattle.pv_terms.specs.declared.names.Named.{Named}
 use Rattle.pv_terms.specs.Reads.{named, IsTheta, AreNames, Within}
 use Rattle.pv_terms.specs.Terms.{IsOfSort, IsUnnamed, StayNames}

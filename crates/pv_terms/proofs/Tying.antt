@@ -7,8 +7,7 @@ use Rattle.pv_graph.specs.Forms.{Form, form}
 use Rattle.pv_graph.specs.Nodes.{node_of}
 use Rattle.pv_graph.specs.Walks.{In}
 use Rattle.pv_graph.specs.Graphs.{form_at}
-use Rattle.pv_graph.proofs.NodeLaws.{form_there}
-use Rattle.pv_graph.proofs.Bisimulations.{Matched, Bisimulates, bisimulates_unfolds}
+use Rattle.pv_graph.proofs.Cited.{form_there, Matched, Bisimulates, bisimulates_unfolds}
 use Rattle.pv_equations.specs.Exp.{Exp, Exps, Name, Over, NoExp, Then, listed}
 use Rattle.pv_equations.specs.Flow.{Flow}
 use Rattle.pv_equations.specs.Equations.{Values, form_of}

@@ -5,7 +5,8 @@ use Rattle.std.specs.Global.{Vec}
 use Rattle.std.proofs.lemmas.List.{append_cancel_left, append-nil, take-append-drop}
 use Rattle.std.specs.List.{Contains}
 use Rattle.pv_base.specs.Stored.{Stored, AreBytes}
-use Rattle.pv_base.specs.Outside.{FetchGives, more, more_more}
+use Rattle.pv_base.specs.Outside.{FetchGives, more}
+use Rattle.pv_base.proofs.Cited.{more_more}
 use Rattle.pv_base.specs.declared.outside.Asked.{Asked}
 use Rattle.pv_base.specs.declared.outside.Asked.TheVariants.{Fetch}
 use Rattle.pv_base.specs.declared.outside.FileFault.{FileFault}
@@ -23,13 +24,12 @@ use Rattle.pv_report.specs.Verdicts.{IsVerdict}
 use Rattle.pv_class.specs.declared.file.Method.{Method}
 use Rattle.pv_class.specs.declared.file.ClassFile.{ClassFile}
 use Rattle.pv_class.specs.ClassFiles.{IsClass}
-use Rattle.pv_class.proofs.CodeBytes.{HasBytes, class_bytes}
+use Rattle.pv_class.proofs.Cited.{HasBytes, class_bytes, memory_no_fault}
 use Rattle.pv_class.specs.declared.fault.ClassFault.{ClassFault}
 use Rattle.pv_class.specs.declared.fault.ClassFault.TheVariants as fault
 use Rattle.pv_class.specs.declared.fault.PoolWord.{PoolWord}
 use Rattle.pv_class.specs.declared.fault.PoolWord.TheVariants as pool
 use Rattle.pv_class.specs.ClassFaults.{IsBad}
-use Rattle.pv_class.proofs.ClassLaws.{memory_no_fault}
 use Rattle.pv_report.specs.Lines.{bad_class, fault_text, pool_word, word_at, line_of, line_text, side_word}
 use Rattle.pv_report.specs.Report.{IsReport, Judged}
 use Rattle.pv_report.specs.Judging.{JudgesFetched}
@@ -37,8 +37,7 @@ use Rattle.pv_top.specs.Statuses.{status_of}
 use Rattle.pv_top.specs.Run.{Puts, Says, SaidOf, Answered, IsThere, AskedFor}
 use Rattle.pv_top.specs.Promise.{Holds, IsLineOf, EndsWith, HaveOneMeaning, EachEquivalent}
 use Rattle.pv_top.specs.Fetching.{HoldsFetched, Asks, ReadFailed}
-use Rattle.pv_report.proofs.Places.{all_at, by_index}
-use Rattle.pv_report.proofs.SameMeanings.{same_meaning}
+use Rattle.pv_report.proofs.Cited.{all_at, by_index, same_meaning}
 use Rattle.pv_top.proofs.WholeLines.{IsWhole, no_line_of_nothing, line_of_front, first_or_later}
 use Rattle.pv_top.proofs.Decimals.{whole_decimal}
 use Rattle.pv_top.proofs.SaidLines.{tested, whole_append, whole_side, digit_last, line_of_method, only_equivalent}

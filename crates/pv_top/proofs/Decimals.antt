@@ -24,16 +24,16 @@ pub whole_decimal : (n : ℕ) → IsWhole (decimal n)
 unfolding digits
 whole_decimal n = digits_whole 64 n [] tt
 
-cond_behind : (b : Bool) (x y u v more : List ℕ) → u ≡ x ++ more → v ≡ y ++ more → cond b u v ≡ cond b x y ++ more
-cond_behind true x y u v more p q = p
-cond_behind false x y u v more p q = q
+cond_after : (b : Bool) (x y u v more : List ℕ) → u ≡ x ++ more → v ≡ y ++ more → cond b u v ≡ cond b x y ++ more
+cond_after true x y u v more p q = p
+cond_after false x y u v more p q = q
 
 -- digits in front of some are those in front of none
-digits_behind : (k n : ℕ) (acc more : List ℕ) → digits_onto k 10 false n (acc ++ more) ≡ digits_onto k 10 false n acc ++ more
-digits_behind zero n acc more = refl
-digits_behind (suc k) n acc more =
+digits_after : (k n : ℕ) (acc more : List ℕ) → digits_onto k 10 false n (acc ++ more) ≡ digits_onto k 10 false n acc ++ more
+digits_after zero n acc more = refl
+digits_after (suc k) n acc more =
     let g = digit_glyph false (n % 10) in
-    cond_behind (nat_eq (n / 10) 0) (g ∷ acc) (digits_onto k 10 false (n / 10) (g ∷ acc)) (g ∷ (acc ++ more)) (digits_onto k 10 false (n / 10) (g ∷ (acc ++ more))) more refl (digits_behind k (n / 10) (g ∷ acc) more)
+    cond_after (nat_eq (n / 10) 0) (g ∷ acc) (digits_onto k 10 false (n / 10) (g ∷ acc)) (g ∷ (acc ++ more)) (digits_onto k 10 false (n / 10) (g ∷ (acc ++ more))) more refl (digits_after k (n / 10) (g ∷ acc) more)
 
 digit : (d : ℕ) → d < 10 → digit_glyph false d ≤ 57
 digit d lt = let test : nat_lt d 10 ≡ true = lt-ltb d 10 lt in let e : digit_glyph false d ≡ 48 + d = rw test refl in omega arith
@@ -43,5 +43,5 @@ pub last_digit : (n : ℕ) → (front : List ℕ) × (d : ℕ) × (decimal n ≡
 unfolding digits
 last_digit n =
     let g = digit_glyph false (n % 10) in
-    let more = digits_behind 63 (n / 10) [] (g ∷ []) in
-    (cond (nat_eq (n / 10) 0) [] (digits_onto 63 10 false (n / 10) []), g, cond_behind (nat_eq (n / 10) 0) [] (digits_onto 63 10 false (n / 10) []) (g ∷ []) (digits_onto 63 10 false (n / 10) (g ∷ [])) (g ∷ []) refl more, digit (n % 10) (mod-lt n (omega arith)))
+    let more = digits_after 63 (n / 10) [] (g ∷ []) in
+    (cond (nat_eq (n / 10) 0) [] (digits_onto 63 10 false (n / 10) []), g, cond_after (nat_eq (n / 10) 0) [] (digits_onto 63 10 false (n / 10) []) (g ∷ []) (digits_onto 63 10 false (n / 10) (g ∷ [])) (g ∷ []) refl more, digit (n % 10) (mod-lt n (omega arith)))

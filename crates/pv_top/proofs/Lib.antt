@@ -3,3 +3,4 @@ pub mod Decimals
 pub mod SaidLines
 pub mod Commands
 pub mod Answering
+pub mod Cited

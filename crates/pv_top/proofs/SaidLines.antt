@@ -20,7 +20,7 @@ use Rattle.pv_report.specs.Report.{lines_of}
 use Rattle.pv_top.specs.Promise.{IsLineOf, EndsWith}
 use Rattle.pv_top.proofs.WholeLines.{IsWhole, no_line_of_nothing, first_or_later}
 use Rattle.pv_top.proofs.Decimals.{last_digit, whole_decimal}
-use Rattle.pv_report.proofs.Naming.{lacks_append, shown_lacks}
+use Rattle.pv_report.proofs.Cited.{lacks_append, shown_lacks}
 
 pub whole_append : (a b : List ℕ) → IsWhole a → IsWhole b → IsWhole (a ++ b)
 whole_append = lacks_append 10

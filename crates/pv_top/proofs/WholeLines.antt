@@ -3,7 +3,7 @@ use Rattle.std.proofs.Common.{◌≡◌, ◌⊎◌, ℕ, List, [], ◌∷◌, �
 use Rattle.std.specs.List.{AllByRecursion}
 use Rattle.pv_report.specs.Lines.{line_text}
 use Rattle.pv_top.specs.Promise.{EndsLine, IsLineOf}
-use Rattle.pv_report.proofs.Naming.{one_front}
+use Rattle.pv_report.proofs.Cited.{one_front}
 
 -- no line feed is in it
 abbrev pub IsWhole : List ℕ → Type 0
@@ -22,13 +22,13 @@ line_of_front text taken rest line e l = record {
 -- text that ends a line, in front of something, begins with the first line or is empty
 past_first : (line before rest more : List ℕ) → IsWhole line → EndsLine before → line ++ 10 ∷ rest ≡ before ++ more → (before ≡ []) ⊎ ((b : List ℕ) × EndsLine b × (rest ≡ b ++ more))
 past_first line before rest more whole (inl e) same = inl e
-past_first line before rest more whole (inr e) same = inr (behind line e.0 rest more whole (same ∙ ap (λ (t : List ℕ). t ++ more) e.1 ∙ append_assoc e.0 (10 ∷ []) more))
+past_first line before rest more whole (inr e) same = inr (later line e.0 rest more whole (same ∙ ap (λ (t : List ℕ). t ++ more) e.1 ∙ append_assoc e.0 (10 ∷ []) more))
   where
-    behind : (line front rest more : List ℕ) → IsWhole line → line ++ 10 ∷ rest ≡ front ++ 10 ∷ more → (b : List ℕ) × EndsLine b × (rest ≡ b ++ more)
-    behind [] [] rest more whole same = ([], inl refl, cc same)
-    behind [] (c ∷ front) rest more whole same = (front ++ 10 ∷ [], inr (front, refl), (let t : rest ≡ front ++ 10 ∷ more = cc same in t ∙ sym (append_assoc front (10 ∷ []) more)))
-    behind (c ∷ line) [] rest more whole same = absurd (whole.0 (cc same))
-    behind (c ∷ line) (d ∷ front) rest more whole same = behind line front rest more whole.1 (cc same)
+    later : (line front rest more : List ℕ) → IsWhole line → line ++ 10 ∷ rest ≡ front ++ 10 ∷ more → (b : List ℕ) × EndsLine b × (rest ≡ b ++ more)
+    later [] [] rest more whole same = ([], inl refl, cc same)
+    later [] (c ∷ front) rest more whole same = (front ++ 10 ∷ [], inr (front, refl), (let t : rest ≡ front ++ 10 ∷ more = cc same in t ∙ sym (append_assoc front (10 ∷ []) more)))
+    later (c ∷ line) [] rest more whole same = absurd (whole.0 (cc same))
+    later (c ∷ line) (d ∷ front) rest more whole same = later line front rest more whole.1 (cc same)
 
 no_line : (line after before : List ℕ) → [] ≡ before ++ (line ++ 10 ∷ after) → ⊥
 no_line [] after [] e = cc e

@@ -2,7 +2,7 @@ use Rattle.std.proofs.Common.{rules, refl}
 use Rattle.pv_base.specs.Outside.{Rose}
 use Rattle.pv_top.specs.Words.{IsValidate, texts}
 use Rattle.pv_top.specs.declared.status.Status.TheVariants as status
-use Rattle.pv_top.proofs.Answering.{each_equivalent}
+use Rattle.pv_top.proofs.Cited.{each_equivalent}
 use Rattle.punthizha.proofs.run_words.Goals as goal
 
 pub returns-in_default-clause-equivalent : goal.returns-in_default-clause-equivalent

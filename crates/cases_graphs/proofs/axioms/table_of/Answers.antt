@@ -1,7 +1,7 @@
 use Rattle.std.proofs.Common.{sym, subst}
 use Rattle.std.specs.List.{AllByRecursion}
 use Rattle.pv_pattern.specs.Binding.{BindsItsNames}
-use Rattle.pv_pattern.proofs.Answered.{if_ok_weaker}
+use Rattle.pv_pattern.proofs.Cited.{if_ok_weaker}
 use Rattle.cases_graphs.proofs.axioms.table_of.Goals as goal
 
 pub returns-in-301-to-399 : goal.returns-in-301-to-399

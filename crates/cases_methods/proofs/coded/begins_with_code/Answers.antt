@@ -1,5 +1,5 @@
 use Rattle.std.proofs.Common.{◌<◌, zero, length, rules}
-use Rattle.pv_report.proofs.ReadClasses.{code_there}
+use Rattle.pv_report.proofs.Cited.{code_there}
 use Rattle.cases_methods.proofs.coded.begins_with_code.Goals as goal
 
 pub returns-then-not-is_empty : goal.returns-then-not-is_empty

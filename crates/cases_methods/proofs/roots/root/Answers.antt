@@ -1,6 +1,6 @@
 use Rattle.std.proofs.Common.{sym, subst}
 use Rattle.pv_graph.specs.Graphs.{IsWellMade}
-use Rattle.pv_graph.proofs.CallLaws.{empty_made}
+use Rattle.pv_graph.proofs.Cited.{empty_made}
 use Rattle.cases_methods.proofs.roots.root.Goals as goal
 
 pub convert-requires-clause-made : goal.convert-requires-clause-made

@@ -2,7 +2,7 @@ use Rattle.std.proofs.Common.{◌∙◌, ◌++◌, ◌∷◌, [], ℕ, List, tak
 use Rattle.std.specs.List.{Contains}
 use Rattle.std.proofs.lemmas.List.{take_more}
 use Rattle.pv_graph.specs.Walks.{In}
-use Rattle.pv_graph.proofs.Reaching.{in_at, in_cases}
+use Rattle.pv_graph.proofs.Cited.{in_at, in_cases}
 use Rattle.pv_alike.proofs.bottom_up.missing_kid.Goals as goal
 
 pub returns-then-not-has : goal.returns-then-not-has

@@ -1,5 +1,5 @@
 use Rattle.std.proofs.Common.{◌∷◌, [], sym, subst, arith}
-use Rattle.pv_graph.proofs.NodeLaws.{kid_within}
+use Rattle.pv_graph.proofs.Cited.{kid_within}
 use Rattle.pv_alike.specs.BottomUp.{Settles}
 use Rattle.pv_alike.proofs.Settled.{Lists, settles_there, settles_waits}
 use Rattle.pv_alike.proofs.bottom_up.settle.Goals as goal

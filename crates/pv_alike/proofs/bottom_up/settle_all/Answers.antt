@@ -1,6 +1,6 @@
 use Rattle.std.proofs.Common.{◌∷◌, [], ℕ, List, take, get_or, sym, subst}
 use Rattle.std.proofs.lemmas.List.{take_more}
-use Rattle.pv_graph.proofs.Reaching.{in_at}
+use Rattle.pv_graph.proofs.Cited.{in_at}
 use Rattle.pv_alike.specs.BottomUp.{Settles}
 use Rattle.pv_alike.proofs.Settled.{settles_then}
 use Rattle.pv_alike.proofs.bottom_up.settle_all.Goals as goal

@@ -1,5 +1,5 @@
 use Rattle.std.proofs.Common.{get_or}
-use Rattle.pv_graph.proofs.Reaching.{in_at}
+use Rattle.pv_graph.proofs.Cited.{in_at}
 use Rattle.pv_alike.proofs.numbering.numbers_of.Goals as goal
 
 pub bounds-numbers-k : goal.bounds-numbers-k

@@ -1,4 +1,4 @@
-use Rattle.pv_steps.proofs.Laws.{accepted_same, accepted_least}
+use Rattle.pv_steps.proofs.Cited.{accepted_same, accepted_least}
 use Rattle.pv_axioms.specs.Entries.{Instance}
 use Rattle.pv_axioms.proofs.Sound.{sound}
 use Rattle.pv_axioms.proofs.laws.law_accepted.Goals as goal

@@ -1,4 +1,4 @@
-use Rattle.pv_steps.proofs.Laws.{accepted_not_rejected, rejected_once}
+use Rattle.pv_steps.proofs.Cited.{accepted_not_rejected, rejected_once}
 use Rattle.pv_axioms.specs.Entries.{Instance}
 use Rattle.pv_axioms.proofs.laws.law_rejected.Goals as goal
 

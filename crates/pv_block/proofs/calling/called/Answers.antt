@@ -6,7 +6,7 @@ use Rattle.pv_graph.specs.declared.node.Op.TheVariants as op
 use Rattle.pv_graph.specs.declared.node.OpSort.TheVariants.{T, H}
 use Rattle.pv_graph.specs.Ops.{HasSort}
 use Rattle.pv_terms.specs.Terms.{ReadsOver, HasItsSort}
-use Rattle.pv_terms.proofs.Growing.{grows_then}
+use Rattle.pv_terms.proofs.Cited.{grows_then}
 use Rattle.pv_block.specs.declared.held.Cell.{Cell}
 use Rattle.pv_block.specs.Sorted.{op_sort, IsSorted}
 use Rattle.pv_block.specs.Acting.{kids_of, EndsCall, Calls}

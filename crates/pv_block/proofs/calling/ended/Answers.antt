@@ -4,7 +4,7 @@ use Rattle.pv_graph.specs.declared.node.Op.TheVariants as op
 use Rattle.pv_graph.specs.declared.node.OpSort.TheVariants.{T, H}
 use Rattle.pv_graph.specs.Ops.{HasSort}
 use Rattle.pv_terms.specs.Terms.{ReadsOver}
-use Rattle.pv_terms.proofs.Growing.{grows_then, has_sort_kept}
+use Rattle.pv_terms.proofs.Cited.{grows_then, has_sort_kept}
 use Rattle.pv_block.proofs.Standing.{stands_over}
 use Rattle.pv_block.proofs.Called.{token_on, over_on}
 use Rattle.pv_block.proofs.calling.ended.Goals as goal

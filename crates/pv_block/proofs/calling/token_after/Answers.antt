@@ -4,7 +4,7 @@ use Rattle.pv_value.specs.declared.name.Sym.{Sym}
 use Rattle.pv_graph.specs.declared.node.Op.TheVariants as op
 use Rattle.pv_graph.specs.declared.node.OpSort.TheVariants.{T}
 use Rattle.pv_graph.specs.Ops.{HasSort}
-use Rattle.pv_terms.proofs.Growing.{grows_then}
+use Rattle.pv_terms.proofs.Cited.{grows_then}
 use Rattle.pv_block.specs.Acting.{StandsForToken}
 use Rattle.pv_block.proofs.Called.{token_stands}
 use Rattle.pv_block.proofs.calling.token_after.Goals as goal

@@ -3,7 +3,7 @@ use Rattle.std.proofs.lemmas.Int.{to_z-of_z}
 use Rattle.pv_block.specs.Acting.{StandsForSum}
 use Rattle.std.proofs.lemmas.Result.{IfOk-weaker}
 use Rattle.pv_graph.specs.declared.node.OpSort.TheVariants.{I}
-use Rattle.pv_terms.proofs.Growing.{grows_then}
+use Rattle.pv_terms.proofs.Cited.{grows_then}
 use Rattle.pv_graph.specs.declared.node.Op.TheVariants as op
 use Rattle.pv_value.specs.declared.operation.ScalarOp.TheVariants.{Iadd}
 use Rattle.pv_block.proofs.Standing.{stands_over}

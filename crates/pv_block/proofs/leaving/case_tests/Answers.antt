@@ -5,7 +5,7 @@ use Rattle.std.proofs.lemmas.List.{take_more}
 use Rattle.pv_runs.specs.Held.{int_part}
 use Rattle.pv_runs.specs.Chains.{ieq}
 use Rattle.pv_block.specs.Standing.{StandsFor}
-use Rattle.pv_terms.proofs.Growing.{grows_then}
+use Rattle.pv_terms.proofs.Cited.{grows_then}
 use Rattle.pv_block.specs.Leaving.{AreTests, IsCaseTest}
 use Rattle.pv_block.proofs.Standing.{grown, stands_on}
 use Rattle.pv_block.proofs.Exits.{tests_on, zip_more, tests_sorted_on, tests_more}

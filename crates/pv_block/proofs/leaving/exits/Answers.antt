@@ -7,7 +7,7 @@ use Rattle.pv_frame.specs.declared.sort.Sort.TheVariants as sort
 use Rattle.pv_frame.specs.Effects.{takes}
 use Rattle.pv_graph.specs.declared.node.OpSort.TheVariants.{I, A, F}
 use Rattle.pv_graph.specs.Ops.{HaveSorts}
-use Rattle.pv_terms.proofs.Growing.{grows_then, grows_same}
+use Rattle.pv_terms.proofs.Cited.{grows_then, grows_same}
 use Rattle.pv_block.specs.declared.ran.Ending.{Ending}
 use Rattle.pv_block.specs.declared.ran.Leaving.{Leaving}
 use Rattle.pv_block.specs.declared.ran.Leaving.TheVariants.{Goes}

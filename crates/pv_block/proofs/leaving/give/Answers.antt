@@ -4,7 +4,7 @@ use Rattle.std.proofs.lemmas.Result.{IfOk-weaker}
 use Rattle.pv_value.specs.declared.descriptor.JType.{JType}
 use Rattle.pv_frame.specs.Effects.{sort_of_type, sorts_of_result}
 use Rattle.pv_graph.specs.Ops.{HaveSorts}
-use Rattle.pv_terms.proofs.Growing.{grows_same}
+use Rattle.pv_terms.proofs.Cited.{grows_same}
 use Rattle.pv_frame.specs.declared.sort.Sort.TheVariants as sort
 use Rattle.pv_block.specs.Sorted.{op_sort}
 use Rattle.pv_block.specs.Ran.{result_sort}

@@ -1,6 +1,6 @@
 use Rattle.std.proofs.Common.{sym, subst, ◌∙◌}
 use Rattle.pv_frame.specs.declared.sort.Sort.TheVariants as sort
-use Rattle.pv_terms.proofs.Growing.{grows_then}
+use Rattle.pv_terms.proofs.Cited.{grows_then}
 use Rattle.pv_block.specs.declared.ran.Ending.{Ending}
 use Rattle.pv_block.specs.Acting.{ActsOn}
 use Rattle.pv_block.specs.Ran.{IsSortedEnding}

@@ -6,7 +6,7 @@ use Rattle.pv_frame.specs.declared.sort.Sort.TheVariants as sort
 use Rattle.pv_frame.specs.declared.action.Action.{Action}
 use Rattle.pv_frame.specs.Effects.{takes}
 use Rattle.pv_graph.specs.Ops.{HaveSorts}
-use Rattle.pv_terms.proofs.Growing.{grows_same}
+use Rattle.pv_terms.proofs.Cited.{grows_same}
 use Rattle.pv_block.specs.declared.held.Cell.{Cell}
 use Rattle.pv_block.specs.declared.ran.Ending.{Ending}
 use Rattle.pv_block.specs.Cells.{sort_in}

@@ -3,7 +3,7 @@ use Rattle.std.proofs.lemmas.Result.{IfOk-weaker}
 use Rattle.pv_graph.specs.declared.node.Op.TheVariants as op
 use Rattle.pv_graph.specs.declared.node.OpSort.TheVariants.{I, A, F}
 use Rattle.pv_equations.specs.Flow.{Of, NoPart, More}
-use Rattle.pv_terms.proofs.Growing.{grows_then}
+use Rattle.pv_terms.proofs.Cited.{grows_then}
 use Rattle.pv_runs.specs.Held.{null_part}
 use Rattle.pv_runs.specs.Chains.{aeq}
 use Rattle.pv_block.specs.declared.ran.Leaving.{Leaving}

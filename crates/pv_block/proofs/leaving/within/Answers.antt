@@ -2,7 +2,7 @@ use Rattle.std.proofs.Common.{◌≡◌, List, [], ◌∷◌, ◌++◌, pos, ref
 use Rattle.pv_graph.specs.declared.node.Op.TheVariants as op
 use Rattle.pv_graph.specs.declared.node.OpSort.TheVariants.{I, A, F}
 use Rattle.pv_equations.specs.Flow.{Of, NoPart}
-use Rattle.pv_terms.proofs.Growing.{grows_then}
+use Rattle.pv_terms.proofs.Cited.{grows_then}
 use Rattle.pv_runs.specs.Held.{null_part, int_part}
 use Rattle.pv_runs.specs.Chains.{aeq, ilt}
 use Rattle.pv_block.specs.declared.ran.Leaving.{Leaving}

@@ -1,7 +1,7 @@
 use Rattle.std.proofs.Common.{refl}
 use Rattle.pv_graph.specs.declared.node.Op.TheVariants as op
 use Rattle.pv_graph.specs.declared.node.OpSort.TheVariants.{T, F}
-use Rattle.pv_terms.proofs.Growing.{grows_then}
+use Rattle.pv_terms.proofs.Cited.{grows_then}
 use Rattle.pv_runs.specs.Held.{unit_part}
 use Rattle.pv_block.specs.Ran.{entry_of}
 use Rattle.pv_block.proofs.Standing.{grown}

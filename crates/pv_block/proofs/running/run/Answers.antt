@@ -3,8 +3,8 @@ use Rattle.std.specs.Prelude.{slice_get}
 use Rattle.std.proofs.lemmas.Option.{slice_get_read, slice_get_past}
 use Rattle.pv_frame.specs.declared.action.Action.{Action}
 use Rattle.pv_frame.specs.Programs.{IsAt}
-use Rattle.pv_frame.proofs.FrameLaws.{some_of, no_some}
-use Rattle.pv_terms.proofs.Growing.{grows_then}
+use Rattle.pv_frame.proofs.Cited.{some_of, no_some}
+use Rattle.pv_terms.proofs.Cited.{grows_then}
 use Rattle.pv_runs.specs.Held.{acted}
 use Rattle.pv_block.specs.declared.held.Held.{Held}
 use Rattle.pv_block.specs.declared.ran.Ran.{Ran}

@@ -2,7 +2,7 @@ use Rattle.std.proofs.Common.{pos}
 use Rattle.std.proofs.lemmas.Result.{IfOk-weaker}
 use Rattle.pv_runs.specs.Held.{int_part}
 use Rattle.pv_block.proofs.Standing.{grown, stands_on}
-use Rattle.pv_terms.proofs.Growing.{grows_then}
+use Rattle.pv_terms.proofs.Cited.{grows_then}
 use Rattle.pv_block.proofs.testing.compare_zero.Goals as goal
 
 pub returns-clause-stands : goal.returns-clause-stands

@@ -1,7 +1,7 @@
 use Rattle.std.proofs.Common.{ℤ, subst, w32, to_z, of_z}
 use Rattle.std.proofs.lemmas.Int.{to_z-of_z}
 use Rattle.std.proofs.lemmas.Result.{IfOk-weaker}
-use Rattle.pv_terms.proofs.Growing.{grows_then}
+use Rattle.pv_terms.proofs.Cited.{grows_then}
 use Rattle.pv_runs.specs.Held.{int_part}
 use Rattle.pv_runs.specs.Chains.{ieq}
 use Rattle.pv_block.specs.Leaving.{Gives}

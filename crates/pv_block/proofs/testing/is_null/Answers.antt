@@ -5,7 +5,7 @@ use Rattle.pv_graph.specs.declared.node.OpSort.TheVariants.{A}
 use Rattle.pv_runs.specs.Held.{null_part}
 use Rattle.pv_runs.specs.Chains.{aeq}
 use Rattle.pv_block.proofs.Nodes.{over_none, makes, gives_with}
-use Rattle.pv_terms.proofs.Growing.{grows_then}
+use Rattle.pv_terms.proofs.Cited.{grows_then}
 use Rattle.pv_block.proofs.testing.is_null.Goals as goal
 
 pub same-requires-clause-second : goal.same-requires-clause-second

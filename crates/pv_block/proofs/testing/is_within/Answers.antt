@@ -5,7 +5,7 @@ use Rattle.pv_graph.specs.declared.node.OpSort.TheVariants.{I, A}
 use Rattle.pv_block.specs.Leaving.{length_part}
 use Rattle.pv_block.proofs.Standing.{grown, stands_on}
 use Rattle.pv_block.proofs.Nodes.{over_one, gives}
-use Rattle.pv_terms.proofs.Growing.{grows_then}
+use Rattle.pv_terms.proofs.Cited.{grows_then}
 use Rattle.pv_block.proofs.testing.is_within.Goals as goal
 
 pub over-requires-clause-fits : goal.over-requires-clause-fits

@@ -6,7 +6,7 @@ use Rattle.pv_graph.specs.declared.node.Op.TheVariants as op
 use Rattle.pv_graph.specs.declared.node.OpSort.TheVariants.{I, L}
 use Rattle.pv_graph.specs.Ops.{word_sort}
 use Rattle.pv_terms.specs.Terms.{IsOfSort}
-use Rattle.pv_terms.proofs.Growing.{grows_then}
+use Rattle.pv_terms.proofs.Cited.{grows_then}
 use Rattle.pv_runs.specs.Chains.{is_zero}
 use Rattle.pv_equations.specs.Flow.{Of, NoPart}
 use Rattle.pv_runs.specs.Chains.{two_parts}

@@ -1,6 +1,6 @@
 use Rattle.std.proofs.Common.{◌≡◌, ℕ, ◌<◌, List, length, get_or, Some, slice_get, subst, arith}
 use Rattle.std.proofs.lemmas.Option.{slice_get-get_or}
-use Rattle.pv_terms.proofs.Growing.{on_err}
+use Rattle.pv_terms.proofs.Cited.{on_err}
 use Rattle.pv_build.specs.declared.slot.Slot.TheVariants as slot
 use Rattle.pv_build.specs.declared.method.Theta.{Theta}
 use Rattle.pv_build.specs.Closings.{AreTied}

@@ -1,5 +1,5 @@
 use Rattle.std.proofs.Common.{length, Some, refl}
-use Rattle.pv_graph.proofs.Elements.{found}
+use Rattle.pv_graph.proofs.Cited.{found}
 use Rattle.pv_graph.specs.declared.node.Op.TheVariants as op
 use Rattle.pv_graph.specs.declared.node.OpSort.TheVariants.{T}
 use Rattle.pv_decide.specs.declared.tree.Target.TheVariants as target

@@ -7,7 +7,7 @@ use Rattle.pv_graph.specs.Ops.{sort_over}
 use Rattle.pv_equations.specs.Exp.{Over, NoExp, Then, three}
 use Rattle.pv_equations.specs.Equations.{or_else, never_exp}
 use Rattle.pv_terms.specs.Terms.{Grows, IsOfSort}
-use Rattle.pv_terms.proofs.Growing.{grows_then}
+use Rattle.pv_terms.proofs.Cited.{grows_then}
 use Rattle.pv_build.specs.Unfolded.{none_of}
 use Rattle.pv_build.specs.Ends.{default_sort}
 use Rattle.pv_build.proofs.Kept.{sort_kept, reads_kept, gives_kept, folds_kept}

@@ -2,7 +2,7 @@ use Rattle.std.proofs.Common.{◌≡◌, ℕ, ◌+◌, List, [], ◌∷◌, leng
 use Rattle.std.proofs.lemmas.Option.{slice_get-get_or}
 use Rattle.pv_frame.specs.declared.sort.Sort.{Sort}
 use Rattle.pv_frame.specs.declared.sort.Sort.TheVariants as sort
-use Rattle.pv_terms.proofs.Growing.{grows_same, grows_then}
+use Rattle.pv_terms.proofs.Cited.{grows_same, grows_then}
 use Rattle.pv_block.specs.declared.held.Cell.{Cell}
 use Rattle.pv_block.specs.Sorted.{op_sort}
 use Rattle.pv_block.specs.Ran.{IsCellOf}

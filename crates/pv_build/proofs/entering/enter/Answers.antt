@@ -2,7 +2,7 @@ use Rattle.std.proofs.Common.{◌≡◌, ℕ, List, length, Some, None, sym, sub
 use Rattle.pv_frame.specs.declared.sort.Sort.{Sort}
 use Rattle.pv_graph.specs.declared.node.OpSort.TheVariants.{T, H}
 use Rattle.pv_terms.specs.Terms.{Grows}
-use Rattle.pv_terms.proofs.Growing.{grows_then}
+use Rattle.pv_terms.proofs.Cited.{grows_then}
 use Rattle.pv_block.specs.declared.held.Cell.{Cell}
 use Rattle.pv_block.specs.Ran.{IsCellOf}
 use Rattle.pv_build.specs.declared.slot.Part.TheVariants as part

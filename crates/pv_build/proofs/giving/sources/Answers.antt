@@ -1,7 +1,7 @@
 use Rattle.std.proofs.Common.{◌≡◌, ℕ, ◌+◌, List, [], ◌∷◌, length, length-append, Some, slice_get, sym, ap, ◌∙◌, subst}
 use Rattle.pv_decide.specs.declared.tree.TreeNode.{TreeNode}
 use Rattle.pv_decide.specs.declared.tree.TreeNode.TheVariants as node
-use Rattle.pv_terms.proofs.Growing.{grows_by_then}
+use Rattle.pv_terms.proofs.Cited.{grows_by_then}
 use Rattle.pv_build.specs.declared.source.Source.{Source}
 use Rattle.pv_build.specs.Stages.{loops_at, IsBeyond}
 use Rattle.pv_build.specs.Giving.{IsSourceFor}

@@ -5,7 +5,7 @@ use Rattle.pv_graph.specs.declared.node.Op.TheVariants as op
 use Rattle.pv_graph.specs.declared.node.OpSort.TheVariants.{T, H}
 use Rattle.pv_equations.specs.Exp.{Over, NoExp}
 use Rattle.pv_terms.specs.Terms.{Grows}
-use Rattle.pv_terms.proofs.Growing.{grows_then}
+use Rattle.pv_terms.proofs.Cited.{grows_then}
 use Rattle.pv_runs.specs.Entries.{passed_ops}
 use Rattle.pv_block.specs.declared.held.Cell.{Cell}
 use Rattle.pv_build.specs.States.{AreCellsOf, AreOpsOf, StartCellsRead}

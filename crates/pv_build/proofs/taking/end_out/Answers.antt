@@ -2,7 +2,7 @@ use Rattle.pv_graph.specs.declared.node.Op.{Op}
 use Rattle.pv_graph.specs.declared.node.OpSort.TheVariants as sorts
 use Rattle.pv_graph.specs.Graphs.{Graph}
 use Rattle.pv_terms.specs.Terms.{IsFlatOrOut, GrowsBy}
-use Rattle.pv_terms.proofs.Growing.{grows_by_then}
+use Rattle.pv_terms.proofs.Cited.{grows_by_then}
 use Rattle.pv_block.specs.Sorted.{op_sort}
 use Rattle.pv_build.proofs.Outgoing.{node_out, token_node_out, node_later, node_sooner, token_later, cell_value}
 use Rattle.pv_build.proofs.taking.end_out.Goals as goal

@@ -2,7 +2,7 @@ use Rattle.std.proofs.Common.{List, sym, subst}
 use Rattle.pv_graph.specs.declared.node.Op.{Op}
 use Rattle.pv_graph.specs.Graphs.{Graph}
 use Rattle.pv_terms.specs.Terms.{IsFlatOrOut, GrowsBy}
-use Rattle.pv_terms.proofs.Growing.{grows_by_then}
+use Rattle.pv_terms.proofs.Cited.{grows_by_then}
 use Rattle.pv_block.specs.declared.held.Cell.{Cell}
 use Rattle.pv_block.specs.Sorted.{AreSorted}
 use Rattle.pv_build.specs.Outs.{AreCellsOut}

@@ -3,7 +3,7 @@ use Rattle.std.proofs.lemmas.List.{drop_all}
 use Rattle.std.proofs.lemmas.Option.{slice_get-get_or}
 use Rattle.pv_graph.specs.declared.node.OpSort.TheVariants.{I}
 use Rattle.pv_terms.specs.Terms.{IsFlatOrOut}
-use Rattle.pv_terms.proofs.Growing.{grows_by_then}
+use Rattle.pv_terms.proofs.Cited.{grows_by_then}
 use Rattle.pv_build.specs.declared.method.Closed.{Closed}
 use Rattle.pv_build.specs.Stages.{IsBeyond}
 use Rattle.pv_build.specs.Taken.{ReadsValueOut}

@@ -1,5 +1,5 @@
 use Rattle.std.proofs.Common.{◌≡◌, Err, rules, ◌∙◌}
-use Rattle.pv_class.specs.declared.member.Kind.TheVariants as kind
+use Rattle.pv_class.specs.declared.member.MemberKind.TheVariants as kind
 use Rattle.pv_class.specs.Grammars.{give, bind, table}
 use Rattle.pv_class.specs.ClassGrammar.{in_file, member, skipped, field}
 use Rattle.pv_class.proofs.Grammars.{read_then, read_give, fails_first, fails_as, gives_err}

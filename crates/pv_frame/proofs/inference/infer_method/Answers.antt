@@ -3,7 +3,7 @@ use Rattle.std.specs.Prelude.{Err, length}
 use Rattle.std.specs.List.{AllZip, AllByRecursion}
 use Rattle.std.proofs.lemmas.Result.{err_from_is_err_and}
 use Rattle.pv_insn.specs.declared.insn.Placed.{Placed}
-use Rattle.pv_insn.proofs.Formed.{IsFormed, formed}
+use Rattle.pv_insn.proofs.Cited.{IsFormed, formed}
 use Rattle.pv_insn.specs.Codes.{IsCode}
 use Rattle.pv_frame.specs.declared.action.Action.{Action}
 use Rattle.pv_frame.specs.Programs.{is_instance, Does}

@@ -1,5 +1,5 @@
 use Rattle.std.proofs.Common.{refl}
-use Rattle.pv_pattern.proofs.Bound.{tested}
+use Rattle.pv_pattern.proofs.Cited.{tested}
 use Rattle.pv_loopax.specs.Table.{loop_axioms}
 use Rattle.pv_loopax.proofs.laws.law_loop_names.Goals as goal
 

@@ -3,7 +3,7 @@ use Rattle.pv_graph.specs.contracts.node.OpEq.TheImpl.Laws.{laws-law}
 use Rattle.pv_graph.specs.contracts.node.OpPartialEq.TheImpl.{eq-value as op_eq}
 use Rattle.pv_graph.specs.declared.node.Node.{Node}
 use Rattle.pv_graph.specs.Nodes.{node_of}
-use Rattle.pv_graph.proofs.SameNodes.{same_nodes}
+use Rattle.pv_graph.proofs.Cited.{same_nodes}
 use Rattle.pv_pattern.proofs.names.is_same_op.Goals as goal
 
 pub returns : goal.returns

@@ -1,4 +1,4 @@
-use Rattle.pv_graph.proofs.SortSteps.{field_read}
+use Rattle.pv_graph.proofs.Cited.{field_read}
 use Rattle.pv_pattern.proofs.stands.field_type.Goals as goal
 
 pub returns : goal.returns

@@ -1,6 +1,6 @@
 use Rattle.std.proofs.Common.{◌≡◌, true, rules, ◌∙◌}
 use Rattle.pv_graph.specs.declared.node.OpSort.TheVariants.{R}
-use Rattle.pv_terms.proofs.Growing.{sorted_within}
+use Rattle.pv_terms.proofs.Cited.{sorted_within}
 use Rattle.pv_report.proofs.ReadClasses.{code_there}
 use Rattle.pv_report.proofs.SameRoots.{new_made, new_open, root_kept, grown_whole, still_open}
 use Rattle.pv_report.proofs.verdict.least_roots.Goals as goal

@@ -1,6 +1,6 @@
 use Rattle.std.proofs.Common.{ap}
 use Rattle.pv_graph.specs.Graphs.{Graph}
-use Rattle.pv_graph.proofs.CallLaws.{sealed_made}
+use Rattle.pv_graph.proofs.Cited.{sealed_made}
 use Rattle.pv_report.proofs.SameRoots.{answer_kept, sealed_within}
 use Rattle.pv_report.proofs.verdict.sealed_least.Goals as goal
 

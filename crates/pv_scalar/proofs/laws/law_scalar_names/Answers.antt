@@ -1,5 +1,5 @@
 use Rattle.std.proofs.Common.{refl}
-use Rattle.pv_pattern.proofs.Bound.{tested}
+use Rattle.pv_pattern.proofs.Cited.{tested}
 use Rattle.pv_scalar.specs.Table.{scalar_axioms}
 use Rattle.pv_scalar.proofs.laws.law_scalar_names.Goals as goal
 

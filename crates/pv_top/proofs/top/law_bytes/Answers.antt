@@ -1,4 +1,4 @@
-use Rattle.pv_base.proofs.Kept.{are_bytes}
+use Rattle.pv_base.proofs.Cited.{are_bytes}
 use Rattle.pv_top.proofs.top.law_bytes.Goals as goal
 
 pub returns : goal.returns

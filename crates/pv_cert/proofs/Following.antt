@@ -10,10 +10,10 @@ use Rattle.pv_cert.specs.declared.cert.Section.{Section}
 use Rattle.pv_cert.specs.declared.cert.CertFault.{CertFault}
 use Rattle.pv_cert.specs.declared.cert.CertFault.TheVariants as fault
 use Rattle.pv_cert.specs.StepLines.{StepFits}
-use Rattle.pv_cert.specs.Lines.{TitleFits, title_line, step_line, read_title, read_step_line}
-use Rattle.pv_cert.specs.Reading.{end_line, section_lines, SectionFits, Place, between, inside, section_of, next, or_fault, read_lines}
+use Rattle.pv_format.proofs.Cited.{mapped}
+use Rattle.pv_cert.specs.Lines.{title_text, title_line, step_text, step_line, end_line}
+use Rattle.pv_cert.specs.Reading.{section_lines, SectionFits, Place, between, inside, section_of, next, or_fault, read_lines}
 use Rattle.pv_cert.specs.Faults.{Spot, Outside, Within, May, Leads, BadLines}
-use Rattle.pv_cert.proofs.LineLaws.{title_again, title_back, step_line_again, step_line_back, end_is_no_step}
 
 abbrev Lines : Type 0
 Lines = List (List ℕ)
@@ -25,7 +25,7 @@ so_far (inside done title steps) = flat_map section_lines done ++ (title_line ti
 
 abbrev pub PlaceFits : Place → Type 0
 PlaceFits (between done) = AllByRecursion SectionFits done
-PlaceFits (inside done title steps) = AllByRecursion SectionFits done × TitleFits title × AllByRecursion StepFits steps
+PlaceFits (inside done title steps) = AllByRecursion SectionFits done × title_text.fits title × AllByRecursion StepFits steps
 
 abbrev pub spot_of : Place → Spot
 spot_of (between done) = Outside
@@ -43,12 +43,8 @@ map_push f (y ∷ xs) x = ap (λ (r : List _). f y ∷ r) (map_push f xs x)
 
 -- ---- one line
 
-some_is : {A : Type 0} (o : Option A) (a b : A) → o ≡ Some a → o ≡ Some b → a ≡ b
-some_is o a b p q = cc
-
-mapped : {X A : Type 0} (o : Option X) (f : X → A) (a : A) → option_map f o ≡ Some a → (x : X) × (o ≡ Some x) × (f x ≡ a)
-mapped None f a e = absurd (cc)
-mapped (Some x) f a e = (x, refl, cc)
+end_is_no_step : step_text.reads end_line ≡ None
+end_is_no_step = refl
 
 -- what a line that may stand at a place leads to
 pub record Moves (p : Place) (line : List ℕ) (q : Place) : Type 0 where
@@ -70,18 +66,18 @@ ended_moves done title steps line e = record {
     regroup : (front : Lines) (t : List ℕ) (ss : Lines) → front ++ (t ∷ (ss ++ end_line ∷ [])) ≡ (front ++ (t ∷ ss)) ++ end_line ∷ []
     regroup front t ss = sym (append_assoc front (t ∷ ss) (end_line ∷ []))
 
-step_moves : (done : List Section) (title : List ℕ × List ℕ) (steps : List Step) (line : List ℕ) (s : Step) → read_step_line line ≡ Some s → Moves (inside done title steps) line (inside done title (steps ++ s ∷ []))
+step_moves : (done : List Section) (title : List ℕ × List ℕ) (steps : List Step) (line : List ℕ) (s : Step) → step_text.reads line ≡ Some s → Moves (inside done title steps) line (inside done title (steps ++ s ∷ []))
 step_moves done title steps line s e =
-    let b = step_line_back line s e in
+    let b = step_text.back line s e in
     record {
       fits = λ fits. (fits.0, fits.1, all_push StepFits steps s fits.2 b.0);
       lines = ap (λ (r : Lines). flat_map section_lines done ++ (title_line title ∷ r)) (map_push step_line steps s ∙ ap (λ (l : List ℕ). map step_line steps ++ l ∷ []) (sym b.1)) ∙ sym (append_assoc (flat_map section_lines done) (title_line title ∷ map step_line steps) (line ∷ []));
       may = (s, b.0, b.1);
     }
 
-title_moves : (done : List Section) (line : List ℕ) (title : List ℕ × List ℕ) → read_title line ≡ Some title → Moves (between done) line (inside done title [])
+title_moves : (done : List Section) (line : List ℕ) (title : List ℕ × List ℕ) → title_text.reads line ≡ Some title → Moves (between done) line (inside done title [])
 title_moves done line title e =
-    let b = title_back line title e in
+    let b = title_text.back line title e in
     record {
       fits = λ fits. (fits, b.0, tt);
       lines = ap (λ (l : List ℕ). flat_map section_lines done ++ l ∷ []) (sym b.1);
@@ -94,34 +90,34 @@ choose_end false made q o e = inr (refl, e)
 
 pub moves : (p : Place) (line : List ℕ) (q : Place) → next p line ≡ Some q → Moves p line q
 moves (between done) line q e =
-    let m = mapped (read_title line) (λ title. inside done title []) q e in
+    let m = mapped (title_text.reads line) (λ title. inside done title []) q e in
     subst (Moves (between done) line) m.2 (title_moves done line m.0 m.1)
 moves (inside done title steps) line q e =
-    elim (choose_end (bytes_eq line end_line) (between (done ++ section_of title steps ∷ [])) q (option_map (λ s. inside done title (steps ++ s ∷ [])) (read_step_line line)) e) [
+    elim (choose_end (bytes_eq line end_line) (between (done ++ section_of title steps ∷ [])) q (option_map (λ s. inside done title (steps ++ s ∷ [])) (step_text.reads line)) e) [
       | inl is ↦ subst (Moves (inside done title steps) line) is.1 (ended_moves done title steps line ((bytes_eq-Decides line end_line).0 is.0))
       | inr more ↦
-          let m = mapped (read_step_line line) (λ s. inside done title (steps ++ s ∷ [])) q more.1 in
+          let m = mapped (step_text.reads line) (λ s. inside done title (steps ++ s ∷ [])) q more.1 in
           subst (Moves (inside done title steps) line) m.2 (step_moves done title steps line m.0 m.1)
     ]
 
 -- a line that may stand at a place is read there
-title_next : (done : List Section) (title : List ℕ × List ℕ) → TitleFits title → next (between done) (title_line title) ≡ Some (inside done title [])
-title_next done title fits = ap (option_map (λ t. inside done t [])) (title_again title fits)
+title_next : (done : List Section) (title : List ℕ × List ℕ) → title_text.fits title → next (between done) (title_line title) ≡ Some (inside done title [])
+title_next done title fits = ap (option_map (λ t. inside done t [])) (title_text.again title fits)
 
 not_end : (s : Step) → StepFits s → bytes_eq (step_line s) end_line ≡ false
-not_end s fits = bool_is (bytes_eq (step_line s) end_line) (λ is. same_reading (ap read_step_line ((bytes_eq-Decides (step_line s) end_line).0 is)))
+not_end s fits = bool_is (bytes_eq (step_line s) end_line) (λ is. same_reading (ap step_text.reads ((bytes_eq-Decides (step_line s) end_line).0 is)))
   where
     bool_is : (b : Bool) → (b ≡ true → ⊥) → b ≡ false
     bool_is true h = absurd (h refl)
     bool_is false h = refl
 
-    same_reading : read_step_line (step_line s) ≡ read_step_line end_line → ⊥
-    same_reading e = let a = step_line_again s fits in let b = end_is_no_step in absurd (cc)
+    same_reading : step_text.reads (step_line s) ≡ step_text.reads end_line → ⊥
+    same_reading e = let a = step_text.again s fits in let b = end_is_no_step in absurd (cc)
 
 step_next : (done : List Section) (title : List ℕ × List ℕ) (steps : List Step) (s : Step) → StepFits s → next (inside done title steps) (step_line s) ≡ Some (inside done title (steps ++ s ∷ []))
 step_next done title steps s fits =
-    ap (λ b. cond b (Some (between (done ++ section_of title steps ∷ []))) (option_map (λ s. inside done title (steps ++ s ∷ [])) (read_step_line (step_line s)))) (not_end s fits)
-    ∙ ap (option_map (λ s. inside done title (steps ++ s ∷ []))) (step_line_again s fits)
+    ap (λ b. cond b (Some (between (done ++ section_of title steps ∷ []))) (option_map (λ s. inside done title (steps ++ s ∷ [])) (step_text.reads (step_line s)))) (not_end s fits)
+    ∙ ap (option_map (λ s. inside done title (steps ++ s ∷ []))) (step_text.again s fits)
 
 end_next : (done : List Section) (title : List ℕ × List ℕ) (steps : List Step) → next (inside done title steps) end_line ≡ Some (between (done ++ section_of title steps ∷ []))
 end_next done title steps = refl

@@ -4,8 +4,7 @@ use Rattle.pv_steps.specs.declared.step.Step.{Step}
 use Rattle.pv_cert.specs.declared.cert.CertFault.{CertFault}
 use Rattle.pv_cert.specs.declared.cert.CertFault.TheVariants as fault
 use Rattle.pv_cert.specs.StepLines.{StepFits}
-use Rattle.pv_cert.specs.Lines.{TitleFits, title_line, step_line}
-use Rattle.pv_cert.specs.Reading.{end_line}
+use Rattle.pv_cert.specs.Lines.{title_text, title_line, step_line, end_line}
 
 -- outside of a section or within one
 pub data Spot : Type 0 where
@@ -14,7 +13,7 @@ pub data Spot : Type 0 where
 
 -- From one spot a line may lead to another: a title into a section, an end out of it, and a step within it.
 abbrev pub May : Spot → List ℕ → Spot → Type 0
-May Outside line Within = (title : List ℕ × List ℕ) × TitleFits title × (line ≡ title_line title)
+May Outside line Within = (title : List ℕ × List ℕ) × title_text.fits title × (line ≡ title_line title)
 May Within line Within = (step : Step) × StepFits step × (line ≡ step_line step)
 May Within line Outside = line ≡ end_line
 May Outside line Outside = ⊥

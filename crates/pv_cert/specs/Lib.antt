@@ -1,9 +1,9 @@
 -- what public contracts and laws say
 pub mod Names
-pub mod Formats
-pub mod Tokens
 pub mod Parameters
 pub mod Operations
+pub mod Reasons
+pub mod Sets
 pub mod StepLines
 pub mod Lines
 pub mod Reading
@@ -13,8 +13,8 @@ pub mod BadCerts
 pub mod Answers
 pub mod Laws
 -- the vocabulary of private functions
-pub mod Fronts
-pub mod Seen
 pub mod Places
-pub mod Headers
-pub mod Written
+-- laws, which the formats hold
+pub mod FactLaws
+pub mod ReasonLaws
+pub mod SetLaws

@@ -1,42 +1,37 @@
--- The lines of a certificate, apart from its header. Words are separated by one blank.
-use Rattle.std.specs.Prelude.{ℕ, Bool, ◌==◌, List, [], ◌∷◌, Option, None, codes, if◌then◌else◌}
-use Rattle.std.specs.List.{slice_split}
-use Rattle.std.specs.Str.{bytes_eq}
+-- The lines of a certificate, apart from its header.
+use Rattle.std.specs.Prelude.{ℕ, List, codes, refl}
 use Rattle.pv_steps.specs.declared.step.Step.{Step}
-use Rattle.pv_cert.specs.Formats.{Whole, join, follow, exactly}
-use Rattle.pv_cert.specs.Parameters.{Words, text}
-use Rattle.pv_cert.specs.StepLines.{step_words, read_step}
-
-abbrev pub is_blank : ℕ → Bool
-is_blank b = b == 32
-
-abbrev pub line_of : Words → List ℕ
-line_of words = join 32 words
-
-abbrev pub words_of : List ℕ → Words
-words_of line = slice_split is_blank line
+use Rattle.pv_format.specs.Formats.{Format}
+use Rattle.pv_format.proofs.Cited.{cons_some}
+use Rattle.pv_format.proofs.Cited.{choice_some}
+use Rattle.pv_format.specs.Combinators.{one, follow, exactly, constant, whole_as}
+use Rattle.pv_token.specs.Words.{Sentence, NoFeed}
+use Rattle.pv_token.specs.Lines.{line}
+use Rattle.pv_cert.specs.Parameters.{text}
+use Rattle.pv_cert.specs.StepLines.{step_cases, step_sentence}
 
 -- the line of a step
-abbrev pub step_line : Step → List ℕ
-step_line s = line_of (step_words s)
+abbrev pub step_text : Format NoFeed Step
+step_text = line step_sentence (choice_some step_cases)
 
-abbrev pub read_step_line : List ℕ → Option Step
-read_step_line line = read_step (words_of line)
+abbrev pub step_line : Step → List ℕ
+step_line s = step_text.spells s
 
 -- NAME DESC
-abbrev pub title_words : Whole (List ℕ) (List ℕ × List ℕ)
-title_words = follow text (exactly text)
+abbrev pub two_texts : Sentence (List ℕ × List ℕ)
+two_texts = follow text (exactly text)
 
-abbrev pub TitleFits : List ℕ × List ℕ → Type 0
-TitleFits title = title_words.fits title
+-- method NAME DESC
+abbrev pub title_words : Sentence (List ℕ × List ℕ)
+title_words = whole_as (λ p. p.1) (λ title. (tt, title)) (λ title. refl) (λ p. refl) (follow (one (constant (codes "method") refl)) two_texts)
 
 -- the line that a section begins with
+abbrev pub title_text : Format NoFeed (List ℕ × List ℕ)
+title_text = line title_words (λ title. cons_some (codes "method") (two_texts.spells title))
+
 abbrev pub title_line : List ℕ × List ℕ → List ℕ
-title_line title = line_of (codes "method" ∷ title_words.spells title)
+title_line title = title_text.spells title
 
-abbrev pub read_title_words : Words → Option (List ℕ × List ℕ)
-read_title_words [] = None
-read_title_words (word ∷ words) = if bytes_eq word (codes "method") then title_words.reads words else None
-
-abbrev pub read_title : List ℕ → Option (List ℕ × List ℕ)
-read_title line = read_title_words (words_of line)
+-- the line after the last step of a section
+abbrev pub end_line : List ℕ
+end_line = codes "end"

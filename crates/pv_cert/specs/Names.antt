@@ -1,12 +1,14 @@
 -- The names of operations, and the words of their parameters that are one of a few.
-use Rattle.std.specs.Prelude.{ℕ, List, [], ◌∷◌, Option, codes, find}
-use Rattle.std.specs.Str.{bytes_eq}
+use Rattle.std.specs.Prelude.{◌≡◌, ℕ, List, [], ◌∷◌, Some, codes, refl}
 use Rattle.pv_value.specs.declared.operation.ScalarOp.{ScalarOp}
 use Rattle.pv_value.specs.declared.operation.ScalarOp.TheVariants as scalar
 use Rattle.pv_value.specs.declared.heap.Kind.{Kind}
 use Rattle.pv_value.specs.declared.heap.Kind.TheVariants as kind
 use Rattle.pv_graph.specs.declared.node.OpSort.{OpSort}
 use Rattle.pv_graph.specs.declared.node.OpSort.TheVariants as sort
+use Rattle.pv_format.specs.Reading.{find_named}
+use Rattle.pv_format.specs.Combinators.{named}
+use Rattle.pv_token.specs.Words.{Token, IsWord}
 use Rattle.pv_cert.specs.declared.table.Row.{Row}
 use Rattle.pv_cert.specs.declared.table.Row.TheVariants as row
 use Rattle.pv_cert.specs.declared.table.Head.{Head}
@@ -199,18 +201,33 @@ kinds = kind.Int ∷ kind.Long ∷ kind.Ref ∷ kind.Byte ∷ kind.Char ∷ kind
 abbrev pub rows : List Row
 rows = row.Node ∷ row.Axiom ∷ row.Flip ∷ row.Chain ∷ row.Set ∷ row.Open ∷ row.Close ∷ row.Assume ∷ row.Finish ∷ []
 
--- the member of a list that has this name
-abbrev pub named : {A : Type 0} → (A → List ℕ) → List A → List ℕ → Option A
-named name all word = find (λ a. bytes_eq (name a) word) all
+-- ---- as words
 
-abbrev pub head_of : List ℕ → Option Head
-head_of word = named head_name heads word
+pub head_rows : (h : Head) → (find_named head_name heads (head_name h) ≡ Some h) × IsWord (head_name h)
+head_rows head.Int = (refl, refl)
+head_rows (head.Scalar scalar.Iadd) = (refl, refl)
+head_rows _ = (refl, refl)
 
-abbrev pub sort_of : List ℕ → Option OpSort
-sort_of word = named sort_name sorts word
+abbrev pub head_token : Token Head
+head_token = named head_name heads head_rows
 
-abbrev pub kind_of : List ℕ → Option Kind
-kind_of word = named kind_name kinds word
+pub sort_rows : (s : OpSort) → (find_named sort_name sorts (sort_name s) ≡ Some s) × IsWord (sort_name s)
+sort_rows sort.I = (refl, refl)
+sort_rows _ = (refl, refl)
 
-abbrev pub row_of : List ℕ → Option Row
-row_of word = named row_name rows word
+abbrev pub sort_token : Token OpSort
+sort_token = named sort_name sorts sort_rows
+
+pub kind_rows : (k : Kind) → (find_named kind_name kinds (kind_name k) ≡ Some k) × IsWord (kind_name k)
+kind_rows kind.Int = (refl, refl)
+kind_rows _ = (refl, refl)
+
+abbrev pub kind_token : Token Kind
+kind_token = named kind_name kinds kind_rows
+
+pub row_rows : (r : Row) → (find_named row_name rows (row_name r) ≡ Some r) × IsWord (row_name r)
+row_rows row.Node = (refl, refl)
+row_rows _ = (refl, refl)
+
+abbrev pub row_token : Token Row
+row_token = named row_name rows row_rows

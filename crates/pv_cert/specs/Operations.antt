@@ -1,12 +1,14 @@
 -- The words of an operation: its name and its parameters.
-use Rattle.std.specs.Prelude.{ℕ, List, [], ◌∷◌, Option, Some, None, codes}
-use Rattle.std.specs.Option.{option_and_then}
+use Rattle.std.specs.Prelude.{◌≡◌, ℕ, List, [], ◌∷◌, codes, Option, refl}
 use Rattle.pv_graph.specs.declared.node.Op.{Op}
 use Rattle.pv_graph.specs.declared.node.Op.TheVariants as op
 use Rattle.pv_cert.specs.declared.table.Head.{Head}
 use Rattle.pv_cert.specs.declared.table.Head.TheVariants as head
-use Rattle.pv_cert.specs.Formats.{made}
-use Rattle.pv_cert.specs.Names.{scalar_name, head_of}
+use Rattle.pv_format.specs.Reading.{made}
+use Rattle.pv_format.specs.Combinators.{nothing}
+use Rattle.pv_format.specs.Choices.{Case, choice}
+use Rattle.pv_token.specs.Words.{Phrase}
+use Rattle.pv_cert.specs.Names.{scalar_name, head_name, head_token}
 use Rattle.pv_cert.specs.Parameters.{number, int, long, text, kind, sym, argument}
 
 abbrev pub op_words : Op → List (List ℕ)
@@ -70,47 +72,115 @@ OpFits (op.CallFault s) = sym.fits s
 OpFits (op.CallHeap s) = sym.fits s
 OpFits _ = Unit {0}
 
--- what follows the name of an operation
-abbrev pub params_of : Head → List (List ℕ) → Option (Op × List (List ℕ))
-params_of head.Int words = made op.Int int words
-params_of head.Long words = made op.Long long words
-params_of head.Null words = Some (op.Null, words)
-params_of head.Literal words = made op.Literal text words
-params_of head.Param words = made (λ p. op.Param p.0 p.1) argument words
-params_of head.This words = Some (op.This, words)
-params_of head.Heap0 words = Some (op.Heap0, words)
-params_of head.Unit words = Some (op.Unit, words)
-params_of head.Never words = Some (op.Never, words)
-params_of head.Clear words = Some (op.Clear, words)
-params_of head.FNull words = Some (op.FNull, words)
-params_of head.FArith words = Some (op.FArith, words)
-params_of head.FIndex words = Some (op.FIndex, words)
-params_of head.Zero words = Some (op.Zero, words)
-params_of head.Succ words = Some (op.Succ, words)
-params_of head.Thrown words = Some (op.Thrown, words)
-params_of head.IsClear words = Some (op.IsClear, words)
-params_of head.Both words = Some (op.Both, words)
-params_of head.Phi words = Some (op.Phi, words)
-params_of head.Theta words = made op.Theta number words
-params_of head.Eval words = made op.Eval number words
-params_of head.Pass words = made op.Pass number words
-params_of head.Shift words = made op.Shift number words
-params_of head.Root words = Some (op.Root, words)
-params_of (head.Scalar o) words = Some (op.Scalar o, words)
-params_of head.Aeq words = Some (op.Aeq, words)
-params_of head.GetStatic words = made op.GetStatic sym words
-params_of head.PutStatic words = made op.PutStatic sym words
-params_of head.GetField words = made op.GetField sym words
-params_of head.PutField words = made op.PutField sym words
-params_of head.Load words = made op.Load kind words
-params_of head.Store words = made op.Store kind words
-params_of head.Length words = Some (op.Length, words)
-params_of head.CallEnd words = made op.CallEnd sym words
-params_of head.CallRes words = made op.CallRes sym words
-params_of head.CallFault words = made op.CallFault sym words
-params_of head.CallHeap words = made op.CallHeap sym words
+-- ---- how they are read
 
--- the operation at the front
-abbrev pub take_op : List (List ℕ) → Option (Op × List (List ℕ))
-take_op [] = None
-take_op (word ∷ words) = option_and_then (λ h. params_of h words) (head_of word)
+-- with parameters, and without
+abbrev with : {X : Type 0} → (X → Op) → Phrase X → Case Phrase Op
+with {X} make words = record { Held = X; make = make; words = words }
+
+abbrev alone : Op → Case Phrase Op
+alone o = record { Held = Unit {0}; make = λ x. o; words = nothing }
+
+-- what follows the name of an operation
+abbrev pub op_case : Head → Case Phrase Op
+op_case head.Int = with op.Int int
+op_case head.Long = with op.Long long
+op_case head.Null = alone op.Null
+op_case head.Literal = with op.Literal text
+op_case head.Param = with (λ p. op.Param p.0 p.1) argument
+op_case head.This = alone op.This
+op_case head.Heap0 = alone op.Heap0
+op_case head.Unit = alone op.Unit
+op_case head.Never = alone op.Never
+op_case head.Clear = alone op.Clear
+op_case head.FNull = alone op.FNull
+op_case head.FArith = alone op.FArith
+op_case head.FIndex = alone op.FIndex
+op_case head.Zero = alone op.Zero
+op_case head.Succ = alone op.Succ
+op_case head.Thrown = alone op.Thrown
+op_case head.IsClear = alone op.IsClear
+op_case head.Both = alone op.Both
+op_case head.Phi = alone op.Phi
+op_case head.Theta = with op.Theta number
+op_case head.Eval = with op.Eval number
+op_case head.Pass = with op.Pass number
+op_case head.Shift = with op.Shift number
+op_case head.Root = alone op.Root
+op_case (head.Scalar o) = alone (op.Scalar o)
+op_case head.Aeq = alone op.Aeq
+op_case head.GetStatic = with op.GetStatic sym
+op_case head.PutStatic = with op.PutStatic sym
+op_case head.GetField = with op.GetField sym
+op_case head.PutField = with op.PutField sym
+op_case head.Load = with op.Load kind
+op_case head.Store = with op.Store kind
+op_case head.Length = alone op.Length
+op_case head.CallEnd = with op.CallEnd sym
+op_case head.CallRes = with op.CallRes sym
+op_case head.CallFault = with op.CallFault sym
+op_case head.CallHeap = with op.CallHeap sym
+
+-- each operation has a name
+pub each_op : (o : Op) → (h : Head) × (x : (op_case h).Held) × ((op_case h).make x ≡ o)
+each_op (op.Int x) = (head.Int, x, refl)
+each_op (op.Long x) = (head.Long, x, refl)
+each_op op.Null = (head.Null, tt, refl)
+each_op (op.Literal x) = (head.Literal, x, refl)
+each_op (op.Param j s) = (head.Param, (j, s), refl)
+each_op op.This = (head.This, tt, refl)
+each_op op.Heap0 = (head.Heap0, tt, refl)
+each_op op.Unit = (head.Unit, tt, refl)
+each_op op.Never = (head.Never, tt, refl)
+each_op op.Clear = (head.Clear, tt, refl)
+each_op op.FNull = (head.FNull, tt, refl)
+each_op op.FArith = (head.FArith, tt, refl)
+each_op op.FIndex = (head.FIndex, tt, refl)
+each_op op.Zero = (head.Zero, tt, refl)
+each_op op.Succ = (head.Succ, tt, refl)
+each_op op.Thrown = (head.Thrown, tt, refl)
+each_op op.IsClear = (head.IsClear, tt, refl)
+each_op op.Both = (head.Both, tt, refl)
+each_op op.Phi = (head.Phi, tt, refl)
+each_op (op.Theta x) = (head.Theta, x, refl)
+each_op (op.Eval x) = (head.Eval, x, refl)
+each_op (op.Pass x) = (head.Pass, x, refl)
+each_op (op.Shift x) = (head.Shift, x, refl)
+each_op op.Root = (head.Root, tt, refl)
+each_op (op.Scalar o) = (head.Scalar o, tt, refl)
+each_op op.Aeq = (head.Aeq, tt, refl)
+each_op (op.GetStatic x) = (head.GetStatic, x, refl)
+each_op (op.PutStatic x) = (head.PutStatic, x, refl)
+each_op (op.GetField x) = (head.GetField, x, refl)
+each_op (op.PutField x) = (head.PutField, x, refl)
+each_op (op.Load x) = (head.Load, x, refl)
+each_op (op.Store x) = (head.Store, x, refl)
+each_op op.Length = (head.Length, tt, refl)
+each_op (op.CallEnd x) = (head.CallEnd, x, refl)
+each_op (op.CallRes x) = (head.CallRes, x, refl)
+each_op (op.CallFault x) = (head.CallFault, x, refl)
+each_op (op.CallHeap x) = (head.CallHeap, x, refl)
+
+pub op_spelled : (h : Head) (x : (op_case h).Held) → op_words ((op_case h).make x) ≡ head_name h ∷ (op_case h).words.spells x
+op_spelled head.Int x = refl
+op_spelled _ x = refl
+
+pub op_fits : (h : Head) (x : (op_case h).Held) → OpFits ((op_case h).make x) → (op_case h).words.fits x
+op_fits head.Int x fits = fits
+op_fits _ x fits = fits
+
+pub op_fitted : (h : Head) (x : (op_case h).Held) → (op_case h).words.fits x → OpFits ((op_case h).make x)
+op_fitted head.Int x fits = fits
+op_fitted _ x fits = fits
+
+abbrev pub op_phrase : Phrase Op
+op_phrase = choice head_token op_case OpFits op_words (record { each = each_op; known = λ h. tt; spelled = op_spelled; fitting = op_fits; fitted = op_fitted })
+
+-- the operation whose parameters stand at the front
+abbrev pub params_of : Head → List (List ℕ) → Option (Op × List (List ℕ))
+params_of head.Int words = made op.Int int.takes words
+params_of h words = made (op_case h).make (op_case h).words.takes words
+
+pub params_are : (h : Head) (words : List (List ℕ)) → params_of h words ≡ made (op_case h).make (op_case h).words.takes words
+params_are head.Int words = refl
+params_are _ words = refl

@@ -1,11 +1,15 @@
 -- What is read, without where it lies in memory.
-use Rattle.std.specs.Prelude.{◌≡◌, ℕ, List, Some, None, Result, Ok, Err}
+use Rattle.std.specs.Prelude.{◌≡◌, ℕ, List, [], ◌∷◌, if◌then◌else◌, Option, Some, None, Result, Ok, Err}
+use Rattle.std.specs.Option.{option_map, option_and_then}
+use Rattle.std.specs.Str.{bytes_eq}
+use Rattle.pv_format.specs.Reading.{read_follow, take_one, read_constant}
+use Rattle.pv_format.specs.Combinators.{one, exactly}
+use Rattle.pv_token.specs.Tokens.{digest_token}
 use Rattle.pv_cert.specs.declared.read.Place.{Place as Held}
 use Rattle.pv_cert.specs.declared.read.Place.TheVariants as held
 use Rattle.pv_cert.specs.declared.cert.CertFault.{CertFault}
 use Rattle.pv_cert.specs.declared.cert.CertFault.TheVariants as fault
-use Rattle.pv_cert.specs.declared.cert.Section.{Section}
-use Rattle.pv_cert.specs.declared.cert.Cert.{Cert}
+use Rattle.pv_cert.specs.Certificates.{version_line, first_text, second_text}
 use Rattle.pv_cert.specs.Reading.{Place, between, inside, next}
 
 abbrev pub seen_place : Held → Place
@@ -27,7 +31,19 @@ GoesOn n place line (Ok q) = next (seen_place place) line ≡ Some (seen_place q
 GoesOn n place line (Err fault.Memory) = Unit {0}
 GoesOn n place line (Err e) = (next (seen_place place) line ≡ None) × (e ≡ fault.Step n)
 
--- a certificate of these digests and sections, where the sections were read
-abbrev pub Joins : List ℕ → List ℕ → Result (List Section) CertFault → Result Cert CertFault → Type 0
-Joins first second (Ok sections) result = result ≡ Ok (record { first = first; second = second; sections = sections })
-Joins first second (Err e) result = result ≡ Err e
+-- the digest of a line whose first word is the name of its file
+abbrev pub read_digest_words : List ℕ → List (List ℕ) → Option (List ℕ)
+read_digest_words which words = option_map (λ p. p.1) (read_follow (take_one (read_constant which)) (exactly (one digest_token)).reads words)
+
+-- the digests and the lines after them, where the first digest was read
+abbrev pub with_second : List ℕ → List (List ℕ) → Option ((List ℕ × List ℕ) × List (List ℕ))
+with_second first all = option_map (λ p. ((first, p.0), p.1)) ((one second_text).takes all)
+
+-- .. where the version was read
+abbrev pub take_digests : List (List ℕ) → Option ((List ℕ × List ℕ) × List (List ℕ))
+take_digests all = option_and_then (λ p. with_second p.0 p.1) ((one first_text).takes all)
+
+-- .. of all lines
+abbrev pub after_version : List (List ℕ) → Option ((List ℕ × List ℕ) × List (List ℕ))
+after_version [] = None
+after_version (line ∷ all) = if bytes_eq line version_line then take_digests all else None

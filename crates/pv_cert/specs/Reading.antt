@@ -1,5 +1,5 @@
 -- The sections of a certificate, and how their lines are read one after the other.
-use Rattle.std.specs.Prelude.{ℕ, ◌+◌, List, [], ◌∷◌, ◌++◌, map, Option, Some, None, Result, Ok, Err, codes, if◌then◌else◌}
+use Rattle.std.specs.Prelude.{ℕ, ◌+◌, List, [], ◌∷◌, ◌++◌, map, Option, Some, None, Result, Ok, Err, if◌then◌else◌}
 use Rattle.std.specs.Option.{option_map}
 use Rattle.std.specs.List.{AllByRecursion}
 use Rattle.std.specs.Str.{bytes_eq}
@@ -8,18 +8,14 @@ use Rattle.pv_cert.specs.declared.cert.Section.{Section}
 use Rattle.pv_cert.specs.declared.cert.CertFault.{CertFault}
 use Rattle.pv_cert.specs.declared.cert.CertFault.TheVariants as fault
 use Rattle.pv_cert.specs.StepLines.{StepFits}
-use Rattle.pv_cert.specs.Lines.{TitleFits, title_line, step_line, read_title, read_step_line}
-
--- the line after the last step of a section
-abbrev pub end_line : List ℕ
-end_line = codes "end"
+use Rattle.pv_cert.specs.Lines.{title_text, title_line, step_text, step_line, end_line}
 
 -- a title, a line for each step, and the end
 abbrev pub section_lines : Section → List (List ℕ)
 section_lines s = title_line (s.name, s.desc) ∷ (map step_line s.steps ++ end_line ∷ [])
 
 pub record SectionFits (s : Section) : Type 0 where
-  pub title : TitleFits (s.name, s.desc)
+  pub title : title_text.fits (s.name, s.desc)
   pub steps : AllByRecursion StepFits s.steps
 
 -- where a line stands: after some sections, or in a section after some of its steps
@@ -32,10 +28,10 @@ section_of title steps = record { name = title.0; desc = title.1; steps = steps 
 
 -- the place after a line, if the line may stand there
 abbrev pub next : Place → List ℕ → Option Place
-next (between done) line = option_map (λ title. inside done title []) (read_title line)
+next (between done) line = option_map (λ title. inside done title []) (title_text.reads line)
 next (inside done title steps) line =
     if bytes_eq line end_line then Some (between (done ++ section_of title steps ∷ []))
-    else option_map (λ s. inside done title (steps ++ s ∷ [])) (read_step_line line)
+    else option_map (λ s. inside done title (steps ++ s ∷ [])) (step_text.reads line)
 
 -- the sections that have been read where the text ends
 abbrev pub ended : Place → Result (List Section) CertFault

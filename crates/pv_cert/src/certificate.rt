@@ -1,69 +1,39 @@
 //! A certificate is read from its text.
 
 ghost use Rattle.std.specs.Prelude.{◌≡◌, [], IfOk};
-ghost use Rattle.std.specs.Option.{option_map};
-ghost use Rattle.pv_cert.specs.Answers.{Answers, Tells};
-ghost use Rattle.pv_cert.specs.Certificates.{body_of, read_after_header, read_digest_line, read_digest_words, version_line};
+ghost use Rattle.std.specs.List.{slice_split};
 ghost use Rattle.std.specs.Str.{bytes_eq};
-ghost use Rattle.pv_cert.specs.Headers.{read_first, read_only, read_second, read_version};
-ghost use Rattle.pv_cert.specs.Places.{Gives, GoesOn, Joins, seen_place};
+ghost use Rattle.pv_format.specs.Splits.{is_blank};
+ghost use Rattle.pv_format.specs.Seen.{texts};
+ghost use Rattle.pv_cert.specs.Answers.{Answers, Tells};
+ghost use Rattle.pv_cert.specs.Certificates.{version_line, cert_of, read_after_header};
+ghost use Rattle.pv_cert.specs.Places.{Gives, GoesOn, read_digest_words, with_second, take_digests, after_version, seen_place};
 ghost use Rattle.pv_cert.specs.Reading.{between, ended, read_lines};
-ghost use Rattle.pv_cert.specs.Seen.{texts};
 
 use crate::cert::{Cert, CertFault, Sections};
 use crate::read::{Place, advance};
-use crate::split::{lines_of, words_of};
-use crate::text::read_digest;
+use pv_format::{lines_of, words_of};
+use pv_token::{Digest, take};
 use pv_value::Memory;
 use std::alloc::Global;
 
 // The number of the first line after the header.
 const FIRST_LINE: usize = 4;
 
-// What stands before the last byte, if that is a line feed.
-fn body_of(text: &[u8]) -> Option<&[u8]>
-    ensures { option_map (λ body. body.now) result ≡ body_of text.now }
-{
-    text.strip_suffix(b"\n".as_slice())
-}
-
-// A digest, which is the only word.
-fn read_only<'w>(alloc: Global, words: &'w [&'w [u8]]) -> Result<Option<[u8; 32]>, Memory>
-    ensures { IfOk result (λ r. r ≡ read_only (texts words.now)) }
+// A digest after the name of its file, and nothing after it.
+fn read_digest<'w>(which: &[u8], words: &'w [&'w [u8]]) -> Option<[u8; 32]>
+    ensures { result ≡ read_digest_words which.now (texts words.now) }
 {
     match words {
-        [] => Ok(None),
-        [word] => read_digest(alloc, word),
-        [_, _, ..] => Ok(None),
-    }
-}
-
-// A digest after the name of its file.
-fn read_digest_words<'w>(
-    alloc: Global,
-    which: &[u8],
-    words: &'w [&'w [u8]],
-) -> Result<Option<[u8; 32]>, Memory>
-    ensures { IfOk result (λ r. r ≡ read_digest_words which.now (texts words.now)) }
-{
-    match words {
-        [] => Ok(None),
+        [] => None,
         [name, rest @ ..] => {
-            if *name == which {
-                read_only(alloc, rest)
-            } else {
-                Ok(None)
+            if *name != which {
+                return None;
             }
+            let (digest, rest) = take::<Digest>(rest)?;
+            if rest.is_empty() { Some(digest) } else { None }
         }
     }
-}
-
-// The digest in a line of the header.
-fn read_digest_line(alloc: Global, which: &[u8], line: &[u8]) -> Result<Option<[u8; 32]>, Memory>
-    ensures { IfOk result (λ r. r ≡ read_digest_line which.now line.now) }
-{
-    let words = words_of(alloc, line)?;
-    read_digest_words(alloc, which, &words)
 }
 
 // The place after a line.
@@ -98,15 +68,24 @@ fn read_lines<'w>(alloc: Global, lines: &'w [&'w [u8]]) -> Result<Sections, Cert
     ended(place)
 }
 
-// A certificate of these parts, where its sections were read.
-fn cert_of(
+// The digest in a line of the header.
+fn read_digest_line(alloc: Global, which: &[u8], line: &[u8]) -> Result<Option<[u8; 32]>, Memory>
+    ensures { IfOk result (λ r. r ≡ read_digest_words which.now (slice_split is_blank line.now)) }
+{
+    let words = words_of(alloc, line)?;
+    Ok(read_digest(which, &words))
+}
+
+// The certificate of these digests whose sections have these lines.
+fn of_sections<'w>(
+    alloc: Global,
     first: [u8; 32],
     second: [u8; 32],
-    sections: Result<Sections, CertFault>,
+    lines: &'w [&'w [u8]],
 ) -> Result<Cert, CertFault>
-    ensures { Joins first second sections result }
+    ensures { Gives result (cert_of (first, second) (read_lines 4 (between []) (texts lines.now))) }
 {
-    let sections = sections?;
+    let sections = read_lines(alloc, lines)?;
     Ok(Cert {
         first,
         second,
@@ -116,12 +95,12 @@ fn cert_of(
 
 // The certificate whose lines after the digest of the first file these are.
 fn after_first<'w>(alloc: Global, first: [u8; 32], lines: &'w [&'w [u8]]) -> Result<Cert, CertFault>
-    ensures { Gives result (read_after_header (read_second first (texts lines.now))) }
+    ensures { Gives result (read_after_header (with_second first (texts lines.now))) }
 {
     match lines {
         [] => Err(CertFault::Header),
         [line, rest @ ..] => match read_digest_line(alloc, b"second", line) {
-            Ok(Some(second)) => cert_of(first, second, read_lines(alloc, rest)),
+            Ok(Some(second)) => of_sections(alloc, first, second, rest),
             Ok(None) => Err(CertFault::Header),
             Err(Memory) => Err(CertFault::Memory),
         },
@@ -130,7 +109,7 @@ fn after_first<'w>(alloc: Global, first: [u8; 32], lines: &'w [&'w [u8]]) -> Res
 
 // The certificate whose lines after the version these are.
 fn after_version<'w>(alloc: Global, lines: &'w [&'w [u8]]) -> Result<Cert, CertFault>
-    ensures { Gives result (read_after_header (read_first (texts lines.now))) }
+    ensures { Gives result (read_after_header (take_digests (texts lines.now))) }
 {
     match lines {
         [] => Err(CertFault::Header),
@@ -150,7 +129,7 @@ fn is_version(line: &[u8]) -> bool
 
 // The certificate of these lines.
 fn of_lines<'w>(alloc: Global, lines: &'w [&'w [u8]]) -> Result<Cert, CertFault>
-    ensures { Gives result (read_after_header (read_version (texts lines.now))) }
+    ensures { Gives result (read_after_header (after_version (texts lines.now))) }
 {
     match lines {
         [] => Err(CertFault::Header),
@@ -172,11 +151,9 @@ pub fn read_cert(alloc: Global, bytes: &[u8]) -> Result<Cert, CertFault>
     ensures exact { Answers bytes.now result }
     ensures only { Tells bytes.now result }
 {
-    let Some(body) = body_of(bytes) else {
-        return Err(CertFault::Truncated);
-    };
-    match lines_of(alloc, body) {
-        Ok(lines) => of_lines(alloc, &lines),
+    match lines_of(alloc, bytes) {
+        Ok(Some(lines)) => of_lines(alloc, &lines),
+        Ok(None) => Err(CertFault::Truncated),
         Err(_) => Err(CertFault::Memory),
     }
 }

@@ -1,10 +1,11 @@
 //! The text of certificates.
 //!
-//! This layer stands on `pv_graph`, whose operations it spells, and on `pv_steps`, whose steps it spells. `specs/` says
-//! what a format of words is (`Formats`), how numbers, texts and digests are spelled (`Tokens`), the names of operations
-//! (`Names`), the words of an operation (`Parameters`, `Operations`) and of each row of the table of steps (`StepLines`),
-//! the lines of a section and which line may stand where (`Lines`, `Reading`, `Faults`), the text of a certificate with
-//! how it is read (`Certificates`), and why a text is none (`BadCerts`).
+//! This layer stands on `pv_format` and `pv_token`, of whose formats it makes its own, on `pv_graph`, whose operations it
+//! spells, and on `pv_steps`, whose steps it spells. `specs/` says the names of operations (`Names`), the words of an
+//! operation (`Parameters`, `Operations`), of facts, reasons and sets (`Reasons`, `Sets`) and of each row of the table of
+//! steps (`StepLines`), the lines of a section and which line may stand where (`Lines`, `Reading`, `Faults`), the text of a
+//! certificate with how it is read (`Certificates`), and why a text is none (`BadCerts`). A format holds its laws, so
+//! these stand beside the definitions; what a reader has to believe are the spellings.
 //!
 //! `read_cert` reads a text (`Answers`): its clause `exact` says that what it gives is the certificate of which the text is
 //! the one spelling, or the fault of the text, and `only` that no other answer is right, but for out of memory. `write_cert`
@@ -16,14 +17,11 @@ mod cert;
 mod certificate;
 mod laws;
 mod lists;
-mod number;
 mod operation;
 mod read;
 mod reason;
-mod split;
 mod step;
 mod table;
-mod text;
 mod write;
 mod writing;
 mod writing_steps;

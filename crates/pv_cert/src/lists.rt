@@ -1,105 +1,32 @@
-//! Lists of words: numbers, reasons, and pairs.
+//! Lists of words: numbers, pairs, and nodes with reasons.
 
-ghost use Rattle.std.specs.Prelude.{◌≡◌, ◌<◌, map, length, IfOk, IfSome};
+ghost use Rattle.std.specs.Prelude.{◌≡◌, map, IfOk};
 ghost use Rattle.std.specs.Option.{option_map};
-ghost use Rattle.pv_cert.specs.Formats.{take_one, take_two, each, pairs, read_each, read_pairs};
-ghost use Rattle.pv_cert.specs.Tokens.{u32 as number};
-ghost use Rattle.pv_cert.specs.StepLines.{fact_word, reason_in_set, congruence, set_words};
-ghost use Rattle.pv_cert.specs.Seen.{texts};
+ghost use Rattle.std.specs.List.{slice_split};
+ghost use Rattle.pv_format.specs.Reading.{read_each};
+ghost use Rattle.pv_format.specs.Combinators.{each, each_pair, some};
+ghost use Rattle.pv_format.specs.Seen.{texts};
+ghost use Rattle.pv_token.specs.Tokens.{u32_token};
+ghost use Rattle.pv_cert.specs.Reasons.{fact_token};
+ghost use Rattle.pv_cert.specs.Sets.{congruence};
+ghost use Rattle.pv_cert.specs.SetLaws.{semicolon};
+ghost use Rattle.pv_cert.specs.StepLines.{set_words};
 
-use crate::operation::take_number;
-use crate::reason::{take_fact, take_reason_in_set};
-use crate::split::parts_of;
-use pv_graph::{Kids, NodeId};
-use pv_steps::{Congruence, Congruences, Fact, FactPairs, NodePairs, Reasons};
+use crate::reason::{FactWord, SetReasonWord};
+use pv_graph::Kids;
+use pv_steps::{Congruence, Congruences, FactPairs, NodePairs, Reasons};
+use pv_token::{Number, read_each, read_pairs, take};
 use pv_value::Memory;
-use std::alloc::Global;
+use std::alloc::{AllocError, Global};
 
 /// All of these words, as numbers.
 pub fn read_numbers<'w>(alloc: Global, words: &'w [&'w [u8]]) -> Result<Option<Kids>, Memory>
-    ensures { IfOk result (λ r. r ≡ (each number).reads (texts words.now)) }
+    ensures { IfOk result (λ r. r ≡ (each u32_token).reads (texts words.now)) }
 {
-    let mut list = Vec::new(alloc);
-    let mut at = 0;
-    while at < words.len() {
-        let Some((n, _)) = take_number(&words[at..]) else {
-            return Ok(None);
-        };
-        list.push(n)?;
-        at += 1;
-    }
+    let Some(list) = read_each::<Number>(alloc, words)? else {
+        return Ok(None);
+    };
     Ok(Some(Kids::new(alloc, &list)?))
-}
-
-// All of these words, as reasons in a set.
-fn read_reasons<'w>(alloc: Global, words: &'w [&'w [u8]]) -> Result<Option<Reasons>, Memory>
-    ensures { IfOk result (λ r. r ≡ (each reason_in_set).reads (texts words.now)) }
-{
-    let mut list = Vec::new(alloc);
-    let mut at = 0;
-    while at < words.len() {
-        let Some((reason, _)) = take_reason_in_set(&words[at..]) else {
-            return Ok(None);
-        };
-        list.push(reason)?;
-        at += 1;
-    }
-    Ok(Some(Reasons::from(list)))
-}
-
-// Two numbers at the front, and the words after them.
-fn take_numbers<'w>(words: &'w [&'w [u8]]) -> Option<((NodeId, NodeId), &'w [&'w [u8]])>
-    ensures takes { option_map (λ p. (p.0, texts p.1.now)) result ≡ take_two number.reads (texts words.now) }
-    ensures shorter { IfSome result (λ p. length p.1.now < length words.now) }
-{
-    let (a, words) = take_number(words)?;
-    let (b, words) = take_number(words)?;
-    Some(((a, b), words))
-}
-
-// Two facts at the front, and the words after them.
-fn take_facts<'w>(words: &'w [&'w [u8]]) -> Option<((Fact, Fact), &'w [&'w [u8]])>
-    ensures takes { option_map (λ p. (p.0, texts p.1.now)) result ≡ take_two fact_word.reads (texts words.now) }
-    ensures shorter { IfSome result (λ p. length p.1.now < length words.now) }
-{
-    let (f, words) = take_fact(words)?;
-    let (g, words) = take_fact(words)?;
-    Some(((f, g), words))
-}
-
-// All of these words, as pairs of numbers.
-fn number_pairs<'w>(
-    alloc: Global,
-    words: &'w [&'w [u8]],
-) -> Result<Option<Vec<(NodeId, NodeId)>>, Memory>
-    ensures { IfOk result (λ r. option_map (λ v. v.items) r ≡ read_pairs number.reads (texts words.now)) }
-{
-    let mut list = Vec::new(alloc);
-    let mut at = 0;
-    while at < words.len() {
-        let Some((pair, _)) = take_numbers(&words[at..]) else {
-            return Ok(None);
-        };
-        list.push(pair)?;
-        at += 2;
-    }
-    Ok(Some(list))
-}
-
-// All of these words, as pairs of facts.
-fn fact_pairs<'w>(alloc: Global, words: &'w [&'w [u8]]) -> Result<Option<Vec<(Fact, Fact)>>, Memory>
-    ensures { IfOk result (λ r. option_map (λ v. v.items) r ≡ read_pairs fact_word.reads (texts words.now)) }
-{
-    let mut list = Vec::new(alloc);
-    let mut at = 0;
-    while at < words.len() {
-        let Some((pair, _)) = take_facts(&words[at..]) else {
-            return Ok(None);
-        };
-        list.push(pair)?;
-        at += 2;
-    }
-    Ok(Some(list))
 }
 
 /// All of these words, as at least one pair of nodes.
@@ -107,9 +34,9 @@ pub fn read_node_pairs<'w>(
     alloc: Global,
     words: &'w [&'w [u8]],
 ) -> Result<Option<NodePairs>, Memory>
-    ensures { IfOk result (λ r. r ≡ (pairs number).reads (texts words.now)) }
+    ensures { IfOk result (λ r. r ≡ (some (each_pair u32_token)).reads (texts words.now)) }
 {
-    let Some(list) = number_pairs(alloc, words)? else {
+    let Some(list) = read_pairs::<Number>(alloc, words)? else {
         return Ok(None);
     };
     if list.is_empty() {
@@ -123,9 +50,9 @@ pub fn read_fact_pairs<'w>(
     alloc: Global,
     words: &'w [&'w [u8]],
 ) -> Result<Option<FactPairs>, Memory>
-    ensures { IfOk result (λ r. r ≡ (pairs fact_word).reads (texts words.now)) }
+    ensures { IfOk result (λ r. r ≡ (some (each_pair fact_token)).reads (texts words.now)) }
 {
-    let Some(list) = fact_pairs(alloc, words)? else {
+    let Some(list) = read_pairs::<FactWord>(alloc, words)? else {
         return Ok(None);
     };
     if list.is_empty() {
@@ -138,15 +65,16 @@ pub fn read_fact_pairs<'w>(
 fn read_congruence<'w>(alloc: Global, words: &'w [&'w [u8]]) -> Result<Option<Congruence>, Memory>
     ensures { IfOk result (λ r. r ≡ congruence.reads (texts words.now)) }
 {
-    let Some((left, words)) = take_number(words) else {
+    let Some((left, words)) = take::<Number>(words) else {
         return Ok(None);
     };
-    let Some((right, words)) = take_number(words) else {
+    let Some((right, words)) = take::<Number>(words) else {
         return Ok(None);
     };
-    let Some(reasons) = read_reasons(alloc, words)? else {
+    let Some(list) = read_each::<SetReasonWord>(alloc, words)? else {
         return Ok(None);
     };
+    let reasons = Reasons::from(list);
     Ok(Some(Congruence {
         left,
         right,
@@ -154,12 +82,19 @@ fn read_congruence<'w>(alloc: Global, words: &'w [&'w [u8]]) -> Result<Option<Co
     }))
 }
 
+// The parts of words that stand between semicolons.
+fn parts_of<'w>(alloc: Global, words: &'w [&'w [u8]]) -> Result<Vec<&'w [&'w [u8]]>, AllocError>
+    ensures { IfOk result (λ v. map (λ part. texts part.now) v.items ≡ slice_split semicolon.is (texts words.now)) }
+{
+    words.split(|word| *word == b";".as_slice()).collect(alloc)
+}
+
 // Each part, as two nodes with reasons.
 fn each_congruence<'w>(
     alloc: Global,
     parts: &'w [&'w [&'w [u8]]],
 ) -> Result<Option<Vec<Congruence>>, Memory>
-    ensures { IfOk result (λ r. option_map (λ v. v.items) r ≡ read_each (λ part. congruence.reads (texts part.now)) parts.now) }
+    ensures { IfOk result (λ r. option_map (λ v. v.items) r ≡ read_each congruence.reads (map (λ part. texts part.now) parts.now)) }
 {
     let mut list = Vec::new(alloc);
     for part in parts {
@@ -179,8 +114,11 @@ pub fn read_congruences<'w>(
     ensures { IfOk result (λ r. r ≡ set_words.reads (texts words.now)) }
 {
     let parts = parts_of(alloc, words)?;
-    match each_congruence(alloc, &parts)? {
-        None => Ok(None),
-        Some(list) => Ok(Some(Congruences::from(list))),
+    let Some(list) = each_congruence(alloc, &parts)? else {
+        return Ok(None);
+    };
+    if list.is_empty() {
+        return Ok(None);
     }
+    Ok(Some(Congruences::from(list)))
 }

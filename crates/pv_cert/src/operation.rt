@@ -1,79 +1,16 @@
 //! The words of operations.
 
-ghost use Rattle.std.specs.Prelude.{◌≡◌, ◌<◌, length, IfOk, IfSome};
+ghost use Rattle.std.specs.Prelude.{◌≡◌, IfOk};
 ghost use Rattle.std.specs.Option.{option_map};
-ghost use Rattle.pv_cert.specs.Parameters.{number, int, long, text, sort, kind, sym, argument};
-ghost use Rattle.pv_cert.specs.Operations.{params_of, take_op};
-ghost use Rattle.pv_cert.specs.Seen.{texts};
+ghost use Rattle.pv_format.specs.Seen.{texts};
+ghost use Rattle.pv_cert.specs.Parameters.{text, sym, argument};
+ghost use Rattle.pv_cert.specs.Operations.{params_of, op_phrase};
 
-use crate::number::{read_int, read_long, read_u32};
-use crate::table::{Head, head_of, kind_of, sort_of};
-use crate::text::read_shown;
+use crate::table::{Head, HeadWord, KindWord, SortWord};
 use pv_graph::{Op, OpSort};
-use pv_value::{Kind, Memory, Name, Sym};
+use pv_token::{Int, Long, Number, read_shown, take};
+use pv_value::{Memory, Name, Sym};
 use std::alloc::Global;
-
-/// The number at the front, and the words after it.
-pub fn take_number<'w>(words: &'w [&'w [u8]]) -> Option<(u32, &'w [&'w [u8]])>
-    ensures takes { option_map (λ p. (p.0, texts p.1.now)) result ≡ number.takes (texts words.now) }
-    ensures shorter { IfSome result (λ p. length p.1.now < length words.now) }
-{
-    match words {
-        [] => None,
-        [word, rest @ ..] => match read_u32(word) {
-            None => None,
-            Some(n) => Some((n, rest)),
-        },
-    }
-}
-
-fn take_int<'w>(words: &'w [&'w [u8]]) -> Option<(i32, &'w [&'w [u8]])>
-    ensures { option_map (λ p. (p.0, texts p.1.now)) result ≡ int.takes (texts words.now) }
-{
-    match words {
-        [] => None,
-        [word, rest @ ..] => match read_int(word) {
-            None => None,
-            Some(n) => Some((n, rest)),
-        },
-    }
-}
-
-fn take_long<'w>(words: &'w [&'w [u8]]) -> Option<(i64, &'w [&'w [u8]])>
-    ensures { option_map (λ p. (p.0, texts p.1.now)) result ≡ long.takes (texts words.now) }
-{
-    match words {
-        [] => None,
-        [word, rest @ ..] => match read_long(word) {
-            None => None,
-            Some(n) => Some((n, rest)),
-        },
-    }
-}
-
-fn take_sort<'w>(words: &'w [&'w [u8]]) -> Option<(OpSort, &'w [&'w [u8]])>
-    ensures { option_map (λ p. (p.0, texts p.1.now)) result ≡ sort.takes (texts words.now) }
-{
-    match words {
-        [] => None,
-        [word, rest @ ..] => match sort_of(word) {
-            None => None,
-            Some(s) => Some((s, rest)),
-        },
-    }
-}
-
-fn take_kind<'w>(words: &'w [&'w [u8]]) -> Option<(Kind, &'w [&'w [u8]])>
-    ensures { option_map (λ p. (p.0, texts p.1.now)) result ≡ kind.takes (texts words.now) }
-{
-    match words {
-        [] => None,
-        [word, rest @ ..] => match kind_of(word) {
-            None => None,
-            Some(k) => Some((k, rest)),
-        },
-    }
-}
 
 /// The text at the front, and the words after it.
 pub fn take_text<'w>(
@@ -86,7 +23,7 @@ pub fn take_text<'w>(
         [] => Ok(None),
         [word, rest @ ..] => match read_shown(alloc, word)? {
             None => Ok(None),
-            Some(name) => Ok(Some((name, rest))),
+            Some(bytes) => Ok(Some((Name::new(alloc, &bytes)?, rest))),
         },
     }
 }
@@ -112,8 +49,8 @@ fn take_sym<'w>(
 fn take_argument<'w>(words: &'w [&'w [u8]]) -> Option<((u32, OpSort), &'w [&'w [u8]])>
     ensures { option_map (λ p. (p.0, texts p.1.now)) result ≡ argument.takes (texts words.now) }
 {
-    let (j, words) = take_number(words)?;
-    let (sort, words) = take_sort(words)?;
+    let (j, words) = take::<Number>(words)?;
+    let (sort, words) = take::<SortWord>(words)?;
     Some(((j, sort), words))
 }
 
@@ -126,8 +63,8 @@ fn take_params<'w>(
     ensures { IfOk result (λ r. option_map (λ p. (p.0, texts p.1.now)) r ≡ params_of head (texts words.now)) }
 {
     match head {
-        Head::Int => Ok(take_int(words).map(|(n, rest)| (Op::Int(n), rest))),
-        Head::Long => Ok(take_long(words).map(|(n, rest)| (Op::Long(n), rest))),
+        Head::Int => Ok(take::<Int>(words).map(|(n, rest)| (Op::Int(n), rest))),
+        Head::Long => Ok(take::<Long>(words).map(|(n, rest)| (Op::Long(n), rest))),
         Head::Null => Ok(Some((Op::Null, words))),
         Head::Literal => Ok(take_text(alloc, words)?.map(|(text, rest)| (Op::Literal(text), rest))),
         Head::Param => Ok(take_argument(words).map(|((j, s), rest)| (Op::Param(j, s), rest))),
@@ -145,10 +82,10 @@ fn take_params<'w>(
         Head::IsClear => Ok(Some((Op::IsClear, words))),
         Head::Both => Ok(Some((Op::Both, words))),
         Head::Phi => Ok(Some((Op::Phi, words))),
-        Head::Theta => Ok(take_number(words).map(|(d, rest)| (Op::Theta(d), rest))),
-        Head::Eval => Ok(take_number(words).map(|(d, rest)| (Op::Eval(d), rest))),
-        Head::Pass => Ok(take_number(words).map(|(d, rest)| (Op::Pass(d), rest))),
-        Head::Shift => Ok(take_number(words).map(|(d, rest)| (Op::Shift(d), rest))),
+        Head::Theta => Ok(take::<Number>(words).map(|(d, rest)| (Op::Theta(d), rest))),
+        Head::Eval => Ok(take::<Number>(words).map(|(d, rest)| (Op::Eval(d), rest))),
+        Head::Pass => Ok(take::<Number>(words).map(|(d, rest)| (Op::Pass(d), rest))),
+        Head::Shift => Ok(take::<Number>(words).map(|(d, rest)| (Op::Shift(d), rest))),
         Head::Root => Ok(Some((Op::Root, words))),
         Head::Scalar(op) => Ok(Some((Op::Scalar(op), words))),
         Head::Aeq => Ok(Some((Op::Aeq, words))),
@@ -156,8 +93,8 @@ fn take_params<'w>(
         Head::PutStatic => Ok(take_sym(alloc, words)?.map(|(s, rest)| (Op::PutStatic(s), rest))),
         Head::GetField => Ok(take_sym(alloc, words)?.map(|(s, rest)| (Op::GetField(s), rest))),
         Head::PutField => Ok(take_sym(alloc, words)?.map(|(s, rest)| (Op::PutField(s), rest))),
-        Head::Load => Ok(take_kind(words).map(|(k, rest)| (Op::Load(k), rest))),
-        Head::Store => Ok(take_kind(words).map(|(k, rest)| (Op::Store(k), rest))),
+        Head::Load => Ok(take::<KindWord>(words).map(|(k, rest)| (Op::Load(k), rest))),
+        Head::Store => Ok(take::<KindWord>(words).map(|(k, rest)| (Op::Store(k), rest))),
         Head::Length => Ok(Some((Op::Length, words))),
         Head::CallEnd => Ok(take_sym(alloc, words)?.map(|(s, rest)| (Op::CallEnd(s), rest))),
         Head::CallRes => Ok(take_sym(alloc, words)?.map(|(s, rest)| (Op::CallRes(s), rest))),
@@ -171,13 +108,10 @@ pub fn take_operation<'w>(
     alloc: Global,
     words: &'w [&'w [u8]],
 ) -> Result<Option<(Op, &'w [&'w [u8]])>, Memory>
-    ensures { IfOk result (λ r. option_map (λ p. (p.0, texts p.1.now)) r ≡ take_op (texts words.now)) }
+    ensures { IfOk result (λ r. option_map (λ p. (p.0, texts p.1.now)) r ≡ op_phrase.takes (texts words.now)) }
 {
-    match words {
-        [] => Ok(None),
-        [word, rest @ ..] => match head_of(word) {
-            None => Ok(None),
-            Some(head) => take_params(alloc, head, rest),
-        },
+    match take::<HeadWord>(words) {
+        None => Ok(None),
+        Some((head, rest)) => take_params(alloc, head, rest),
     }
 }

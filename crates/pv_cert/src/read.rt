@@ -2,22 +2,22 @@
 
 ghost use Rattle.std.specs.Prelude.{◌≡◌, IfOk};
 ghost use Rattle.std.specs.Option.{option_map};
-ghost use Rattle.pv_cert.specs.Lines.{title_words, read_title_words, read_title, read_step_line};
+ghost use Rattle.pv_cert.specs.Lines.{two_texts, title_words, title_text, step_text};
 ghost use Rattle.pv_cert.specs.Reading.{next};
 ghost use Rattle.pv_cert.specs.Places.{seen_place};
-ghost use Rattle.pv_cert.specs.Seen.{texts};
+ghost use Rattle.pv_format.specs.Seen.{texts};
 
 use crate::cert::Section;
 use crate::operation::take_text;
-use crate::split::words_of;
 use crate::step::read_step;
+use pv_format::words_of;
 use pv_steps::{Step, Steps};
 use pv_value::{Memory, Name};
 use std::alloc::Global;
 
 // All of these words, as a name and a descriptor.
 fn read_two_texts<'w>(alloc: Global, words: &'w [&'w [u8]]) -> Result<Option<(Name, Name)>, Memory>
-    ensures { IfOk result (λ r. r ≡ title_words.reads (texts words.now)) }
+    ensures { IfOk result (λ r. r ≡ two_texts.reads (texts words.now)) }
 {
     let Some((name, words)) = take_text(alloc, words)? else {
         return Ok(None);
@@ -37,7 +37,7 @@ fn read_title_words<'w>(
     alloc: Global,
     words: &'w [&'w [u8]],
 ) -> Result<Option<(Name, Name)>, Memory>
-    ensures { IfOk result (λ r. r ≡ read_title_words (texts words.now)) }
+    ensures { IfOk result (λ r. r ≡ title_words.reads (texts words.now)) }
 {
     match words {
         [] => Ok(None),
@@ -53,7 +53,7 @@ fn read_title_words<'w>(
 
 // The line that a section begins with.
 fn read_title(alloc: Global, line: &[u8]) -> Result<Option<(Name, Name)>, Memory>
-    ensures { IfOk result (λ r. r ≡ read_title line.now) }
+    ensures { IfOk result (λ r. r ≡ title_text.reads line.now) }
 {
     let words = words_of(alloc, line)?;
     read_title_words(alloc, &words)
@@ -61,7 +61,7 @@ fn read_title(alloc: Global, line: &[u8]) -> Result<Option<(Name, Name)>, Memory
 
 // The line of a step.
 fn read_step_line(alloc: Global, line: &[u8]) -> Result<Option<Step>, Memory>
-    ensures { IfOk result (λ r. r ≡ read_step_line line.now) }
+    ensures { IfOk result (λ r. r ≡ step_text.reads line.now) }
 {
     let words = words_of(alloc, line)?;
     read_step(alloc, &words)

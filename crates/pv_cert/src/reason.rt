@@ -1,86 +1,105 @@
-//! Facts and reasons.
+//! Facts and reasons as words.
 
-ghost use Rattle.std.specs.Prelude.{◌≡◌, ◌<◌, length, IfSome};
-ghost use Rattle.std.specs.Option.{option_map};
-ghost use Rattle.pv_cert.specs.StepLines.{fact_word, fact, reason_word, reason, reason_in_set};
-ghost use Rattle.pv_cert.specs.Formats.{take_one};
-ghost use Rattle.pv_cert.specs.Seen.{texts};
+ghost use Rattle.std.specs.Prelude.{◌≡◌, ◌++◌, OnOk};
+ghost use Rattle.pv_cert.specs.Reasons.{read_reason, spelled_reason};
 
-use crate::number::read_u32;
-use crate::split::cut_at_point;
+use pv_format::cut_at;
 use pv_steps::{Fact, Reason};
+use pv_token::{Number, Token};
+use std::alloc::AllocError;
 
-fn read_fact(word: &[u8]) -> Option<Fact>
-    ensures { result ≡ fact_word.reads word.now }
-{
-    let (step, place) = cut_at_point(word)?;
-    let step = read_u32(step)?;
-    let place = read_u32(place)?;
-    Some(Fact { step, place })
+/// Facts: K.J.
+pub struct FactWord;
+
+impl Token for FactWord {
+    ghost use Rattle.pv_cert.specs.Reasons.{fact_token};
+
+    type Value = Fact;
+
+    ghost token = { fact_token };
+
+    fn read(word: &[u8]) -> Option<Fact> {
+        let (step, place) = cut_at(b'.', word)?;
+        let step = Number::read(step)?;
+        let place = Number::read(place)?;
+        Some(Fact { step, place })
+    }
+
+    fn push(out: &mut Vec<u8>, value: Fact) -> Result<(), AllocError> {
+        Number::push(out, value.step)?;
+        out.extend_from_slice(b".")?;
+        Number::push(out, value.place)
+    }
 }
 
+// The reason that a word spells outside of a set.
 fn read_reason(word: &[u8]) -> Option<Reason>
-    ensures { result ≡ reason_word.reads word.now }
+    ensures { result ≡ read_reason word.now }
 {
     if word == b"=".as_slice() {
         return Some(Reason::Same);
     }
-    match read_fact(word) {
+    match FactWord::read(word) {
         None => None,
         Some(fact) => Some(Reason::By(fact)),
     }
 }
 
-fn read_reason_in_set(word: &[u8]) -> Option<Reason>
-    ensures { result ≡ reason_in_set.reads word.now }
+// Adds a reason at the end.
+fn push_reason(out: &mut Vec<u8>, reason: Reason) -> Result<(), AllocError>
+    ensures { OnOk result (out.new.items ≡ out.old.items ++ spelled_reason reason) }
 {
-    match word {
-        [] => None,
-        [b's', pair @ ..] => match read_u32(pair) {
-            None => None,
-            Some(j) => Some(Reason::Pair(j)),
-        },
-        _ => read_reason(word),
+    match reason {
+        Reason::Same => out.extend_from_slice(b"="),
+        Reason::By(fact) => FactWord::push(out, fact),
+        Reason::Pair(j) => {
+            out.extend_from_slice(b"s")?;
+            Number::push(out, j)
+        }
     }
 }
 
-/// The fact at the front, and the words after it.
-pub fn take_fact<'w>(words: &'w [&'w [u8]]) -> Option<(Fact, &'w [&'w [u8]])>
-    ensures takes { option_map (λ p. (p.0, texts p.1.now)) result ≡ fact.takes (texts words.now) }
-    ensures shorter { IfSome result (λ p. length p.1.now < length words.now) }
-{
-    match words {
-        [] => None,
-        [word, rest @ ..] => match read_fact(word) {
-            None => None,
-            Some(fact) => Some((fact, rest)),
-        },
+/// Reasons: `=` or K.J.
+pub struct ReasonWord;
+
+impl Token for ReasonWord {
+    ghost use Rattle.pv_cert.specs.Sets.{reason_token};
+
+    type Value = Reason;
+
+    ghost token = { reason_token };
+
+    fn read(word: &[u8]) -> Option<Reason> {
+        read_reason(word)
+    }
+
+    fn push(out: &mut Vec<u8>, value: Reason) -> Result<(), AllocError> {
+        push_reason(out, value)
     }
 }
 
-/// The reason at the front, and the words after it.
-pub fn take_reason<'w>(words: &'w [&'w [u8]]) -> Option<(Reason, &'w [&'w [u8]])>
-    ensures { option_map (λ p. (p.0, texts p.1.now)) result ≡ reason.takes (texts words.now) }
-{
-    match words {
-        [] => None,
-        [word, rest @ ..] => match read_reason(word) {
-            None => None,
-            Some(reason) => Some((reason, rest)),
-        },
-    }
-}
+/// Reasons in a set: `=`, K.J or sJ.
+pub struct SetReasonWord;
 
-/// The reason in a set at the front, and the words after it.
-pub fn take_reason_in_set<'w>(words: &'w [&'w [u8]]) -> Option<(Reason, &'w [&'w [u8]])>
-    ensures takes { option_map (λ p. (p.0, texts p.1.now)) result ≡ take_one reason_in_set.reads (texts words.now) }
-    ensures shorter { IfSome result (λ p. length p.1.now < length words.now) }
-{
-    match words {
-        [] => None,
-        [word, rest @ ..] => match read_reason_in_set(word) {
-            None => None,
-            Some(reason) => Some((reason, rest)),
-        },
+impl Token for SetReasonWord {
+    ghost use Rattle.pv_cert.specs.Sets.{set_reason_token};
+
+    type Value = Reason;
+
+    ghost token = { set_reason_token };
+
+    fn read(word: &[u8]) -> Option<Reason> {
+        match word {
+            [] => None,
+            [b's', pair @ ..] => match Number::read(pair) {
+                None => None,
+                Some(j) => Some(Reason::Pair(j)),
+            },
+            _ => read_reason(word),
+        }
+    }
+
+    fn push(out: &mut Vec<u8>, value: Reason) -> Result<(), AllocError> {
+        push_reason(out, value)
     }
 }

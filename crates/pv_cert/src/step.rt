@@ -2,16 +2,19 @@
 
 ghost use Rattle.std.specs.Prelude.{◌≡◌, IfOk};
 ghost use Rattle.pv_cert.specs.declared.table.Row.TheVariants as rows;
-ghost use Rattle.pv_cert.specs.StepLines.{fact, reason, row_words, read_step};
+ghost use Rattle.pv_cert.specs.Reasons.{fact_token};
+ghost use Rattle.pv_cert.specs.Sets.{reason_token};
+ghost use Rattle.pv_cert.specs.StepLines.{row_words, step_sentence};
 ghost use Rattle.std.specs.Option.{option_map};
-ghost use Rattle.pv_cert.specs.Formats.{pair, exactly};
-ghost use Rattle.pv_cert.specs.Seen.{texts};
+ghost use Rattle.pv_format.specs.Combinators.{one, pair, exactly};
+ghost use Rattle.pv_format.specs.Seen.{texts};
 
 use crate::lists::{read_congruences, read_fact_pairs, read_node_pairs, read_numbers};
-use crate::operation::{take_number, take_operation};
-use crate::reason::{take_fact, take_reason};
-use crate::table::{Row, row_of};
+use crate::operation::take_operation;
+use crate::reason::{FactWord, ReasonWord};
+use crate::table::{Row, RowWord};
 use pv_steps::{Fact, Reason, Step};
+use pv_token::{Number, take};
 use pv_value::Memory;
 use std::alloc::Global;
 
@@ -19,7 +22,7 @@ use std::alloc::Global;
 fn read_node<'w>(alloc: Global, words: &'w [&'w [u8]]) -> Result<Option<Step>, Memory>
     ensures { IfOk result (λ r. r ≡ row_words rows.Node (texts words.now)) }
 {
-    let Some((n, words)) = take_number(words) else {
+    let Some((n, words)) = take::<Number>(words) else {
         return Ok(None);
     };
     let Some((op, words)) = take_operation(alloc, words)? else {
@@ -35,13 +38,13 @@ fn read_node<'w>(alloc: Global, words: &'w [&'w [u8]]) -> Result<Option<Step>, M
 fn read_axiom<'w>(alloc: Global, words: &'w [&'w [u8]]) -> Result<Option<Step>, Memory>
     ensures { IfOk result (λ r. r ≡ row_words rows.Axiom (texts words.now)) }
 {
-    let Some((number, words)) = take_number(words) else {
+    let Some((number, words)) = take::<Number>(words) else {
         return Ok(None);
     };
-    let Some((a, words)) = take_number(words) else {
+    let Some((a, words)) = take::<Number>(words) else {
         return Ok(None);
     };
-    let Some((b, words)) = take_number(words) else {
+    let Some((b, words)) = take::<Number>(words) else {
         return Ok(None);
     };
     let Some(nodes) = read_numbers(alloc, words)? else {
@@ -54,9 +57,9 @@ fn read_axiom<'w>(alloc: Global, words: &'w [&'w [u8]]) -> Result<Option<Step>, 
 fn read_flip<'w>(words: &'w [&'w [u8]]) -> Option<Step>
     ensures { result ≡ row_words rows.Flip (texts words.now) }
 {
-    let (a, words) = take_number(words)?;
-    let (b, words) = take_number(words)?;
-    let (fact, words) = take_fact(words)?;
+    let (a, words) = take::<Number>(words)?;
+    let (b, words) = take::<Number>(words)?;
+    let (fact, words) = take::<FactWord>(words)?;
     if words.is_empty() {
         Some(Step::Flip(a, b, fact))
     } else {
@@ -66,25 +69,25 @@ fn read_flip<'w>(words: &'w [&'w [u8]]) -> Option<Step>
 
 // Two facts at the front, and the words after them.
 fn take_facts<'w>(words: &'w [&'w [u8]]) -> Option<((Fact, Fact), &'w [&'w [u8]])>
-    ensures { option_map (λ p. (p.0, texts p.1.now)) result ≡ (pair fact fact).takes (texts words.now) }
+    ensures { option_map (λ p. (p.0, texts p.1.now)) result ≡ (pair (one fact_token) (one fact_token)).takes (texts words.now) }
 {
-    let (f, words) = take_fact(words)?;
-    let (g, words) = take_fact(words)?;
+    let (f, words) = take::<FactWord>(words)?;
+    let (g, words) = take::<FactWord>(words)?;
     Some(((f, g), words))
 }
 
 // Two reasons at the front, and the words after them.
 fn take_reasons<'w>(words: &'w [&'w [u8]]) -> Option<((Reason, Reason), &'w [&'w [u8]])>
-    ensures { option_map (λ p. (p.0, texts p.1.now)) result ≡ (pair reason reason).takes (texts words.now) }
+    ensures { option_map (λ p. (p.0, texts p.1.now)) result ≡ (pair (one reason_token) (one reason_token)).takes (texts words.now) }
 {
-    let (r, words) = take_reason(words)?;
-    let (s, words) = take_reason(words)?;
+    let (r, words) = take::<ReasonWord>(words)?;
+    let (s, words) = take::<ReasonWord>(words)?;
     Some(((r, s), words))
 }
 
 // All of these words, as two facts.
 fn read_two_facts<'w>(words: &'w [&'w [u8]]) -> Option<(Fact, Fact)>
-    ensures { result ≡ (exactly (pair fact fact)).reads (texts words.now) }
+    ensures { result ≡ (exactly (pair (one fact_token) (one fact_token))).reads (texts words.now) }
 {
     let (facts, words) = take_facts(words)?;
     if words.is_empty() { Some(facts) } else { None }
@@ -92,7 +95,7 @@ fn read_two_facts<'w>(words: &'w [&'w [u8]]) -> Option<(Fact, Fact)>
 
 // All of these words, as two pairs of reasons.
 fn read_four_reasons<'w>(words: &'w [&'w [u8]]) -> Option<((Reason, Reason), (Reason, Reason))>
-    ensures { result ≡ (exactly (pair (pair reason reason) (pair reason reason))).reads (texts words.now) }
+    ensures { result ≡ (exactly (pair (pair (one reason_token) (one reason_token)) (pair (one reason_token) (one reason_token)))).reads (texts words.now) }
 {
     let (first, words) = take_reasons(words)?;
     let (second, words) = take_reasons(words)?;
@@ -107,8 +110,8 @@ fn read_four_reasons<'w>(words: &'w [&'w [u8]]) -> Option<((Reason, Reason), (Re
 fn read_chain<'w>(words: &'w [&'w [u8]]) -> Option<Step>
     ensures { result ≡ row_words rows.Chain (texts words.now) }
 {
-    let (a, words) = take_number(words)?;
-    let (b, words) = take_number(words)?;
+    let (a, words) = take::<Number>(words)?;
+    let (b, words) = take::<Number>(words)?;
     let (f, g) = read_two_facts(words)?;
     Some(Step::Chain(a, b, f, g))
 }
@@ -127,7 +130,7 @@ fn read_set<'w>(alloc: Global, words: &'w [&'w [u8]]) -> Result<Option<Step>, Me
 fn read_open<'w>(alloc: Global, words: &'w [&'w [u8]]) -> Result<Option<Step>, Memory>
     ensures { IfOk result (λ r. r ≡ row_words rows.Open (texts words.now)) }
 {
-    let Some((depth, words)) = take_number(words) else {
+    let Some((depth, words)) = take::<Number>(words) else {
         return Ok(None);
     };
     let Some(pairs) = read_node_pairs(alloc, words)? else {
@@ -140,7 +143,7 @@ fn read_open<'w>(alloc: Global, words: &'w [&'w [u8]]) -> Result<Option<Step>, M
 fn read_close<'w>(alloc: Global, words: &'w [&'w [u8]]) -> Result<Option<Step>, Memory>
     ensures { IfOk result (λ r. r ≡ row_words rows.Close (texts words.now)) }
 {
-    let Some((depth, words)) = take_number(words) else {
+    let Some((depth, words)) = take::<Number>(words) else {
         return Ok(None);
     };
     let Some(facts) = read_fact_pairs(alloc, words)? else {
@@ -153,7 +156,7 @@ fn read_close<'w>(alloc: Global, words: &'w [&'w [u8]]) -> Result<Option<Step>, 
 fn read_assume<'w>(alloc: Global, words: &'w [&'w [u8]]) -> Result<Option<Step>, Memory>
     ensures { IfOk result (λ r. r ≡ row_words rows.Assume (texts words.now)) }
 {
-    let Some((root, words)) = take_number(words) else {
+    let Some((root, words)) = take::<Number>(words) else {
         return Ok(None);
     };
     let Some(nodes) = read_numbers(alloc, words)? else {
@@ -166,8 +169,8 @@ fn read_assume<'w>(alloc: Global, words: &'w [&'w [u8]]) -> Result<Option<Step>,
 fn read_finish<'w>(words: &'w [&'w [u8]]) -> Option<Step>
     ensures { result ≡ row_words rows.Finish (texts words.now) }
 {
-    let (p, words) = take_number(words)?;
-    let (q, words) = take_number(words)?;
+    let (p, words) = take::<Number>(words)?;
+    let (q, words) = take::<Number>(words)?;
     let ((token, fault), (value, heap)) = read_four_reasons(words)?;
     Some(Step::Finish(p, q, token, fault, value, heap))
 }
@@ -190,13 +193,10 @@ fn read_row<'w>(alloc: Global, row: Row, words: &'w [&'w [u8]]) -> Result<Option
 
 /// The step with these words, if there is one.
 pub fn read_step<'w>(alloc: Global, words: &'w [&'w [u8]]) -> Result<Option<Step>, Memory>
-    ensures { IfOk result (λ r. r ≡ read_step (texts words.now)) }
+    ensures { IfOk result (λ r. r ≡ step_sentence.reads (texts words.now)) }
 {
-    match words {
-        [] => Ok(None),
-        [word, rest @ ..] => match row_of(word) {
-            None => Ok(None),
-            Some(row) => read_row(alloc, row, rest),
-        },
+    match take::<RowWord>(words) {
+        None => Ok(None),
+        Some((row, rest)) => read_row(alloc, row, rest),
     }
 }

@@ -1,10 +1,12 @@
 //! The words of closed sets: the names of operations, the letters of sorts and the kinds of elements.
 
 ghost use Rattle.std.specs.Prelude.{◌≡◌};
-ghost use Rattle.pv_cert.specs.Names.{scalar_name, head_name, sort_name, kind_name, row_name, head_of, sort_of, kind_of, row_of};
+ghost use Rattle.pv_cert.specs.Names.{scalar_name, head_name, sort_name, kind_name, row_name};
 
 use pv_graph::OpSort;
+use pv_token::Token;
 use pv_value::{Kind, ScalarOp};
+use std::alloc::AllocError;
 
 /// An operation without its parameters.
 #[derive(Clone, Copy, Debug, PartialEq, Eq)]
@@ -206,8 +208,8 @@ fn scalar_name(op: ScalarOp) -> &'static [u8]
     }
 }
 
-/// The name of an operation.
-pub fn head_name(head: Head) -> &'static [u8]
+// The name of an operation.
+fn head_name(head: Head) -> &'static [u8]
     ensures { result.now ≡ head_name head }
 {
     match head {
@@ -251,8 +253,8 @@ pub fn head_name(head: Head) -> &'static [u8]
     }
 }
 
-/// The letter of a sort.
-pub fn sort_name(sort: OpSort) -> &'static [u8]
+// The letter of a sort.
+fn sort_name(sort: OpSort) -> &'static [u8]
     ensures { result.now ≡ sort_name sort }
 {
     match sort {
@@ -267,8 +269,8 @@ pub fn sort_name(sort: OpSort) -> &'static [u8]
     }
 }
 
-/// The word of a kind of elements.
-pub fn kind_name(kind: Kind) -> &'static [u8]
+// The word of a kind of elements.
+fn kind_name(kind: Kind) -> &'static [u8]
     ensures { result.now ≡ kind_name kind }
 {
     match kind {
@@ -281,8 +283,8 @@ pub fn kind_name(kind: Kind) -> &'static [u8]
     }
 }
 
-/// The first word of a step.
-pub fn row_name(row: Row) -> &'static [u8]
+// The first word of a step.
+fn row_name(row: Row) -> &'static [u8]
     ensures { result.now ≡ row_name row }
 {
     match row {
@@ -298,30 +300,78 @@ pub fn row_name(row: Row) -> &'static [u8]
     }
 }
 
-/// The operation with this name, if there is one.
-pub fn head_of(word: &[u8]) -> Option<Head>
-    ensures { result ≡ head_of word.now }
-{
-    HEADS.iter().copied().find(|head| head_name(*head) == word)
+/// The names of operations, as words.
+pub struct HeadWord;
+
+impl Token for HeadWord {
+    ghost use Rattle.pv_cert.specs.Names.{head_token};
+
+    type Value = Head;
+
+    ghost token = { head_token };
+
+    fn read(word: &[u8]) -> Option<Head> {
+        HEADS.iter().copied().find(|head| head_name(*head) == word)
+    }
+
+    fn push(out: &mut Vec<u8>, value: Head) -> Result<(), AllocError> {
+        out.extend_from_slice(head_name(value))
+    }
 }
 
-/// The sort with this letter, if there is one.
-pub fn sort_of(word: &[u8]) -> Option<OpSort>
-    ensures { result ≡ sort_of word.now }
-{
-    SORTS.iter().copied().find(|sort| sort_name(*sort) == word)
+/// The letters of sorts, as words.
+pub struct SortWord;
+
+impl Token for SortWord {
+    ghost use Rattle.pv_cert.specs.Names.{sort_token};
+
+    type Value = OpSort;
+
+    ghost token = { sort_token };
+
+    fn read(word: &[u8]) -> Option<OpSort> {
+        SORTS.iter().copied().find(|sort| sort_name(*sort) == word)
+    }
+
+    fn push(out: &mut Vec<u8>, value: OpSort) -> Result<(), AllocError> {
+        out.extend_from_slice(sort_name(value))
+    }
 }
 
-/// The kind of elements with this word, if there is one.
-pub fn kind_of(word: &[u8]) -> Option<Kind>
-    ensures { result ≡ kind_of word.now }
-{
-    KINDS.iter().copied().find(|kind| kind_name(*kind) == word)
+/// The kinds of elements, as words.
+pub struct KindWord;
+
+impl Token for KindWord {
+    ghost use Rattle.pv_cert.specs.Names.{kind_token};
+
+    type Value = Kind;
+
+    ghost token = { kind_token };
+
+    fn read(word: &[u8]) -> Option<Kind> {
+        KINDS.iter().copied().find(|kind| kind_name(*kind) == word)
+    }
+
+    fn push(out: &mut Vec<u8>, value: Kind) -> Result<(), AllocError> {
+        out.extend_from_slice(kind_name(value))
+    }
 }
 
-/// The row with this first word, if there is one.
-pub fn row_of(word: &[u8]) -> Option<Row>
-    ensures { result ≡ row_of word.now }
-{
-    ROWS.iter().copied().find(|row| row_name(*row) == word)
+/// The first words of steps.
+pub struct RowWord;
+
+impl Token for RowWord {
+    ghost use Rattle.pv_cert.specs.Names.{row_token};
+
+    type Value = Row;
+
+    ghost token = { row_token };
+
+    fn read(word: &[u8]) -> Option<Row> {
+        ROWS.iter().copied().find(|row| row_name(*row) == word)
+    }
+
+    fn push(out: &mut Vec<u8>, value: Row) -> Result<(), AllocError> {
+        out.extend_from_slice(row_name(value))
+    }
 }

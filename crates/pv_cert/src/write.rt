@@ -1,50 +1,33 @@
 //! The text of a certificate is written.
 
-ghost use Rattle.std.specs.Prelude.{◌≡◌, ◌++◌, ◌∷◌, [], ◌<◌, map, OnOk, IfOk};
+ghost use Rattle.std.specs.Prelude.{◌≡◌, ◌++◌, ◌∷◌, [], map, OnOk, IfOk};
 ghost use Rattle.std.specs.List.{flat_map};
-ghost use Rattle.pv_cert.specs.Tokens.{hex_digit, digest};
+ghost use Rattle.pv_format.specs.Splits.{join, text_of};
+ghost use Rattle.pv_token.specs.Tokens.{digest_token};
 ghost use Rattle.pv_cert.specs.Lines.{step_line, title_line};
 ghost use Rattle.pv_cert.specs.Reading.{section_lines};
-ghost use Rattle.pv_cert.specs.Certificates.{digest_line, header, text_of, spelled};
+ghost use Rattle.pv_cert.specs.Certificates.{header, spelled};
 
 use crate::cert::{Cert, Section};
-use crate::table::row_name;
+use crate::table::RowWord;
 use crate::writing::push_text;
 use crate::writing_steps::{push_row, row};
 use pv_steps::Step;
+use pv_token::{Digest, Token, push};
 use pv_value::{Memory, Name};
 use std::alloc::{AllocError, Global};
 
-// A lower-case hexadecimal digit.
-fn lower_digit(n: u8) -> u8
-    requires { n < 16 }
-    ensures { result ≡ hex_digit 97 n }
-{
-    if n < 10 { b'0' + n } else { b'a' + (n - 10) }
-}
-
-// Bytes, each by two lower-case digits.
-fn push_digest(out: &mut Vec<u8>, bytes: &[u8]) -> Result<(), AllocError>
-    ensures { OnOk result (out.new.items ≡ out.old.items ++ digest.spells bytes.now) }
-{
-    for b in bytes {
-        out.extend_from_slice(&[lower_digit(*b / 16), lower_digit(*b % 16)])?;
-    }
-    Ok(())
-}
-
 // Which of the two files, and its digest.
-fn push_digest_line(out: &mut Vec<u8>, which: &[u8], bytes: &[u8]) -> Result<(), AllocError>
-    ensures { OnOk result (out.new.items ≡ out.old.items ++ text_of (digest_line which.now bytes.now ∷ [])) }
+fn push_digest_line(out: &mut Vec<u8>, which: &[u8], digest: [u8; 32]) -> Result<(), AllocError>
+    ensures { OnOk result (out.new.items ≡ out.old.items ++ text_of (join 32 (which.now ∷ digest_token.spells digest ∷ []) ∷ [])) }
 {
     out.extend_from_slice(which)?;
-    out.extend_from_slice(b" ")?;
-    push_digest(out, bytes)?;
+    push::<Digest>(out, digest)?;
     out.extend_from_slice(b"\n")
 }
 
-fn push_header(out: &mut Vec<u8>, first: &[u8], second: &[u8]) -> Result<(), AllocError>
-    ensures { OnOk result (out.new.items ≡ out.old.items ++ text_of (header first.now second.now)) }
+fn push_header(out: &mut Vec<u8>, first: [u8; 32], second: [u8; 32]) -> Result<(), AllocError>
+    ensures { OnOk result (out.new.items ≡ out.old.items ++ text_of (header.spells (first, second))) }
 {
     out.extend_from_slice(b"peggy-cert 1\n")?;
     push_digest_line(out, b"first", first)?;
@@ -53,12 +36,12 @@ fn push_header(out: &mut Vec<u8>, first: &[u8], second: &[u8]) -> Result<(), All
 
 // The line that a section begins with.
 #[tactic(auto, using(crate::proofs::WrittenLaws::title_spaced))]
-fn push_title(out: &mut Vec<u8>, name: &Name, desc: &Name) -> Result<(), AllocError>
+fn push_title(alloc: Global, out: &mut Vec<u8>, name: &Name, desc: &Name) -> Result<(), AllocError>
     ensures { OnOk result (out.new.items ≡ out.old.items ++ text_of (title_line (name.now, desc.now) ∷ [])) }
 {
     out.extend_from_slice(b"method")?;
-    push_text(out, name)?;
-    push_text(out, desc)?;
+    push_text(alloc, out, name)?;
+    push_text(alloc, out, desc)?;
     out.extend_from_slice(b"\n")
 }
 
@@ -66,7 +49,7 @@ fn push_title(out: &mut Vec<u8>, name: &Name, desc: &Name) -> Result<(), AllocEr
 fn push_step(alloc: Global, out: &mut Vec<u8>, step: &Step) -> Result<(), AllocError>
     ensures { OnOk result (out.new.items ≡ out.old.items ++ text_of (step_line step.now ∷ [])) }
 {
-    out.extend_from_slice(row_name(row(step)))?;
+    RowWord::push(out, row(step))?;
     push_row(alloc, out, step)?;
     out.extend_from_slice(b"\n")?;
     Ok(())
@@ -87,7 +70,7 @@ fn push_steps(alloc: Global, out: &mut Vec<u8>, list: &[Step]) -> Result<(), All
 fn push_section(alloc: Global, out: &mut Vec<u8>, s: &Section) -> Result<(), AllocError>
     ensures { OnOk result (out.new.items ≡ out.old.items ++ text_of (section_lines s.now)) }
 {
-    push_title(out, &s.name, &s.desc)?;
+    push_title(alloc, out, &s.name, &s.desc)?;
     push_steps(alloc, out, s.steps.as_slice())?;
     out.extend_from_slice(b"end\n")
 }
@@ -107,7 +90,9 @@ pub fn write_cert(alloc: Global, c: &Cert) -> Result<Vec<u8>, Memory>
     ensures { IfOk result (λ text. text.items ≡ spelled c.now) }
 {
     let mut out = Vec::new(alloc);
-    push_header(&mut out, &c.first, &c.second)?;
+    let first = c.first;
+    let second = c.second;
+    push_header(&mut out, first, second)?;
     push_sections(alloc, &mut out, c.sections.as_slice())?;
     Ok(out)
 }

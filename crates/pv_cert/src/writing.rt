@@ -1,95 +1,36 @@
-//! The words of operations and steps are written, each after a blank.
+//! The words of operations are written, each after a blank.
 
-ghost use Rattle.std.specs.Prelude.{◌≡◌, ◌++◌, ◌∷◌, [], ◌<◌, ◌^◌, OnOk};
-ghost use Rattle.pv_cert.specs.Tokens.{hex_digit, shown_byte, shown_bytes, signed, u32 as number};
-ghost use Rattle.pv_cert.specs.Parameters.{sym, argument};
+ghost use Rattle.std.specs.Prelude.{◌≡◌, ◌++◌, ◌∷◌, drop, OnOk};
+ghost use Rattle.pv_token.specs.Words.{spaced};
+ghost use Rattle.pv_cert.specs.Names.{head_name};
+ghost use Rattle.pv_cert.specs.Parameters.{text, sym, argument};
 ghost use Rattle.pv_cert.specs.Operations.{op_words};
-ghost use Rattle.pv_cert.specs.Written.{spaced, head_in, param_words};
 
-use crate::table::{Head, head_name, kind_name, sort_name};
+use crate::table::{Head, HeadWord, KindWord, SortWord};
 use pv_graph::{Op, OpSort};
+use pv_token::{Int, Long, Number, push, push_shown};
 use pv_value::{Name, Sym};
 use std::alloc::{AllocError, Global};
 
-// A word after a blank.
-fn push_word(out: &mut Vec<u8>, word: &[u8]) -> Result<(), AllocError>
-    ensures { OnOk result (out.new.items ≡ out.old.items ++ spaced (word.now ∷ [])) }
-{
-    out.extend_from_slice(b" ")?;
-    out.extend_from_slice(word)
-}
-
-/// A number after a blank.
-pub fn push_number(alloc: Global, out: &mut Vec<u8>, n: u32) -> Result<(), AllocError>
-    ensures { OnOk result (out.new.items ≡ out.old.items ++ spaced (number.spells n ∷ [])) }
-{
-    let word = format!(in alloc; "{n}")?;
-    push_word(out, word.as_bytes())
-}
-
-fn push_int(alloc: Global, out: &mut Vec<u8>, n: i32) -> Result<(), AllocError>
-    ensures { OnOk result (out.new.items ≡ out.old.items ++ spaced ((signed (2 ^ 31)).spells n ∷ [])) }
-{
-    let word = format!(in alloc; "{n}")?;
-    push_word(out, word.as_bytes())
-}
-
-fn push_long(alloc: Global, out: &mut Vec<u8>, n: i64) -> Result<(), AllocError>
-    ensures { OnOk result (out.new.items ≡ out.old.items ++ spaced ((signed (2 ^ 63)).spells n ∷ [])) }
-{
-    let word = format!(in alloc; "{n}")?;
-    push_word(out, word.as_bytes())
-}
-
-// An upper-case hexadecimal digit.
-fn upper_digit(n: u8) -> u8
-    requires { n < 16 }
-    ensures { result ≡ hex_digit 65 n }
-{
-    if n < 10 { b'0' + n } else { b'A' + (n - 10) }
-}
-
-fn push_shown_byte(out: &mut Vec<u8>, b: u8) -> Result<(), AllocError>
-    ensures { OnOk result (out.new.items ≡ out.old.items ++ shown_byte b) }
-{
-    if b >= 0x21 && b <= 0x7E && b != b'%' {
-        return out.extend_from_slice(&[b]);
-    }
-    out.extend_from_slice(&[b'%', upper_digit(b / 16), upper_digit(b % 16)])
-}
-
-// Bytes as shown text.
-fn push_shown(out: &mut Vec<u8>, bytes: &[u8]) -> Result<(), AllocError>
-    ensures { OnOk result (out.new.items ≡ out.old.items ++ shown_bytes bytes.now) }
-{
-    if bytes.is_empty() {
-        return out.extend_from_slice(b"%-");
-    }
-    for b in bytes {
-        push_shown_byte(out, *b)?;
-    }
-    Ok(())
-}
-
 /// A text after a blank, as it is shown.
-pub fn push_text(out: &mut Vec<u8>, text: &Name) -> Result<(), AllocError>
-    ensures { OnOk result (out.new.items ≡ out.old.items ++ spaced (shown_bytes text.now ∷ [])) }
+pub fn push_text(alloc: Global, out: &mut Vec<u8>, name: &Name) -> Result<(), AllocError>
+    ensures { OnOk result (out.new.items ≡ out.old.items ++ spaced (text.spells name.now)) }
 {
     out.extend_from_slice(b" ")?;
-    push_shown(out, text.bytes())
+    push_shown(alloc, out, name.bytes())
 }
 
-fn push_sym(out: &mut Vec<u8>, s: &Sym) -> Result<(), AllocError>
+fn push_sym(alloc: Global, out: &mut Vec<u8>, s: &Sym) -> Result<(), AllocError>
     ensures { OnOk result (out.new.items ≡ out.old.items ++ spaced (sym.spells s.now)) }
 {
-    push_text(out, &s.class)?;
-    push_text(out, &s.name)?;
-    push_text(out, &s.desc)
+    push_text(alloc, out, &s.class)?;
+    push_text(alloc, out, &s.name)?;
+    push_text(alloc, out, &s.desc)
 }
 
 // The operation without its parameters.
 fn head(op: &Op) -> Head
-    ensures { result ≡ head_in op.now }
+    ensures { op_words op.now ≡ head_name result ∷ drop 1 (op_words op.now) }
 {
     match op {
         Op::Int(_) => Head::Int,
@@ -132,23 +73,23 @@ fn head(op: &Op) -> Head
     }
 }
 
-fn push_argument(alloc: Global, out: &mut Vec<u8>, j: u32, sort: OpSort) -> Result<(), AllocError>
+fn push_argument(out: &mut Vec<u8>, j: u32, sort: OpSort) -> Result<(), AllocError>
     ensures { OnOk result (out.new.items ≡ out.old.items ++ spaced (argument.spells (j, sort))) }
 {
-    push_number(alloc, out, j)?;
-    push_word(out, sort_name(sort))
+    push::<Number>(out, j)?;
+    push::<SortWord>(out, sort)
 }
 
 // The parameters of an operation.
 fn push_params(alloc: Global, out: &mut Vec<u8>, op: &Op) -> Result<(), AllocError>
-    ensures { OnOk result (out.new.items ≡ out.old.items ++ spaced (param_words op.now)) }
+    ensures { OnOk result (out.new.items ≡ out.old.items ++ spaced (drop 1 (op_words op.now))) }
 {
     match op {
-        Op::Int(x) => push_int(alloc, out, *x),
-        Op::Long(x) => push_long(alloc, out, *x),
+        Op::Int(x) => push::<Int>(out, *x),
+        Op::Long(x) => push::<Long>(out, *x),
         Op::Null => Ok(()),
-        Op::Literal(x) => push_text(out, x),
-        Op::Param(j, sort) => push_argument(alloc, out, *j, *sort),
+        Op::Literal(x) => push_text(alloc, out, x),
+        Op::Param(j, sort) => push_argument(out, *j, *sort),
         Op::This => Ok(()),
         Op::Heap0 => Ok(()),
         Op::Unit => Ok(()),
@@ -163,24 +104,24 @@ fn push_params(alloc: Global, out: &mut Vec<u8>, op: &Op) -> Result<(), AllocErr
         Op::IsClear => Ok(()),
         Op::Both => Ok(()),
         Op::Phi => Ok(()),
-        Op::Theta(x) => push_number(alloc, out, *x),
-        Op::Eval(x) => push_number(alloc, out, *x),
-        Op::Pass(x) => push_number(alloc, out, *x),
-        Op::Shift(x) => push_number(alloc, out, *x),
+        Op::Theta(x) => push::<Number>(out, *x),
+        Op::Eval(x) => push::<Number>(out, *x),
+        Op::Pass(x) => push::<Number>(out, *x),
+        Op::Shift(x) => push::<Number>(out, *x),
         Op::Root => Ok(()),
         Op::Scalar(_) => Ok(()),
         Op::Aeq => Ok(()),
-        Op::GetStatic(x) => push_sym(out, x),
-        Op::PutStatic(x) => push_sym(out, x),
-        Op::GetField(x) => push_sym(out, x),
-        Op::PutField(x) => push_sym(out, x),
-        Op::Load(x) => push_word(out, kind_name(*x)),
-        Op::Store(x) => push_word(out, kind_name(*x)),
+        Op::GetStatic(x) => push_sym(alloc, out, x),
+        Op::PutStatic(x) => push_sym(alloc, out, x),
+        Op::GetField(x) => push_sym(alloc, out, x),
+        Op::PutField(x) => push_sym(alloc, out, x),
+        Op::Load(x) => push::<KindWord>(out, *x),
+        Op::Store(x) => push::<KindWord>(out, *x),
         Op::Length => Ok(()),
-        Op::CallEnd(x) => push_sym(out, x),
-        Op::CallRes(x) => push_sym(out, x),
-        Op::CallFault(x) => push_sym(out, x),
-        Op::CallHeap(x) => push_sym(out, x),
+        Op::CallEnd(x) => push_sym(alloc, out, x),
+        Op::CallRes(x) => push_sym(alloc, out, x),
+        Op::CallFault(x) => push_sym(alloc, out, x),
+        Op::CallHeap(x) => push_sym(alloc, out, x),
     }
 }
 
@@ -188,6 +129,6 @@ fn push_params(alloc: Global, out: &mut Vec<u8>, op: &Op) -> Result<(), AllocErr
 pub fn push_op(alloc: Global, out: &mut Vec<u8>, op: &Op) -> Result<(), AllocError>
     ensures { OnOk result (out.new.items ≡ out.old.items ++ spaced (op_words op.now)) }
 {
-    push_word(out, head_name(head(op)))?;
+    push::<HeadWord>(out, head(op))?;
     push_params(alloc, out, op)
 }

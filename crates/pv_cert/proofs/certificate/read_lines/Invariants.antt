@@ -1,7 +1,7 @@
 use Rattle.std.proofs.Common.{◌≡◌, [], ◌+◌, drop}
 use Rattle.pv_cert.specs.Places.{seen_place}
 use Rattle.pv_cert.specs.Reading.{between, read_lines}
-use Rattle.pv_cert.specs.Seen.{texts}
+use Rattle.pv_format.specs.Seen.{texts}
 use Rattle.pv_cert.proofs.certificate.read_lines.Given as goal
 
 abbrev pub invariant-loop-k : goal.invariant-loop-k

@@ -1,7 +1,7 @@
 use Rattle.std.proofs.Common.{◌≡◌, ◌++◌, take}
 use Rattle.std.specs.List.{flat_map}
 use Rattle.pv_cert.specs.Reading.{section_lines}
-use Rattle.pv_cert.specs.Certificates.{text_of}
+use Rattle.pv_format.specs.Splits.{text_of}
 use Rattle.pv_cert.proofs.write.push_sections.Given as goal
 
 abbrev pub invariant-loop-s : goal.invariant-loop-s

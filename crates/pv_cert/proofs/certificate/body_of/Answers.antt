@@ -1,5 +1,0 @@
-use Rattle.pv_cert.proofs.HeaderLaws.{body_found}
-use Rattle.pv_cert.proofs.certificate.body_of.Goals as goal
-
-pub returns : goal.returns
-returns c = body_found c.args.text.now c.as_slice.result.now c.strip_suffix.result c.as_slice.ensures c.strip_suffix.ensures.cases

@@ -1,7 +1,0 @@
-use Rattle.pv_cert.proofs.FrontSteps.{some_step}
-use Rattle.pv_cert.proofs.text.some_shown.Goals as goal
-
-pub loop-rest-preserved : goal.loop-rest-preserved
-loop-rest-preserved c =
-    some_step c.loop-rest.bytes.items c.loop-rest.rest.now c.in-Some.byte c.in-Some.after.now c.push.new.self.items _
-    c.loop-rest.invariant c.in-Some.ensures.front c.in_ok-push.ensures.items

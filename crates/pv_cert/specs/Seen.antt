@@ -1,6 +1,0 @@
--- Words as they are seen.
-use Rattle.std.specs.Prelude.{ℕ, List, map}
-use Rattle.std.specs.Borrow.{Bor}
-
-abbrev pub texts : List (Bor (List ℕ)) → List (List ℕ)
-texts words = map (λ w. w.now) words

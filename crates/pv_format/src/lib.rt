@@ -1,0 +1,18 @@
+//! Formats of texts: what a value is spelled as, and how it is read again.
+//!
+//! This layer stands on `std` alone. A format (`specs/Formats`) says which values have a spelling, what that is and how a
+//! text is read, and it holds the laws that these agree: what is spelled is read again, nothing else is read, and each
+//! spelling is a proper text of its kind. A `Format` is for a whole text, and a `Front` for what stands at the front of
+//! one; the kind of text is any, as a word of bytes, a line of words or a text of lines. `specs/Combinators` and
+//! `specs/Choices` make formats of formats: one symbol, one after the other, lists, pairs, a choice by the first symbol,
+//! parts with a separator between them, the lines of a text, one of several names. Each of their laws is composed there
+//! once and for all (`FormatLaws`, `SplitLaws`, `ChoiceLaws`), so that what an upper layer says of its own spellings is
+//! proved where it is made. Where a text is at fault, and at which place, is the business of the layer that reads it.
+//!
+//! The code cuts texts: `words_of` and `lines_of` read by the formats `parts blank` and `lines`, and `cut_at` cuts once
+//! (`specs/Splits`). Upper layers use these clauses, and cite `proofs/Cited`.
+#![tactic(auto)]
+
+mod split;
+
+pub use split::{cut_at, lines_of, words_of};

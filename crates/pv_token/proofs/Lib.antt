@@ -1,0 +1,3 @@
+pub mod Cited
+mod NumberSteps
+mod TextSteps

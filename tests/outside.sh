@@ -60,6 +60,20 @@ expect 'a file that is too long' 2 'bad class second too-long at 4194304
 expect 'an endless file' 2 'bad class first too-long at 4194304
 ' validate /dev/zero "$work/B"
 
+# Certificates, with the digest that `sha256sum` gives. Without steps a section says that both roots are one node.
+digest=$(sha256sum < "$class" | cut -d' ' -f1)
+other=$(sha256sum < "$work/empty" | cut -d' ' -f1)
+printf 'peggy-cert 1\nfirst %s\nsecond %s\nmethod f ()I\nend\n' "$digest" "$digest" > "$work/cert"
+printf 'peggy-cert 1\nfirst %s\nsecond %s\nmethod f ()I\nend\n' "$digest" "$other" > "$work/other"
+expect 'a certificate' 0 "$line" check "$work/A" "$work/B" "$work/cert"
+expect 'a certificate of another file' 3 "bad certificate second $other $digest
+" check "$work/A" "$work/B" "$work/other"
+expect 'an empty certificate' 3 'bad certificate truncated
+' check "$work/A" "$work/B" "$work/empty"
+expect 'an endless certificate' 3 'bad certificate too-long
+' check "$work/A" "$work/B" /dev/zero
+expect 'an absent certificate' 5 '' check "$work/A" "$work/B" "$work/absent"
+
 # An unreadable file, read by one who is not the superuser.
 if [ "$(id -u)" -eq 0 ] && command -v setpriv >/dev/null 2>&1; then
   cp "$program" "$work/program" && chmod 755 "$work/program"

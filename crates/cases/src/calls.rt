@@ -1,7 +1,7 @@
 //! The table of the words that name calls.
 
 use crate::{outside, runs};
-use cases_certs::certs;
+use cases_certs::{certs, sections};
 use cases_files::pools::Asked;
 use cases_files::{classes, codes, pools};
 use cases_graphs::{axioms, bases, graphs, leasts, loops, trees};
@@ -61,6 +61,7 @@ pub fn answer<R: Files + Threads + Sync>(rt: &R, bench: &Bench, line: &str) -> A
         "root" => roots::root(bench, rest),
 
         "cert" => certs::cert(bench, rest),
+        "section" => sections::section(bench, rest),
 
         "run" => runs::running(rt, bench, rest),
         "validate" => runs::validation(rt, bench, rest),

@@ -1,6 +1,8 @@
-//! Cases of the text of certificates.
+//! Cases of certificates.
 //!
-//! `certs` has the lines of `pv_cert`. It stands on `cases_words` and on that layer.
+//! `certs` has the lines of `pv_cert`, and `sections` those of `pv_check`. It stands on `cases_words`, `cases_files` and on
+//! these layers.
 #![tactic(auto)]
 
 pub mod certs;
+pub mod sections;

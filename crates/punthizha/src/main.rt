@@ -1,4 +1,4 @@
-//! The program: `punthizha validate A B` over real files and standard output.
+//! The program: `punthizha validate A B` and `punthizha check A B CERT` over real files and standard output.
 //!
 //! It hands the words of the command line after the program's name to `pv_top::run`, and exits with
 //! its status as a number.
@@ -7,9 +7,9 @@
 ghost use Rattle.std.specs.Prelude.{◌≡◌, ◌⊎◌, IfOk, List, ℕ};
 ghost use Rattle.punthizha.specs.CommandLine.{after_name, bytes_of};
 ghost use Rattle.pv_base.specs.Outside.{Rose};
-ghost use Rattle.pv_top.specs.Words.{IsValidate, IsNoCommand, bad_words, texts};
+ghost use Rattle.pv_top.specs.Words.{AreOn, Fetches, IsCheck, IsNoCommand, IsValidate, bad_words, texts};
 ghost use Rattle.pv_top.specs.Promise.{EachEquivalent};
-ghost use Rattle.pv_top.specs.Run.{Answered, AskedFor, Says};
+ghost use Rattle.pv_top.specs.Run.{Answered, AskedFor, SaidOf, SaidOfCert, Says};
 
 use pv_base::{Files, HostFiles, HostSink, OpenGate, Sink};
 use pv_top::{Status, run};
@@ -53,9 +53,10 @@ fn run_words<R: AllocGlobal + Threads + Sync, F: Files, K: Sink>(
     files: &mut F,
     out: &mut K,
 ) -> Status
-    ensures equivalent { (a b : List ℕ) → IsValidate (after_name words.now) a b → EachEquivalent (F.held files.old) a b (K.sent out.old) (K.sent out.new) }
-    ensures answered { (a b : List ℕ) → IsValidate (after_name words.now) a b → Answered (F.held files.old) a b (K.sent out.old) (K.sent out.new) (Rose (F.faults files.old) (F.faults files.new)) (Rose (K.faults out.old) (K.faults out.new)) result }
-    ensures asked { (a b : List ℕ) → IsValidate (after_name words.now) a b → AskedFor (F.held files.old) (F.asked files.old) (F.asked files.new) a b result }
+    ensures equivalent { (a b : List ℕ) → AreOn (after_name words.now) a b → EachEquivalent (F.held files.old) a b (K.sent out.old) (K.sent out.new) }
+    ensures answered { (a b : List ℕ) → IsValidate (after_name words.now) a b → Answered (K.sent out.old) (K.sent out.new) (Rose (F.faults files.old) (F.faults files.new)) result (SaidOf (F.held files.old) a b (K.sent out.old) (K.sent out.new) (Rose (K.faults out.old) (K.faults out.new)) result) }
+    ensures checked { (a b cert : List ℕ) → IsCheck (after_name words.now) a b cert → Answered (K.sent out.old) (K.sent out.new) (Rose (F.faults files.old) (F.faults files.new)) result (SaidOfCert (F.held files.old) a b cert (K.sent out.old) (K.sent out.new) (Rose (K.faults out.old) (K.faults out.new)) result) }
+    ensures asked { (names : List (List ℕ)) → Fetches (after_name words.now) names → AskedFor (F.held files.old) (F.asked files.old) (F.asked files.new) names result }
     ensures bad_words { IsNoCommand (after_name words.now) → (result ≡ Status.Memory) ⊎ Says (K.sent out.old) (K.sent out.new) bad_words Status.BadWords result (Rose (K.faults out.old) (K.faults out.new)) }
 {
     let Ok(borrowed) = borrowed(rt.alloc(), words) else {

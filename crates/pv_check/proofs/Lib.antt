@@ -11,7 +11,6 @@ pub mod Finished
 pub mod Pushed
 pub mod Assumed
 pub mod Chained
-pub mod OneSort
 pub mod Walking
 pub mod WaitingNodes
 pub mod Carried

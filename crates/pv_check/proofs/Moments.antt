@@ -3,15 +3,26 @@ use Rattle.std.specs.Prelude.{◌≡◌, ◌↔◌, ℕ, Bool, true, false, List
 use Rattle.std.specs.Bool.{OnTrue, OnFalse}
 use Rattle.pv_graph.specs.declared.node.Op.{Op}
 use Rattle.pv_graph.specs.Graphs.{Graph}
+use Rattle.pv_graph.specs.Calls.{IsSame}
 use Rattle.pv_steps.specs.declared.step.Step.TheVariants as steps
 use Rattle.pv_steps.specs.declared.step.Step.{Step}
 use Rattle.pv_steps.specs.Right.{AddsNode, RightOver}
 use Rattle.pv_axioms.specs.Entries.{Instance}
 use Rattle.pv_check.specs.Growth.{NodeAdded, GrowsTo}
+use Rattle.pv_check.specs.Testing.{LeavesGraph}
 
 pub stays : (s : Step) → ((n : ℕ) (o : Op) (kids : List ℕ) → s ≡ steps.Node n o kids → ⊥) → (g : Graph) → GrowsTo s g g
 stays (steps.Node n o kids) h g = absurd (h n o kids refl)
 stays s h g = (g, refl, refl)
+
+-- a step whose test may prepare the graph
+pub prepares : (p : ℕ) (nodes : List ℕ) (g new : Graph) → IsSame g new → GrowsTo (steps.Assume p nodes) g new
+prepares p nodes g new same = (g, refl, same)
+
+pub leaves : (s : Step) → ((n : ℕ) (o : Op) (kids : List ℕ) → s ≡ steps.Node n o kids → ⊥) → ((p : ℕ) (nodes : List ℕ) → s ≡ steps.Assume p nodes → ⊥) → LeavesGraph s
+leaves (steps.Node n o kids) h k = h n o kids refl
+leaves (steps.Assume p nodes) h k = k p nodes refl
+leaves s h k = tt
 
 pub always : {E : Type 0} (r : Result Bool E) (P : Type 0) → P → IfOk r (λ b. OnTrue b P)
 always (Ok true) P p = p

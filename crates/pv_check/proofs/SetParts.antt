@@ -1,6 +1,7 @@
 -- A set of congruences is right where its lists are.
-use Rattle.std.specs.Prelude.{◌≡◌, ◌≢◌, ◌⊎◌, ◌↔◌, ℕ, ◌<◌, ◌≤◌, Bool, true, false, List, [], ◌∷◌, Option, Some, None, slice_get, refl, if◌then◌else◌}
+use Rattle.std.specs.Prelude.{◌≡◌, ◌≢◌, ◌⊎◌, ◌↔◌, ℕ, zero, suc, ◌<◌, ◌≤◌, Bool, true, false, List, [], ◌∷◌, length, Option, Some, None, slice_get, refl, if◌then◌else◌}
 use Rattle.std.specs.List.{AllByRecursion}
+use Rattle.std.proofs.Math.ListN.{get_or}
 use Rattle.std.proofs.Common.{inl, inr, sym, ap, ◌∙◌, subst, arith}
 use Rattle.std.proofs.lemmas.Bool.Decides.{nat_tests}
 use Rattle.std.proofs.lemmas.Option.{same_Some, slice_get_within}
@@ -29,6 +30,11 @@ all_in P (y ∷ ys) h x (inr m) = all_in P ys h.1 x m
 pub in_all : {A : Type 0} (P : A → Type 0) (xs : List A) → ((x : A) → In xs x → P x) → AllByRecursion P xs
 in_all P [] h = tt
 in_all P (y ∷ ys) h = (h y (inl refl), in_all P ys (λ x m. h x (inr m)))
+
+pub all_get : {A : Type 0} (P : A → Type 0) (xs : List A) (i : ℕ) (d : A) → AllByRecursion P xs → i < length xs → P (get_or xs i d)
+all_get P [] i d h low = absurd (omega (arith, low))
+all_get P (y ∷ ys) zero d h low = h.0
+all_get P (y ∷ ys) (suc i) d h low = all_get P ys i d h.1 (omega (arith, low))
 
 -- ---- depths
 

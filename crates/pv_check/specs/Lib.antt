@@ -6,7 +6,6 @@ pub mod Sets
 pub mod Inductions
 pub mod Growth
 pub mod Endings
-pub mod Sorts
 pub mod Spine
 pub mod Waiting
 pub mod Testing

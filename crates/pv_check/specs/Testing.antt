@@ -1,7 +1,10 @@
--- Steps that add no node.
+-- Steps that leave the graph as it is.
+use Rattle.std.specs.Prelude.{⊤}
 use Rattle.pv_steps.specs.declared.step.Step.{Step}
 use Rattle.pv_steps.specs.declared.step.Step.TheVariants as steps
 
-abbrev pub IsNoNode : Step → Type 0
-IsNoNode (steps.Node n o kids) = ⊥
-IsNoNode s = Unit {0}
+-- it adds no node, and isn't one whose test prepares the graph
+abbrev pub LeavesGraph : Step → Type 0
+LeavesGraph (steps.Node n o kids) = ⊥
+LeavesGraph (steps.Assume p nodes) = ⊥
+LeavesGraph s = ⊤

@@ -3,7 +3,7 @@
 ghost use Rattle.std.specs.Prelude.{◌≡◌, ◌↔◌, ◌<◌, [], IfOk, IsTrue, length, reverse, true};
 ghost use Rattle.std.specs.List.{AllByRecursion};
 ghost use Rattle.pv_graph.specs.Graphs.{form_at, IsGraph};
-ghost use Rattle.pv_graph.specs.Calls.{IsFree};
+ghost use Rattle.pv_graph.specs.Calls.{IsFree, IsSame};
 ghost use Rattle.pv_graph.specs.Walks.{IsClosed, Spine};
 ghost use Rattle.pv_graph.specs.Reach.{IsMarked};
 ghost use Rattle.pv_steps.specs.Right.{IsPassOrCallEnd, MayBeAssumed, RightAssume};
@@ -72,33 +72,34 @@ fn all_may_be(graph: &Graph, spine: &[bool], nodes: &[NodeId]) -> bool
     true
 }
 
-// Whether all nodes are closed passes or ends of calls on the spine of the token.
+// Whether all nodes are closed passes or ends of calls on the spine of the token. It prepares the graph.
 fn all_assumed(
     alloc: Global,
-    graph: &Graph,
+    graph: &mut Graph,
     token: NodeId,
     nodes: &[NodeId],
 ) -> Result<bool, Memory>
-    requires { token < length graph.now.nodes }
-    ensures { IfOk result (λ yes. IsTrue yes ↔ AllByRecursion (MayBeAssumed graph.now token) nodes.now) }
+    requires { token < length graph.old.nodes }
+    ensures all { IfOk result (λ yes. IsTrue yes ↔ AllByRecursion (MayBeAssumed graph.old token) nodes.now) }
+    ensures same { IsSame graph.old graph.new }
 {
-    let mut prepared = graph.copy(alloc)?;
-    prepared.prepare(alloc)?;
-    let _ = prepared.len();
-    let spine = spine_of(alloc, &prepared, token)?;
-    Ok(all_may_be(&prepared, &spine, nodes))
+    graph.prepare(alloc)?;
+    let _ = graph.len();
+    let spine = spine_of(alloc, graph, token)?;
+    Ok(all_may_be(graph, &spine, nodes))
 }
 
 impl Seen<'_> {
-    // Whether no block is open, p is a root, and its token waits for the nodes.
+    // Whether no block is open, p is a root, and its token waits for the nodes. It may prepare the graph.
     pub(crate) fn is_assume(
         &self,
         alloc: Global,
-        graph: &Graph,
+        graph: &mut Graph,
         p: NodeId,
         nodes: &[NodeId],
     ) -> Result<bool, Memory>
-        ensures { IfOk result (λ yes. IsTrue yes ↔ RightAssume graph.now (reverse self.now.steps.now) p nodes.now) }
+        ensures right { IfOk result (λ yes. IsTrue yes ↔ RightAssume graph.old (reverse self.now.steps.now) p nodes.now) }
+        ensures same { IsSame graph.old graph.new }
     {
         if self.inside() != 0 {
             return Ok(false);

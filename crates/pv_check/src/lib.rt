@@ -13,11 +13,12 @@
 //!
 //! Each row of steps has its function, whose contract is that it answers exactly the relation of that row:
 //! `growth` for node steps, `rows` for axioms and chains, `sets` for congruences, `sorts` and `inductions`
-//! for what opens and closes an induction, `assuming`, `spine` and `endings` for ending blocks. `testing`
-//! puts them together: `is_right` is yes exactly where `RightOver` holds at the axioms of all tables, and
-//! `takes` of `moment` also makes the graph that the step leaves (`GrowsTo`). `concludes` of `conclusion` is
-//! yes exactly where the steps so far conclude that two nodes are equal (`IsConcluded`). `advance` of `checker`
-//! takes one right step.
+//! for what opens and closes an induction, `assuming`, `spine` and `endings` for ending blocks. `testing` puts
+//! together those of steps that leave the graph as it is (`is_right`). `takes` of `moment` is yes exactly where
+//! `RightOver` holds at the axioms of all tables, and makes the graph that the step leaves (`GrowsTo`): a node
+//! step adds its node, and the test of what opens an ending block prepares the graph. `concludes` of
+//! `conclusion` is yes exactly where the steps so far conclude that two nodes are equal (`IsConcluded`).
+//! `advance` of `checker` takes one right step.
 //!
 //! The layer above uses `check`, which walks over a section: its clauses say that the answer is `Accepted` exactly where the
 //! section derives that the roots are equal (`Derives`), and a number exactly where it is rejected with that number

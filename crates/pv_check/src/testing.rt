@@ -1,9 +1,9 @@
 //! Whether a step is right over the graph of the moment.
 
-ghost use Rattle.std.specs.Prelude.{◌≡◌, ◌↔◌, IfOk, IsTrue, false, reverse};
+ghost use Rattle.std.specs.Prelude.{◌↔◌, IfOk, IsTrue, reverse};
 ghost use Rattle.pv_steps.specs.Right.{RightOver};
 ghost use Rattle.pv_axioms.specs.Entries.{Instance};
-ghost use Rattle.pv_check.specs.Testing.{IsNoNode};
+ghost use Rattle.pv_check.specs.Testing.{LeavesGraph};
 
 use crate::endings::RootReasons;
 use crate::seen::{Seen, Within};
@@ -14,7 +14,7 @@ use pv_value::Memory;
 use std::alloc::Global;
 
 impl Seen<'_> {
-    // Whether a step that adds no node is right after those so far, over their graph.
+    // Whether a step that leaves the graph as it is is right after those so far, over their graph.
     pub(crate) fn is_right(
         &self,
         alloc: Global,
@@ -22,8 +22,7 @@ impl Seen<'_> {
         graph: &Graph,
         step: &Step,
     ) -> Result<bool, Memory>
-        requires sealed { graph.now.is_open ≡ false }
-        requires no_node { IsNoNode step.now }
+        requires { LeavesGraph step.now }
         ensures { IfOk result (λ yes. IsTrue yes ↔ RightOver Instance graph.now (reverse self.now.steps.now) step.now) }
     {
         match step {
@@ -33,9 +32,8 @@ impl Seen<'_> {
             Step::Flip(a, b, fact) => Ok(self.shows(Within::Here, *fact, *b, *a)),
             Step::Chain(a, b, first, second) => Ok(self.is_chain(*a, *b, *first, *second)),
             Step::Set(congruences) => Ok(self.is_set(graph, congruences.as_slice())),
-            Step::Open(depth, pairs) => self.is_open(alloc, graph, *depth, pairs.as_slice()),
+            Step::Open(depth, pairs) => Ok(self.is_open(graph, *depth, pairs.as_slice())),
             Step::Close(depth, facts) => Ok(self.is_close(graph, *depth, facts.as_slice())),
-            Step::Assume(p, nodes) => self.is_assume(alloc, graph, *p, nodes.as_slice()),
             Step::Finish(p, q, token, fault, result_, heap) => {
                 let reasons = RootReasons {
                     token: *token,
@@ -45,7 +43,7 @@ impl Seen<'_> {
                 };
                 Ok(self.is_finish(graph, *p, *q, reasons))
             }
-            Step::Node(_, _, _) => unreachable!(),
+            Step::Node(_, _, _) | Step::Assume(_, _) => unreachable!(),
         }
     }
 }

@@ -1,20 +1,22 @@
 -- Looking for the partner of a method by its likeness.
 use Rattle.std.proofs.Common.{◌≡◌, ◌==◌, ◌&&◌, ℕ, ◌+◌, ◌<◌, Bool, true, false, cond, List, [], length, Option, Some, None, Result, Ok, Err, refl, sym, ap, subst, ◌∙◌, arith}
 use Rattle.std.specs.Bool.{beq}
+use Rattle.std.specs.Option.{option_or}
 use Rattle.std.specs.Cmp.Lexicographic.{pointwise}
 use Rattle.std.proofs.lemmas.Bool.{eqb-true, eqb-false}
 use Rattle.std.proofs.lemmas.Bool.Decides.{Decides-eqb}
 use Rattle.std.proofs.lemmas.Slice.Eq.{slice_eq-Decides}
 use Rattle.std.proofs.lemmas.Option.{slice_get_within}
-use Rattle.std.specs.Prelude.{slice_get, IfOk}
+use Rattle.std.specs.Prelude.{slice_get, IfOk, MatchOption}
 use Rattle.pv_class.specs.declared.file.Method.{Method}
 use Rattle.pv_value.specs.declared.memory.Memory.{Memory}
 use Rattle.pv_class.specs.declared.file.ClassFile.{ClassFile}
 use Rattle.pv_report.specs.declared.verdict.Verdict.{Verdict}
 use Rattle.pv_report.specs.declared.verdict.Verdict.TheVariants.{Missing, NoCode, Refused, Equivalent, Apart}
 use Rattle.pv_report.specs.Verdicts.{LackRoots, IsVerdict, IsVerdictOn}
-use Rattle.pv_report.specs.Partners.{IsPartner}
-use Rattle.pv_report.specs.Judging.{IsVerdictAt, IsVerdictOnPlaces, IsLikeAt}
+use Rattle.pv_frame.specs.Programs.{is_instance}
+use Rattle.pv_report.specs.Partners.{IsNamed, IsPartner}
+use Rattle.pv_report.specs.Judging.{IsVerdictAt, IsVerdictOnPlaces, IsLikeAt, IsNamedAt}
 use Rattle.pv_report.specs.declared.partners.Likeness.{Likeness}
 use Rattle.pv_report.specs.contracts.partners.LikenessPartialEq.TheImpl as likeness
 use Rattle.pv_report.specs.Partnering.{likeness_of, under, IsIndexOf}
@@ -106,6 +108,44 @@ no_partner m others entries is at p partner =
   where
     alike : likeness_of p ≡ likeness_of m
     alike = rw (partner.like.name, partner.like.desc, partner.like.static) refl
+
+-- what stands under a name and a descriptor, static or not
+abbrev pub under_name : List (Likeness × ℕ) → List ℕ → List ℕ → Bool → Option ℕ
+under_name entries name desc kind = under entries (record { name = name; desc = desc; is_instance = kind })
+
+-- .. is the place of the method that has them
+named_there : (methods : List Method) (entries : List (Likeness × ℕ)) (name desc : List ℕ) (kind : Bool) (i : ℕ) → IsIndexOf methods (length methods) entries → under_name entries name desc kind ≡ Some i → IsNamedAt name desc methods i
+named_there methods entries name desc kind i is at =
+    let m = is.known (record { name = name; desc = desc; is_instance = kind }) i at in
+    (m.0, m.1, ap (λ (l : Likeness). l.name) m.2, ap (λ (l : Likeness). l.desc) m.2)
+
+-- a method that has them stands there
+stands : (methods : List Method) (entries : List (Likeness × ℕ)) (name desc : List ℕ) (m : Method) → IsIndexOf methods (length methods) entries → IsNamed name desc methods m → (j : ℕ) × (under_name entries name desc (is_instance m.flags) ≡ Some j)
+stands methods entries name desc m is named =
+    let place = place_of methods m named.among in
+    let found = is.whole place.0 m (slice_get_within methods place.0 m place.1) place.1 in
+    let same : likeness_of m ≡ record { name = name; desc = desc; is_instance = is_instance m.flags } = likeness_of_parts (likeness_of m) (record { name = name; desc = desc; is_instance = is_instance m.flags }) named.name_is named.desc_is refl in
+    (found.0, ap (under entries) (sym same) ∙ found.1)
+
+-- where nothing does, there is no such method
+none_named : (methods : List Method) (entries : List (Likeness × ℕ)) (name desc : List ℕ) → IsIndexOf methods (length methods) entries → under_name entries name desc true ≡ None → under_name entries name desc false ≡ None → (m : Method) → IsNamed name desc methods m → ⊥
+none_named methods entries name desc is with_this without m named =
+    let s = stands methods entries name desc m is named in
+    by s.0 (is_instance m.flags) s.1
+  where
+    by : (j : ℕ) (b : Bool) → under_name entries name desc b ≡ Some j → ⊥
+    by j true e = let no : ◌≡◌ {A = Option ℕ} (Some j) None = sym e ∙ with_this in cc no
+    by j false e = let no : ◌≡◌ {A = Option ℕ} (Some j) None = sym e ∙ without in cc no
+
+-- the first of two places that there is
+pub first_named : (methods : List Method) (entries : List (Likeness × ℕ)) (name desc : List ℕ) → IsIndexOf methods (length methods) entries
+    → MatchOption (option_or (under_name entries name desc true) (under_name entries name desc false)) ((m : Method) → IsNamed name desc methods m → ⊥) (λ k. IsNamedAt name desc methods k)
+first_named methods entries name desc is = by (under_name entries name desc true) (under_name entries name desc false) refl refl
+  where
+    by : (r s : Option ℕ) → under_name entries name desc true ≡ r → under_name entries name desc false ≡ s → MatchOption (option_or r s) ((m : Method) → IsNamed name desc methods m → ⊥) (λ k. IsNamedAt name desc methods k)
+    by (Some i) s p q = named_there methods entries name desc true i is p
+    by None (Some i) p q = named_there methods entries name desc false i is q
+    by None None p q = none_named methods entries name desc is p q
 
 -- a verdict without two roots is one
 pub verdict_lacking : (f : ClassFile) (m : Method) (g : ClassFile) (p : Method) (v : Verdict) → LackRoots f m g p v → IsVerdictOn f m g p v

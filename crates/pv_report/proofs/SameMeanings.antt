@@ -8,8 +8,9 @@ use Rattle.pv_value.specs.declared.outcome.Outcome.{Outcome}
 use Rattle.pv_value.specs.declared.outcome.Val.TheVariants as val
 use Rattle.pv_value.specs.Descriptors.{IsMethodType}
 use Rattle.pv_value.specs.Worlds.{IsWorld}
-use Rattle.pv_value.specs.Inputs.{Fits}
-use Rattle.pv_value.proofs.Cited.{method_type_once}
+use Rattle.pv_value.specs.Inputs.{Fits, IsInput}
+use Rattle.pv_value.specs.declared.outcome.Val.{Val}
+use Rattle.pv_value.proofs.Cited.{fits_input, method_type_once}
 use Rattle.pv_class.specs.declared.file.ClassFile.{ClassFile}
 use Rattle.pv_class.specs.declared.file.Method.{Method}
 use Rattle.pv_pool.proofs.Cited.{IsBytes}
@@ -51,14 +52,22 @@ root_ends g root file m r d w x o bytes is fine fits =
     let v = solved file m a in
     method_converts file m a.program a.frames a.blocks a.forest a.shaped (λ code has. bytes_all code.bytes (bytes code has)) v.0 v.1 g root (none_of a.program.desc.result) (r.built v.0 v.1) w x fine (subst (λ (e : Descriptor). Fits e x) same fits) outside o
 
-pub same_meaning : (file : ClassFile) (m : Method) (other : ClassFile) (p : Method) (r : HaveRoots file m other p) → Alike r → p.desc ≡ m.desc → HasBytes m → HasBytes p → AreEquivalentMethods file m other p
-same_meaning file m other p r alike desc fm fp = record {
+-- two roots have the same values in every well-formed world, for every input
+abbrev pub HaveSameValues : Graph → ℕ → ℕ → Type 0
+HaveSameValues g a b = (w : World) (x : Input) → IsWorld w → IsInput x → (v : Val) → Value g w x a outside v ↔ Value g w x b outside v
+
+-- methods whose roots have the same values have the same meaning
+pub same_outcomes : (file : ClassFile) (m : Method) (other : ClassFile) (p : Method) (r : HaveRoots file m other p) → HaveSameValues r.graph r.root r.other → p.desc ≡ m.desc → HasBytes m → HasBytes p → AreEquivalentMethods file m other p
+same_outcomes file m other p r same desc fm fp = record {
   first = (r.one.form.program, program_of file m r.one.form);
   second = (r.two.form.program, program_of other p r.two.form);
   same = λ d is w fine input fits o.
       let is_other : IsMethodType p.desc d = subst (λ (text : List ℕ). IsMethodType text d) (sym desc) is in
       let first = root_ends r.graph r.root file m r.one d w input o fm is fine fits in
       let second = root_ends r.graph r.other other p r.two d w input o fp is_other fine fits in
-      let both = unfolds_value (form_at r.graph.nodes) (form_at r.graph.nodes) w input r.root r.other outside (val.End o) alike in
+      let both = same w input fine (fits_input d input fits) (val.End o) in
       (λ e. second.0 (both.0 (first.1 e)), λ e. first.0 (both.1 (second.1 e)));
 }
+
+pub same_meaning : (file : ClassFile) (m : Method) (other : ClassFile) (p : Method) (r : HaveRoots file m other p) → Alike r → p.desc ≡ m.desc → HasBytes m → HasBytes p → AreEquivalentMethods file m other p
+same_meaning file m other p r alike desc fm fp = same_outcomes file m other p r (λ w x fine input v. unfolds_value (form_at r.graph.nodes) (form_at r.graph.nodes) w x r.root r.other outside v alike) desc fm fp

@@ -1,6 +1,5 @@
 -- What is said of two files that were fetched.
 use Rattle.std.specs.Prelude.{◌≡◌, ◌<◌, ℕ, List, Some, Result, Ok, Err, length, slice_get}
-use Rattle.std.specs.List.{AllZip, flat_map}
 use Rattle.pv_class.specs.declared.file.Method.{Method}
 use Rattle.pv_class.specs.declared.file.ClassFile.{ClassFile}
 use Rattle.pv_class.specs.declared.fault.ClassFault.{ClassFault}
@@ -8,7 +7,6 @@ use Rattle.pv_class.specs.ClassFiles.{IsClass}
 use Rattle.pv_class.specs.Answers.{IsAnswer}
 use Rattle.pv_class.specs.declared.class.TheConstants.{LONGEST_FILE}
 use Rattle.pv_report.specs.declared.report.Fetched.{Fetched}
-use Rattle.pv_class.specs.declared.class.TheConstants.{LONGEST_FILE}
 use Rattle.pv_report.specs.declared.report.Fetched.TheVariants.{Bytes, TooLong}
 use Rattle.pv_report.specs.declared.report.Judgement.{Judgement}
 use Rattle.pv_report.specs.declared.report.Judgement.TheVariants as judgement
@@ -17,13 +15,18 @@ use Rattle.pv_alike.specs.Least.{Rooted}
 use Rattle.pv_report.specs.Roots.{HaveLeast}
 use Rattle.pv_report.specs.Verdicts.{LackRoots, IsVerdict, IsVerdictOn}
 use Rattle.pv_report.specs.Partners.{IsLike}
-use Rattle.pv_report.specs.Lines.{line_text}
-use Rattle.pv_report.specs.Report.{lines_of, AreEquivalent, Judged}
+use Rattle.pv_report.specs.Lines.{line_of}
+use Rattle.pv_report.specs.Listed.{AreLines}
+use Rattle.pv_report.specs.Report.{AreEquivalent, Judged}
 
--- a fetch of at most LONGEST_FILE bytes gave these bytes
+-- a fetch with this limit gave these bytes
+abbrev pub IsFetchedWithin : ℕ → Fetched → List ℕ → Type 0
+IsFetchedWithin limit (Bytes v) bytes = v.items ≡ bytes
+IsFetchedWithin limit TooLong bytes = limit < length bytes
+
+-- .. of a class file
 abbrev pub IsFetched : Fetched → List ℕ → Type 0
-IsFetched (Bytes v) bytes = v.items ≡ bytes
-IsFetched TooLong bytes = LONGEST_FILE < length bytes
+IsFetched fetched bytes = IsFetchedWithin LONGEST_FILE fetched bytes
 
 -- the class of the bytes that were fetched, or their fault
 abbrev pub ReadsFetched : Fetched → Result ClassFile ClassFault → Type 0
@@ -58,13 +61,16 @@ IsLeastOnPlaces first place second other found = (m p : Method) → slice_get fi
 abbrev pub IsLikeAt : Method → List Method → ℕ → Type 0
 IsLikeAt m others place = (p : Method) × (slice_get others place ≡ Some p) × IsLike m p
 
+-- the method at this place has this name and this descriptor
+abbrev pub IsNamedAt : List ℕ → List ℕ → List Method → ℕ → Type 0
+IsNamedAt name desc methods place = (m : Method) × (slice_get methods place ≡ Some m) × (m.name ≡ name) × (m.desc ≡ desc)
+
 -- the lines of methods of the first class with these verdicts
-pub record Told (first second : ClassFile) (methods : List Method) (verdicts : List Verdict) (text : List ℕ) : Type 0 where
-  pub each : AllZip (IsVerdict first second) methods verdicts
-  pub text_is : text ≡ flat_map line_text (lines_of methods verdicts)
+abbrev pub AreVerdicts : ClassFile → ClassFile → List Method → List Verdict → List ℕ → Type 0
+AreVerdicts first second methods verdicts text = AreLines (IsVerdict first second) line_of methods verdicts text
 
 -- the lines of all methods of the first class
 abbrev pub Compares : ClassFile → ClassFile → List ℕ → Judgement → Type 0
-Compares first second text judgement.AllEquivalent = (verdicts : List Verdict) × Told first second first.methods verdicts text × AreEquivalent verdicts
-Compares first second text judgement.Others = (verdicts : List Verdict) × Told first second first.methods verdicts text × (AreEquivalent verdicts → ⊥)
+Compares first second text judgement.AllEquivalent = (verdicts : List Verdict) × AreVerdicts first second first.methods verdicts text × AreEquivalent verdicts
+Compares first second text judgement.Others = (verdicts : List Verdict) × AreVerdicts first second first.methods verdicts text × (AreEquivalent verdicts → ⊥)
 Compares first second text judgement.BadClass = ⊥

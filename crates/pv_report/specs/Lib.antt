@@ -3,8 +3,8 @@ pub mod Partners
 pub mod Roots
 pub mod Verdicts
 pub mod Lines
+pub mod Listed
 pub mod Report
 pub mod Judging
-pub mod Laws
--- the vocabulary of private functions
 pub mod Partnering
+pub mod Laws

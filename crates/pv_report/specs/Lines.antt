@@ -63,9 +63,13 @@ verdict_text (verdict.Refused s cause) = codes "refused " ++ side_word s ++ code
 verdict_text verdict.Equivalent = codes "equivalent"
 verdict_text verdict.Apart = codes "unknown apart"
 
+-- what a line on a method begins with: its name and its descriptor
+abbrev pub method_text : List ℕ → List ℕ → List ℕ
+method_text name desc = shown name ++ codes " " ++ shown desc ++ codes " "
+
 -- what is said of a method, without the line feed
 abbrev pub line_of : Method → Verdict → List ℕ
-line_of m v = shown m.name ++ codes " " ++ shown m.desc ++ codes " " ++ verdict_text v
+line_of m v = method_text m.name m.desc ++ verdict_text v
 
 -- every line ends with one line feed
 abbrev pub line_text : List ℕ → List ℕ

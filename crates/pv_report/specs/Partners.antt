@@ -1,5 +1,5 @@
 -- The method of the other file that is compared with a method.
-use Rattle.std.specs.Prelude.{◌≡◌, List}
+use Rattle.std.specs.Prelude.{◌≡◌, ℕ, List}
 use Rattle.std.specs.List.{Contains}
 use Rattle.pv_class.specs.declared.file.Method.{Method}
 use Rattle.pv_frame.specs.Programs.{is_instance}
@@ -14,3 +14,9 @@ pub record IsLike (m other : Method) : Type 0 where
 pub record IsPartner (m : Method) (others : List Method) (partner : Method) : Type 0 where
   pub among : Contains others partner
   pub like : IsLike m partner
+
+-- a method of these with this name and this descriptor. No two methods of a class have both in common (JVMS 4.6)
+pub record IsNamed (name desc : List ℕ) (methods : List Method) (m : Method) : Type 0 where
+  pub among : Contains methods m
+  pub name_is : m.name ≡ name
+  pub desc_is : m.desc ≡ desc

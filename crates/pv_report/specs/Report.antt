@@ -1,5 +1,5 @@
 -- What is said of the bytes of two files, and how that went.
-use Rattle.std.specs.Prelude.{◌≡◌, ◌⊎◌, ℕ, List, [], ◌∷◌}
+use Rattle.std.specs.Prelude.{◌≡◌, ◌⊎◌, ℕ, List}
 use Rattle.std.specs.List.{AllByRecursion, AllZip, flat_map}
 use Rattle.pv_class.specs.declared.file.Method.{Method}
 use Rattle.pv_class.specs.declared.file.ClassFile.{ClassFile}
@@ -14,10 +14,10 @@ use Rattle.pv_report.specs.declared.report.Judgement.{Judgement}
 use Rattle.pv_report.specs.declared.report.Judgement.TheVariants as judgement
 use Rattle.pv_report.specs.Verdicts.{IsVerdict}
 use Rattle.pv_report.specs.Lines.{line_of, line_text, bad_class}
+use Rattle.pv_report.specs.Listed.{lines_by}
 
 abbrev pub lines_of : List Method → List Verdict → List (List ℕ)
-lines_of (m ∷ ms) (v ∷ vs) = line_of m v ∷ lines_of ms vs
-lines_of ms vs = []
+lines_of methods verdicts = lines_by line_of methods verdicts
 
 -- one line for each method of the first file, in its order, with these verdicts
 pub record IsReport (a b : List ℕ) (verdicts : List Verdict) (text : List ℕ) : Type 0 where

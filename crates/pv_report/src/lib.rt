@@ -8,7 +8,8 @@
 //! The layer above uses the clause of `judge`: the text and the judgement are those of the bytes that were fetched
 //! (`Judging`), and there is one of each (`judged_once` of `proofs/ReportOnce`). It uses that a method and its partner
 //! have the same meaning where the verdict is `Equivalent` (`same_meaning` of `proofs/SameMeanings`), and that a line
-//! determines its method (`law_lines`). `Partnering` is private to this crate.
+//! determines its method (`law_lines`). The report on a certificate uses the parts too: `class_in`, the places of methods
+//! (`Partners`, `named`, `partner_of`), the least graph of two methods' roots (`least_roots`), and what lines are made of.
 #![tactic(auto)]
 
 mod laws;
@@ -18,5 +19,7 @@ mod report;
 mod verdict;
 
 pub use laws::law_lines;
-pub use report::{Fetched, Judgement, judge};
+pub use line::{push_method, push_verdict, side_word};
+pub use partners::{Partners, named, partner_of};
+pub use report::{Fetched, Judgement, bad_class, class_in, judge};
 pub use verdict::{Side, Verdict, least_roots};

@@ -1,11 +1,12 @@
 //! The lines of a report.
 
 ghost use Rattle.std.specs.Prelude.{◌≡◌, ◌++◌, ◌<◌, OnOk};
-ghost use Rattle.pv_report.specs.Lines.{shown, shown_byte, hex_digit, side_word, kind_word, cause_text, verdict_text, line_of, line_text, pool_word, word_at, fault_text, bad_class};
+ghost use Rattle.pv_report.specs.Lines.{shown, shown_byte, hex_digit, side_word, kind_word, cause_text, verdict_text, method_text, line_of, line_text, pool_word, word_at, fault_text, bad_class};
 
 use crate::verdict::{Side, Verdict};
 use pv_class::{ClassFault, Method, PoolWord};
 use pv_frame::{Cause, CauseKind};
+use pv_value::Name;
 use std::alloc::{AllocError, Global};
 
 /// The line that says that a file has no reading, with its fault.
@@ -70,15 +71,23 @@ pub fn push_line(
 ) -> Result<(), AllocError>
     ensures { OnOk result (out.new.items ≡ out.old.items ++ line_text (line_of method.now verdict)) }
 {
-    push_shown(out, method.name.bytes())?;
-    out.extend_from_slice(b" ")?;
-    push_shown(out, method.desc.bytes())?;
-    out.extend_from_slice(b" ")?;
+    push_method(out, &method.name, &method.desc)?;
     push_verdict(alloc, out, verdict)?;
     out.extend_from_slice(b"\n")
 }
 
-fn push_verdict(alloc: Global, out: &mut Vec<u8>, verdict: Verdict) -> Result<(), AllocError>
+/// What a line on a method begins with.
+pub fn push_method(out: &mut Vec<u8>, name: &Name, desc: &Name) -> Result<(), AllocError>
+    ensures { OnOk result (out.new.items ≡ out.old.items ++ method_text name.now desc.now) }
+{
+    push_shown(out, name.bytes())?;
+    out.extend_from_slice(b" ")?;
+    push_shown(out, desc.bytes())?;
+    out.extend_from_slice(b" ")
+}
+
+/// The words of a verdict.
+pub fn push_verdict(alloc: Global, out: &mut Vec<u8>, verdict: Verdict) -> Result<(), AllocError>
     ensures { OnOk result (out.new.items ≡ out.old.items ++ verdict_text verdict) }
 {
     match verdict {
@@ -128,7 +137,8 @@ fn kind_word(kind: CauseKind) -> &'static [u8]
     }
 }
 
-fn side_word(side: Side) -> &'static [u8]
+/// `first` or `second`.
+pub fn side_word(side: Side) -> &'static [u8]
     ensures { result.now ≡ side_word side }
 {
     match side {

@@ -1,6 +1,7 @@
 //! What is said of two files.
 
 ghost use Rattle.std.specs.Prelude.{◌≡◌, ◌↔◌, IfOk, IsTrue};
+ghost use Rattle.pv_class.specs.Answers.{IsAnswer};
 ghost use Rattle.pv_report.specs.Lines.{bad_class};
 ghost use Rattle.pv_report.specs.Judging.{IsRead, ReadsFetched, JudgesFetched, Compares};
 
@@ -11,7 +12,7 @@ use pv_class::{ClassFault, ClassFile, LONGEST_FILE, read_class};
 use pv_value::Memory;
 use std::alloc::{AllocError, Global};
 
-/// What a fetch gave: the bytes of a file, or that there are more than `LONGEST_FILE` of them.
+/// What a fetch gave: the bytes of a file, or that there are more of them than its limit.
 #[derive(Drop)]
 pub enum Fetched {
     Bytes(Vec<u8>),
@@ -30,7 +31,7 @@ pub enum Judgement {
 }
 
 /// What is said of two files, and how that went: a line for each method of the first, in its order, or one line on the
-/// first of the two that is no class file.
+/// first of the two that is no class file. The limit of the fetches is `LONGEST_FILE`. Out of memory is the one error.
 pub fn judge(
     alloc: Global,
     first: &Fetched,
@@ -54,9 +55,16 @@ fn class_of(alloc: Global, fetched: &Fetched) -> Result<Result<ClassFile, ClassF
     ensures reads { IfOk result (λ read. ReadsFetched fetched.now read) }
     ensures class { IfOk result (λ read. IfOk read (λ file. IsRead file)) }
 {
-    let Fetched::Bytes(bytes) = fetched else {
-        return Ok(Err(ClassFault::TooLong(LONGEST_FILE)));
-    };
+    match fetched {
+        Fetched::Bytes(bytes) => class_in(alloc, bytes),
+        Fetched::TooLong => Ok(Err(ClassFault::TooLong(LONGEST_FILE))),
+    }
+}
+
+/// The class that some bytes are, or their fault. Out of memory is the one error.
+pub fn class_in(alloc: Global, bytes: &[u8]) -> Result<Result<ClassFile, ClassFault>, Memory>
+    ensures { IfOk result (λ read. IsAnswer bytes.now read) }
+{
     match read_class(alloc, bytes) {
         Ok(file) => Ok(Ok(file)),
         Err(fault) => match fault {
@@ -66,7 +74,8 @@ fn class_of(alloc: Global, fetched: &Fetched) -> Result<Result<ClassFile, ClassF
     }
 }
 
-fn bad_class(alloc: Global, side: Side, fault: ClassFault) -> Result<Vec<u8>, AllocError>
+/// The line on a file that is no class file. Out of memory is the one error.
+pub fn bad_class(alloc: Global, side: Side, fault: ClassFault) -> Result<Vec<u8>, AllocError>
     ensures { IfOk result (λ text. text.items ≡ bad_class side fault) }
 {
     let mut text = Vec::new(alloc);

@@ -6,7 +6,7 @@ ghost use Rattle.pv_alike.specs.Least.{IsLeastOf};
 ghost use Rattle.pv_report.specs.Roots.{IsWhole};
 ghost use Rattle.pv_report.specs.Verdicts.{HasCode};
 ghost use Rattle.pv_report.specs.Judging.{IsRead, IsLeastOnPlaces, IsVerdictAt, IsVerdictOnPlaces};
-ghost use Rattle.pv_report.specs.Partnering.{IsIndexOf};
+ghost use Rattle.pv_report.specs.Partnering.{IsIndexFor};
 
 use crate::partners::{Partners, partner_of};
 use pv_alike::{Least, least};
@@ -50,7 +50,7 @@ pub(crate) fn verdict_on(
     requires first { IsRead first.now }
     requires second { IsRead second.now }
     requires there { method < length first.now.methods }
-    requires partners { IsIndexOf second.now.methods (length second.now.methods) partners.now.places.entries }
+    requires partners { IsIndexFor second.now.methods partners.now }
     ensures { IfOk result (λ verdict. IsVerdictAt first.now method second.now verdict) }
 {
     let one = &first.methods.as_slice()[method];

@@ -1,2 +1,2 @@
 -- The laws that the proofs of other crates cite, from one place.
-pub use Rattle.pv_top.proofs.Answering.{each_equivalent}
+pub use Rattle.pv_top.proofs.Saying.{silent}

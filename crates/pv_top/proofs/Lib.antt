@@ -1,6 +1,11 @@
-pub mod WholeLines
 pub mod Decimals
+pub mod WholeLines
+pub mod Asking
 pub mod SaidLines
-pub mod Commands
+pub mod Saying
+pub mod Files
+pub mod ReportLines
+pub mod CertLines
 pub mod Answering
+pub mod Commands
 pub mod Cited

@@ -3,10 +3,10 @@ use Rattle.std.proofs.Common.{◌≡◌, ℕ, Bool, true, false, List, [], ◌�
 use Rattle.std.specs.Prelude.{codes, decimal, ◌==◌, ◌&&◌, not}
 use Rattle.std.specs.List.{AllZip, flat_map, Contains}
 use Rattle.std.proofs.lemmas.Bool.{eq-eqb}
+use Rattle.std.proofs.lemmas.List.{append-nil}
 use Rattle.std.proofs.lemmas.List.Concat.{flat_map-cons}
 use Rattle.std.proofs.lemmas.List.Elements.{Contains-append_right}
 use Rattle.pv_class.specs.declared.file.Method.{Method}
-use Rattle.pv_class.specs.declared.file.ClassFile.{ClassFile}
 use Rattle.pv_frame.specs.declared.cause.Cause.{Cause}
 use Rattle.pv_frame.specs.declared.cause.CauseKind.{CauseKind}
 use Rattle.pv_frame.specs.declared.cause.CauseKind.TheVariants as kind
@@ -14,9 +14,8 @@ use Rattle.pv_report.specs.declared.verdict.Side.{Side}
 use Rattle.pv_report.specs.declared.verdict.Side.TheVariants as side
 use Rattle.pv_report.specs.declared.verdict.Verdict.{Verdict}
 use Rattle.pv_report.specs.declared.verdict.Verdict.TheVariants as verdict
-use Rattle.pv_report.specs.Verdicts.{IsVerdict}
-use Rattle.pv_report.specs.Lines.{shown, kind_word, cause_text, side_word, verdict_text, line_of, line_text}
-use Rattle.pv_report.specs.Report.{lines_of}
+use Rattle.pv_report.specs.Lines.{shown, kind_word, cause_text, side_word, verdict_text, method_text, line_of, line_text}
+use Rattle.pv_report.specs.Listed.{lines_by}
 use Rattle.pv_top.specs.Promise.{IsLineOf, EndsWith}
 use Rattle.pv_top.proofs.WholeLines.{IsWhole, no_line_of_nothing, first_or_later}
 use Rattle.pv_top.proofs.Decimals.{last_digit, whole_decimal}
@@ -71,7 +70,7 @@ whole_cause cause =
     let word = kind_word cause.kind in
     whole_append (word ++ codes " at ") (decimal cause.at) (whole_append word (codes " at ") (whole_kind cause.kind) (tested (codes " at ") refl)) (whole_decimal cause.at)
 
-whole_verdict : (v : Verdict) → IsWhole (verdict_text v)
+pub whole_verdict : (v : Verdict) → IsWhole (verdict_text v)
 whole_verdict verdict.Missing = tested (codes "missing") refl
 whole_verdict (verdict.NoCode s) = whole_append (codes "nocode ") (side_word s) (tested (codes "nocode ") refl) (whole_side s)
 whole_verdict (verdict.Refused s cause) =
@@ -81,34 +80,45 @@ whole_verdict (verdict.Refused s cause) =
 whole_verdict verdict.Equivalent = tested (codes "equivalent") refl
 whole_verdict verdict.Apart = tested (codes "unknown apart") refl
 
-whole_line : (m : Method) (v : Verdict) → IsWhole (line_of m v)
-whole_line m v =
+-- what a line on a method begins with
+pub whole_method : (name desc : List ℕ) → IsWhole (method_text name desc)
+whole_method name desc =
     let blank = tested (codes " ") refl in
-    whole_append (shown m.name ++ codes " " ++ shown m.desc ++ codes " ") (verdict_text v)
-    (whole_append (shown m.name ++ codes " " ++ shown m.desc) (codes " ") (whole_append (shown m.name ++ codes " ") (shown m.desc) (whole_append (shown m.name) (codes " ") (whole_shown m.name) blank) (whole_shown m.desc)) blank)
-    (whole_verdict v)
+    whole_append (shown name ++ codes " " ++ shown desc) (codes " ") (whole_append (shown name ++ codes " ") (shown desc) (whole_append (shown name) (codes " ") (whole_shown name) blank) (whole_shown desc)) blank
 
--- ---- the line of a method among those of a report
+pub whole_line : (m : Method) (v : Verdict) → IsWhole (line_of m v)
+whole_line m v = whole_append (method_text m.name m.desc) (verdict_text v) (whole_method m.name m.desc) (whole_verdict v)
 
-pub record IsLineOfMethod (first second : ClassFile) (methods : List Method) (line : List ℕ) : Type 0 where
-  pub method : Method
-  pub among : Contains methods method
-  pub verdict : Verdict
-  pub is : IsVerdict first second method verdict
-  pub says : line ≡ line_of method verdict
+-- ---- a line among those of a report
 
-later : (first second : ClassFile) (m : Method) (methods : List Method) (line : List ℕ) → IsLineOfMethod first second methods line → IsLineOfMethod first second (m ∷ methods) line
-later first second m methods line l = record { method = l.method; among = Contains-append_right (m ∷ []) methods l.method l.among; verdict = l.verdict; is = l.is; says = l.says }
+pub record IsLineAmong {X Y : Type 0} (Is : X → Y → Type 0) (text_of : X → Y → List ℕ) (xs : List X) (line : List ℕ) : Type 0 where
+  pub thing : X
+  pub among : Contains xs thing
+  pub answer : Y
+  pub is : Is thing answer
+  pub says : line ≡ text_of thing answer
 
-pub line_of_method : (first second : ClassFile) (methods : List Method) (verdicts : List Verdict) (line : List ℕ) → AllZip (IsVerdict first second) methods verdicts → IsLineOf (flat_map line_text (lines_of methods verdicts)) line → IsLineOfMethod first second methods line
-line_of_method first second [] [] line each l = absurd (no_line_of_nothing line l)
-line_of_method first second [] (v ∷ verdicts) line each l = absurd each
-line_of_method first second (m ∷ methods) [] line each l = absurd each
-line_of_method first second (m ∷ methods) (v ∷ verdicts) line each l =
-    let parts : IsLineOf (line_text (line_of m v) ++ flat_map line_text (lines_of methods verdicts)) line = subst (λ (t : List ℕ). IsLineOf t line) (flat_map-cons line_text (line_of m v) (lines_of methods verdicts)) l in
-    elim (first_or_later (line_of m v) (flat_map line_text (lines_of methods verdicts)) line (whole_line m v) parts) [
-      | inl e ↦ record { method = m; among = (0, omega arith, refl); verdict = v; is = each.0; says = e }
-      | inr rest ↦ later first second m methods line (line_of_method first second methods verdicts line each.1 rest)
+later : {X Y : Type 0} (Is : X → Y → Type 0) (text_of : X → Y → List ℕ) (x : X) (xs : List X) (line : List ℕ) → IsLineAmong Is text_of xs line → IsLineAmong Is text_of (x ∷ xs) line
+later Is text_of x xs line l = record { thing = l.thing; among = Contains-append_right (x ∷ []) xs l.thing l.among; answer = l.answer; is = l.is; says = l.says }
+
+pub line_among : {X Y : Type 0} (Is : X → Y → Type 0) (text_of : X → Y → List ℕ) → ((x : X) (y : Y) → IsWhole (text_of x y)) → (xs : List X) (ys : List Y) (line : List ℕ) → AllZip Is xs ys → IsLineOf (flat_map line_text (lines_by text_of xs ys)) line → IsLineAmong Is text_of xs line
+line_among Is text_of whole [] [] line each l = absurd (no_line_of_nothing line l)
+line_among Is text_of whole [] (y ∷ ys) line each l = absurd each
+line_among Is text_of whole (x ∷ xs) [] line each l = absurd each
+line_among Is text_of whole (x ∷ xs) (y ∷ ys) line each l =
+    let parts : IsLineOf (line_text (text_of x y) ++ flat_map line_text (lines_by text_of xs ys)) line = subst (λ (t : List ℕ). IsLineOf t line) (flat_map-cons line_text (text_of x y) (lines_by text_of xs ys)) l in
+    elim (first_or_later (text_of x y) (flat_map line_text (lines_by text_of xs ys)) line (whole x y) parts) [
+      | inl e ↦ record { thing = x; among = (0, omega arith, refl); answer = y; is = each.0; says = e }
+      | inr rest ↦ later Is text_of x xs line (line_among Is text_of whole xs ys line each.1 rest)
+    ]
+
+-- the only line of a text
+pub line_only : (words line : List ℕ) → IsWhole words → IsLineOf (line_text words) line → line ≡ words
+line_only words line whole l =
+    let parts : IsLineOf (line_text words ++ []) line = subst (λ (t : List ℕ). IsLineOf t line) (sym (append-nil (line_text words))) l in
+    elim (first_or_later words [] line whole parts) [
+      | inl is ↦ is
+      | inr rest ↦ absurd (no_line_of_nothing line rest)
     ]
 
 -- ---- only one verdict ends a line in `equivalent`
@@ -134,7 +144,7 @@ last_two line front said word a b e f =
     two_last (said ++ word) (front ++ codes " equivale") a b 110 116
     (append_assoc said word (a ∷ b ∷ []) ∙ sym e ∙ f ∙ sym (append_assoc front (codes " equivale") (110 ∷ 116 ∷ [])))
 
-one_last : (xs ys : List ℕ) (a b : ℕ) → xs ++ a ∷ [] ≡ ys ++ b ∷ [] → a ≡ b
+pub one_last : (xs ys : List ℕ) (a b : ℕ) → xs ++ a ∷ [] ≡ ys ++ b ∷ [] → a ≡ b
 one_last [] [] a b e = cc e
 one_last [] (y ∷ []) a b e = absurd (cc e)
 one_last [] (y ∷ z ∷ ys) a b e = absurd (cc e)
@@ -150,22 +160,19 @@ digit_last line front said n e f =
     let low = d.3 in
     omega arith
 
--- what is said in front of the verdict
-abbrev front_of : Method → List ℕ
-front_of m = shown m.name ++ codes " " ++ shown m.desc ++ codes " "
-
-refused_apart : (m : Method) (s : Side) (cause : Cause) (line front : List ℕ) → line ≡ line_of m (verdict.Refused s cause) → line ≡ front ++ codes " equivalent" → ⊥
-refused_apart m s cause line front says ends =
+refused_apart : (start : List ℕ) (s : Side) (cause : Cause) (line front : List ℕ) → line ≡ start ++ verdict_text (verdict.Refused s cause) → line ≡ front ++ codes " equivalent" → ⊥
+refused_apart start s cause line front says ends =
     let said = codes "refused " ++ side_word s ++ codes " " in
     let word = kind_word cause.kind ++ codes " at " in
     let number = decimal cause.at in
-    let whole : line ≡ (front_of m ++ (said ++ word)) ++ number = says ∙ ap (λ (t : List ℕ). front_of m ++ t) (sym (append_assoc said word number)) ∙ sym (append_assoc (front_of m) (said ++ word) number) in
-    digit_last line front (front_of m ++ (said ++ word)) cause.at whole ends
+    let whole : line ≡ (start ++ (said ++ word)) ++ number = says ∙ ap (λ (t : List ℕ). start ++ t) (sym (append_assoc said word number)) ∙ sym (append_assoc start (said ++ word) number) in
+    digit_last line front (start ++ (said ++ word)) cause.at whole ends
 
-pub only_equivalent : (m : Method) (v : Verdict) (line : List ℕ) → line ≡ line_of m v → EndsWith line (codes " equivalent") → v ≡ verdict.Equivalent
-only_equivalent m verdict.Missing line says ends = absurd (differ 103 116 refl ((last_two line ends.0 (front_of m) (codes "missi") 110 103 says ends.1).1))
-only_equivalent m (verdict.NoCode side.First) line says ends = absurd (differ 115 110 refl ((last_two line ends.0 (front_of m) (codes "nocode fir") 115 116 says ends.1).0))
-only_equivalent m (verdict.NoCode side.Second) line says ends = absurd (differ 100 116 refl ((last_two line ends.0 (front_of m) (codes "nocode seco") 110 100 says ends.1).1))
-only_equivalent m (verdict.Refused s cause) line says ends = absurd (refused_apart m s cause line ends.0 says ends.1)
-only_equivalent m verdict.Equivalent line says ends = refl
-only_equivalent m verdict.Apart line says ends = absurd (differ 114 110 refl ((last_two line ends.0 (front_of m) (codes "unknown apa") 114 116 says ends.1).0))
+-- after whatever begins the line
+pub only_equivalent : (start : List ℕ) (v : Verdict) (line : List ℕ) → line ≡ start ++ verdict_text v → EndsWith line (codes " equivalent") → v ≡ verdict.Equivalent
+only_equivalent start verdict.Missing line says ends = absurd (differ 103 116 refl ((last_two line ends.0 start (codes "missi") 110 103 says ends.1).1))
+only_equivalent start (verdict.NoCode side.First) line says ends = absurd (differ 115 110 refl ((last_two line ends.0 start (codes "nocode fir") 115 116 says ends.1).0))
+only_equivalent start (verdict.NoCode side.Second) line says ends = absurd (differ 100 116 refl ((last_two line ends.0 start (codes "nocode seco") 110 100 says ends.1).1))
+only_equivalent start (verdict.Refused s cause) line says ends = absurd (refused_apart start s cause line ends.0 says ends.1)
+only_equivalent start verdict.Equivalent line says ends = refl
+only_equivalent start verdict.Apart line says ends = absurd (differ 114 110 refl ((last_two line ends.0 start (codes "unknown apa") 114 116 says ends.1).0))

@@ -1,9 +1,10 @@
 //! How a run of the program ended.
 
 ghost use Rattle.std.specs.Prelude.{◌≡◌};
-ghost use Rattle.pv_top.specs.Statuses.{number_of, status_of};
+ghost use Rattle.pv_top.specs.Statuses.{number_of, ruling_status, status_of};
 
 use pv_report::Judgement;
+use pv_sections::Ruling;
 
 /// How a run of the program ended. Its number is the exit status.
 #[derive(Clone, Copy, Debug, PartialEq, Eq)]
@@ -14,7 +15,7 @@ pub enum Status {
     Others,
     /// A fetched file is no class file, and the sink took the line that says so.
     BadClass,
-    /// A certificate has no reading, or names other files. No command reads one yet.
+    /// A certificate has no reading, or names another file, and the sink took the line that says so.
     BadCert,
     /// The words are no command, and the sink took the line that says so.
     BadWords,
@@ -35,6 +36,18 @@ impl Status {
             Judgement::AllEquivalent => Status::AllEquivalent,
             Judgement::Others => Status::Others,
             Judgement::BadClass => Status::BadClass,
+        }
+    }
+
+    /// The status that goes with a report on a certificate.
+    pub(crate) fn of_ruling(ruling: Ruling) -> Status
+        ensures { result ≡ ruling_status ruling }
+    {
+        match ruling {
+            Ruling::AllEquivalent => Status::AllEquivalent,
+            Ruling::Others => Status::Others,
+            Ruling::BadClass => Status::BadClass,
+            Ruling::BadCert => Status::BadCert,
         }
     }
 

@@ -8,7 +8,16 @@ ghost use Rattle.pv_top.specs.Commands.{IsCommand};
 #[derive(Clone, Copy, Debug)]
 pub enum Command<'a> {
     /// Compare two class files.
-    Validate { first: &'a str, second: &'a str },
+    Validate {
+        first: &'a str,
+        second: &'a str,
+    },
+    /// Check a certificate for two class files.
+    Check {
+        first: &'a str,
+        second: &'a str,
+        cert: &'a str,
+    },
 }
 
 /// The command that the words are, None where they are none.
@@ -20,6 +29,23 @@ pub fn read_words<'a>(words: &[&'a str]) -> Option<Command<'a>>
             let (command, first, second): (&str, &str, &str) = (*command, *first, *second);
             if command == "validate" && is_file_name(first) && is_file_name(second) {
                 Some(Command::Validate { first, second })
+            } else {
+                None
+            }
+        }
+        [command, first, second, cert] => {
+            let (command, first): (&str, &str) = (*command, *first);
+            let (second, cert): (&str, &str) = (*second, *cert);
+            if command == "check"
+                && is_file_name(first)
+                && is_file_name(second)
+                && is_file_name(cert)
+            {
+                Some(Command::Check {
+                    first,
+                    second,
+                    cert,
+                })
             } else {
                 None
             }

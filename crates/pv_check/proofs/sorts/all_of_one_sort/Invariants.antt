@@ -1,12 +1,7 @@
-use Rattle.std.proofs.Common.{◌≡◌, ◌↔◌, drop, false}
+use Rattle.std.proofs.Common.{◌↔◌, drop}
 use Rattle.std.specs.List.{AllByRecursion}
 use Rattle.pv_steps.specs.Right.{AreOfOneSort}
-use Rattle.pv_check.specs.Sorts.{IsWider}
 use Rattle.pv_check.proofs.sorts.all_of_one_sort.Given as goal
 
 abbrev pub invariant-loop-pair : goal.invariant-loop-pair
-invariant-loop-pair l = record {
-  wider : IsWider l.graph l.probe;
-  sealed : l.probe.is_open ≡ false;
-  pairs : AllByRecursion (AreOfOneSort l.graph) l.pairs ↔ AllByRecursion (AreOfOneSort l.graph) (drop l.pair-index l.pairs);
-}
+invariant-loop-pair l = AllByRecursion (AreOfOneSort l.graph) l.pairs ↔ AllByRecursion (AreOfOneSort l.graph) (drop l.pair-index l.pairs)

@@ -1,0 +1,92 @@
+//! Calls of `pv_check`.
+//!
+//! | Line | Answer |
+//! |---|---|
+//! | `section BYTES; METHOD ..; METHOD ..` | for each section of the certificate whether it is accepted over the least graph of the roots of two methods, the first of each class, or the step for which it is rejected; or the verdict on the two where they don't both have a root, or the fault of the certificate |
+//!
+//! `samples` says how a METHOD is written, and what may stand before it.
+
+ghost use Rattle.std.specs.Prelude.{◌≡◌, ◌<◌, IfOk, false, length};
+ghost use Rattle.pv_report.specs.Judging.{IsRead};
+
+use cases_files::samples::class_of;
+use cases_words::answers::{Answer, List, NoAnswer, shown};
+use cases_words::bench::{Bench, words};
+use pv_alike::Least;
+use pv_axioms::Axioms;
+use pv_cert::{CertFault, Section, read_cert};
+use pv_check::check;
+use pv_class::{ClassFault, ClassFile, read_class};
+use pv_report::{Verdict, least_roots};
+use pv_value::Memory;
+use std::alloc::Global;
+
+/// `section BYTES; METHOD ..; METHOD ..`
+pub fn section(bench: &Bench, rest: &str) -> Answer {
+    let alloc = bench.alloc();
+    let (bytes, methods) = rest.split_once(';').ok_or(NoAnswer::Unreadable)?;
+    let (first, second) = methods.split_once(';').ok_or(NoAnswer::Unreadable)?;
+    let cert = match read_cert(alloc, &bench.bytes(bytes)?) {
+        Ok(cert) => cert,
+        Err(CertFault::Memory) => return Err(NoAnswer::Memory),
+        Err(fault) => return shown(alloc, fault),
+    };
+    let first = with_method(bench, first)?;
+    let second = with_method(bench, second)?;
+    match first_roots(alloc, &first, &second)? {
+        Ok(roots) => checked(alloc, &roots, cert.sections.as_slice()),
+        Err(verdict) => shown(alloc, verdict),
+    }
+}
+
+// What is answered on each section over a least graph.
+fn checked(alloc: Global, roots: &Least, sections: &[Section]) -> Answer
+    requires { roots.now.graph.is_open ≡ false }
+{
+    let axioms = Axioms::new(alloc)?;
+    let mut list = List::new(alloc);
+    for section in sections {
+        let answer = check(alloc, &axioms, roots, section.steps.as_slice())?;
+        list.add(shown(alloc, answer)?.as_str())?;
+    }
+    list.into_text()
+}
+
+// The least graph of the roots of the first methods of two classes, or the verdict where they don't both have a root.
+fn first_roots(
+    alloc: Global,
+    first: &ClassFile,
+    second: &ClassFile,
+) -> Result<Result<Least, Verdict>, Memory>
+    requires first { IsRead first.now }
+    requires second { IsRead second.now }
+    requires method { 0 < length first.now.methods }
+    requires partner { 0 < length second.now.methods }
+    ensures { IfOk result (λ found. IfOk found (λ roots. roots.graph.is_open ≡ false)) }
+{
+    least_roots(alloc, first, 0, second, 0)
+}
+
+// The class with the methods that words write, of which there is one.
+fn with_method(bench: &Bench, text: &str) -> Result<ClassFile, NoAnswer>
+    ensures read { IfOk result (λ class. IsRead class) }
+    ensures method { IfOk result (λ class. 0 < length class.methods) }
+{
+    let alloc = bench.alloc();
+    let class = read(alloc, &class_of(bench, &words(alloc, text)?)?)?;
+    if class.methods.as_slice().is_empty() {
+        Err(NoAnswer::Unreadable)
+    } else {
+        Ok(class)
+    }
+}
+
+fn read(alloc: Global, bytes: &[u8]) -> Result<ClassFile, NoAnswer>
+    ensures { IfOk result (λ class. IsRead class) }
+{
+    match read_class(alloc, bytes) {
+        Ok(class) => Ok(class),
+        Err(ClassFault::Memory) => Err(NoAnswer::Memory),
+        Err(_) => Err(NoAnswer::Unreadable),
+    }
+}

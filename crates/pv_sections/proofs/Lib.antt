@@ -1,0 +1,4 @@
+pub mod Accepted
+pub mod Found
+pub mod Rulings
+pub mod Cited

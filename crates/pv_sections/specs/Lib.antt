@@ -1,0 +1,6 @@
+-- what public contracts and laws say
+pub mod Findings
+pub mod Flaws
+pub mod Lines
+pub mod Ruled
+pub mod Reading

@@ -1,0 +1,90 @@
+//! The lines of a report on a certificate.
+
+ghost use Rattle.std.specs.Prelude.{◌≡◌, ◌++◌, IfOk, OnOk, decimal};
+ghost use Rattle.hex.specs.Hex.{encode_lower};
+ghost use Rattle.pv_report.specs.Lines.{line_text};
+ghost use Rattle.pv_sections.specs.Lines.{bad_certificate, cert_fault_text, finding_text, flaw_text, section_line};
+
+use crate::finding::Finding;
+use crate::flaw::Flaw;
+use pv_cert::{CertFault, Section};
+use pv_report::{push_method, push_verdict, side_word};
+use std::alloc::{AllocError, Global};
+
+/// What is said of a section, and a line feed.
+pub(crate) fn push_section(
+    alloc: Global,
+    out: &mut Vec<u8>,
+    section: &Section,
+    finding: Finding,
+) -> Result<(), AllocError>
+    ensures { OnOk result (out.new.items ≡ out.old.items ++ line_text (section_line section.now finding)) }
+{
+    push_method(out, &section.name, &section.desc)?;
+    push_finding(alloc, out, finding)?;
+    out.extend_from_slice(b"\n")
+}
+
+fn push_finding(alloc: Global, out: &mut Vec<u8>, finding: Finding) -> Result<(), AllocError>
+    ensures { OnOk result (out.new.items ≡ out.old.items ++ finding_text finding) }
+{
+    match finding {
+        Finding::Verdict(verdict) => push_verdict(alloc, out, verdict),
+        Finding::Rejected(n) => push_number(alloc, out, b"rejected ", n),
+    }
+}
+
+// A word with its blank, and a number.
+fn push_number(alloc: Global, out: &mut Vec<u8>, word: &[u8], n: usize) -> Result<(), AllocError>
+    ensures { OnOk result (out.new.items ≡ out.old.items ++ word.now ++ decimal n) }
+{
+    out.extend_from_slice(word)?;
+    let n = format!(in alloc; "{n}")?;
+    out.extend_from_slice(n.as_bytes())
+}
+
+/// The line on a certificate that is not one for the two files.
+pub(crate) fn bad_certificate(alloc: Global, flaw: Flaw) -> Result<Vec<u8>, AllocError>
+    ensures { IfOk result (λ text. text.items ≡ bad_certificate flaw) }
+{
+    let mut text = Vec::new(alloc);
+    text.extend_from_slice(b"bad certificate ")?;
+    push_flaw(alloc, &mut text, flaw)?;
+    text.extend_from_slice(b"\n")?;
+    Ok(text)
+}
+
+fn push_flaw(alloc: Global, out: &mut Vec<u8>, flaw: Flaw) -> Result<(), AllocError>
+    ensures { OnOk result (out.new.items ≡ out.old.items ++ flaw_text flaw) }
+{
+    match flaw {
+        Flaw::TooLong => out.extend_from_slice(b"too-long"),
+        Flaw::Unread(fault) => push_cert_fault(alloc, out, fault),
+        Flaw::OtherFile(side, written, actual) => {
+            out.extend_from_slice(side_word(side))?;
+            out.extend_from_slice(b" ")?;
+            push_digest(alloc, out, &written)?;
+            out.extend_from_slice(b" ")?;
+            push_digest(alloc, out, &actual)
+        }
+    }
+}
+
+fn push_cert_fault(alloc: Global, out: &mut Vec<u8>, fault: CertFault) -> Result<(), AllocError>
+    ensures { OnOk result (out.new.items ≡ out.old.items ++ cert_fault_text fault) }
+{
+    match fault {
+        CertFault::Truncated => out.extend_from_slice(b"truncated"),
+        CertFault::Header => out.extend_from_slice(b"header"),
+        CertFault::Step(n) => push_number(alloc, out, b"line ", n),
+        CertFault::Memory => out.extend_from_slice(b"out of memory"),
+    }
+}
+
+// A digest in lower-case hexadecimal digits.
+fn push_digest(alloc: Global, out: &mut Vec<u8>, digest: &[u8]) -> Result<(), AllocError>
+    ensures { OnOk result (out.new.items ≡ out.old.items ++ encode_lower digest.now) }
+{
+    let text = hex::encode(alloc, digest)?;
+    out.extend_from_slice(text.as_bytes())
+}

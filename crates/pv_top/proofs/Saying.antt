@@ -1,0 +1,105 @@
+-- What the sink took of a text, and the status that goes with it.
+use Rattle.std.proofs.Common.{◌≡◌, ◌≢◌, ℕ, Bool, true, false, List, [], ◌∷◌, ◌++◌, take, drop, Option, Some, inl, inr, refl, sym, ap, subst, ◌∙◌}
+use Rattle.std.specs.Prelude.{codes}
+use Rattle.std.proofs.lemmas.List.{append_cancel_left, append-nil, take-append-drop}
+use Rattle.pv_base.specs.Stored.{Stored}
+use Rattle.pv_base.specs.Outside.{more}
+use Rattle.pv_report.specs.declared.report.Judgement.{Judgement}
+use Rattle.pv_report.specs.declared.report.Judgement.TheVariants as judgement
+use Rattle.pv_sections.specs.declared.report.Ruling.{Ruling}
+use Rattle.pv_sections.specs.declared.report.Ruling.TheVariants as ruling
+use Rattle.pv_top.specs.declared.status.Status.{Status}
+use Rattle.pv_top.specs.declared.status.Status.TheVariants as status
+use Rattle.pv_top.specs.Statuses.{status_of, ruling_status}
+use Rattle.pv_top.specs.Run.{Puts, Says, Answered}
+use Rattle.pv_top.specs.Promise.{IsLineOf, EndsWith, HaveOneMeaning, EachEquivalent}
+use Rattle.pv_top.proofs.Asking.{more_nothing}
+use Rattle.pv_top.proofs.WholeLines.{no_line_of_nothing, line_of_front}
+
+-- what is said was put, or had nothing in it
+as_put : (old new : Option (List ℕ)) (text : List ℕ) (meant result : Status) (rose : Type 0) → Says old new text meant result rose → Puts old new text meant result rose
+as_put old new [] meant result rose says = inl (says.0, says.1 ∙ more_nothing old)
+as_put old new (b ∷ text) meant result rose says = says
+
+-- ---- statuses
+
+-- the status of a command that said something
+abbrev pub is_said : Status → Bool
+is_said status.ReadFault = false
+is_said status.Memory = false
+is_said s = true
+
+pub judged_said : (j : Judgement) → is_said (status_of j) ≡ true
+judged_said judgement.AllEquivalent = refl
+judged_said judgement.Others = refl
+judged_said judgement.BadClass = refl
+
+pub ruled_said : (r : Ruling) → is_said (ruling_status r) ≡ true
+ruled_said ruling.AllEquivalent = refl
+ruled_said ruling.Others = refl
+ruled_said ruling.BadClass = refl
+ruled_said ruling.BadCert = refl
+
+pub result_said : (old new : Option (List ℕ)) (text : List ℕ) (meant result : Status) (rose : Type 0) → is_said meant ≡ true → Says old new text meant result rose → is_said result ≡ true
+result_said old new text meant result rose is says =
+    elim (as_put old new text meant result rose says) [
+      | inl s ↦ ap is_said s.0 ∙ is
+      | inr s ↦ ap is_said s.0
+    ]
+
+pub no_read_fault : (s : Status) → is_said s ≡ true → s ≢ status.ReadFault
+no_read_fault s is e = let no : is_said s ≡ false = ap is_said e in cc (is, no)
+
+pub answered_said : (old new : Option (List ℕ)) (read_rose : Type 0) (result : Status) (said : Type 0) → is_said result ≡ true → said → Answered old new read_rose result said
+answered_said old new read_rose status.ReadFault said is it = absurd (cc is)
+answered_said old new read_rose status.Memory said is it = absurd (cc is)
+answered_said old new read_rose status.AllEquivalent said is it = it
+answered_said old new read_rose status.Others said is it = it
+answered_said old new read_rose status.BadClass said is it = it
+answered_said old new read_rose status.BadCert said is it = it
+answered_said old new read_rose status.BadWords said is it = it
+answered_said old new read_rose status.WriteFault said is it = it
+
+-- ---- each whole line that says `equivalent`
+
+-- what was taken is a front of what was said
+taken_front : (before taken text : List ℕ) (old new : Option (List ℕ)) (meant result : Status) (rose : Type 0) → old ≡ Some before → new ≡ Some (before ++ taken) → Puts old new text meant result rose → (rest : List ℕ) × (text ≡ taken ++ rest)
+taken_front before taken text old new meant result rose p q (inl s) =
+    let grown : ◌≡◌ {A = Option (List ℕ)} (Some (before ++ taken)) (Some (before ++ text)) = sym q ∙ s.1 ∙ ap (λ (o : Option (List ℕ)). more o text) p in
+    let same : taken ≡ text = append_cancel_left before taken text (cc grown) in
+    ([], sym (append-nil taken ∙ same))
+taken_front before taken text old new meant result rose p q (inr s) =
+    let n = s.2.0 in
+    let grown : ◌≡◌ {A = Option (List ℕ)} (Some (before ++ taken)) (Some (before ++ take n text)) = sym q ∙ s.2.1 ∙ ap (λ (o : Option (List ℕ)). more o (take n text)) p in
+    let same : taken ≡ take n text = append_cancel_left before taken (take n text) (cc grown) in
+    (drop n text, sym (take-append-drop n text) ∙ ap (λ (t : List ℕ). t ++ drop n text) (sym same))
+
+-- each whole line of a text that says `equivalent` is true
+abbrev pub IsTrueOf : Option Stored → List ℕ → List ℕ → List ℕ → Type 0
+IsTrueOf held a b text = (line : List ℕ) → IsLineOf text line → EndsWith line (codes " equivalent") → HaveOneMeaning held a b line
+
+-- what was taken of such a text is true
+pub said_lines : (held : Option Stored) (a b : List ℕ) (old new : Option (List ℕ)) (text : List ℕ) (meant result : Status) (rose : Type 0) → Says old new text meant result rose → IsTrueOf held a b text → EachEquivalent held a b old new
+said_lines held a b old new text meant result rose says is before taken line p q l ends =
+    let front = taken_front before taken text old new meant result rose p q (as_put old new text meant result rose says) in
+    is line (line_of_front text taken front.0 line front.1 l) ends
+
+nothing_taken : (old new : Option (List ℕ)) (before taken : List ℕ) → new ≡ old → old ≡ Some before → new ≡ Some (before ++ taken) → taken ≡ []
+nothing_taken old new before taken e p q =
+    let same : ◌≡◌ {A = Option (List ℕ)} (Some (before ++ taken)) (Some (before ++ [])) = sym q ∙ e ∙ p ∙ ap Some (sym (append-nil before)) in
+    append_cancel_left before taken [] (cc same)
+
+-- nothing was said
+pub silent : (held : Option Stored) (a b : List ℕ) (old new : Option (List ℕ)) → new ≡ old → EachEquivalent held a b old new
+silent held a b old new e before taken line p q l ends = absurd (no_line_of_nothing line (subst (λ (t : List ℕ). IsLineOf t line) (nothing_taken old new before taken e p q) l))
+
+-- so it is under every answer, if it is where something was said
+pub each_equivalent : (held : Option Stored) (a b : List ℕ) (old new : Option (List ℕ)) (read_rose : Type 0) (result : Status) (said : Type 0) → (said → EachEquivalent held a b old new) → Answered old new read_rose result said → EachEquivalent held a b old new
+each_equivalent held a b old new read_rose status.ReadFault said by h = silent held a b old new h.1
+each_equivalent held a b old new read_rose status.Memory said by h = silent held a b old new h
+each_equivalent held a b old new read_rose status.AllEquivalent said by h = by h
+each_equivalent held a b old new read_rose status.Others said by h = by h
+each_equivalent held a b old new read_rose status.BadClass said by h = by h
+each_equivalent held a b old new read_rose status.BadCert said by h = by h
+each_equivalent held a b old new read_rose status.BadWords said by h = by h
+each_equivalent held a b old new read_rose status.WriteFault said by h = by h

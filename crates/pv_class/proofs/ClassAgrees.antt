@@ -2,10 +2,10 @@
 use Rattle.std.proofs.Common.{◌≡◌, ℕ, ◌+◌, ◌≤◌, List, [], ◌++◌, length, drop, refl, sym, ap, subst, ◌∙◌, append_assoc, arith}
 use Rattle.std.proofs.lemmas.List.{length-append, append-nil, drop_at}
 use Rattle.pv_pool.specs.Pools.{IsPoolText, IsPoolAt}
-use Rattle.pv_pool.proofs.Cited.{IsBytes, bytes_after}
+use Rattle.pv_format.proofs.Cited.{IsBytes, bytes_after}
 use Rattle.pv_class.specs.declared.class.TheConstants.{LONGEST_FILE}
 use Rattle.pv_class.specs.declared.file.ClassFile.{ClassFile}
-use Rattle.pv_class.specs.Grammars.{Takes}
+use Rattle.pv_format.specs.Grammars.{Takes}
 use Rattle.pv_class.specs.ClassGrammar.{head, tail}
 use Rattle.pv_class.specs.Items.{u2, u4, Items, file_text}
 use Rattle.pv_class.specs.ClassFiles.{Describes, IsClass}

@@ -1,7 +1,7 @@
 -- The bytes of a class file are those of no other, and there is one answer to a file.
 use Rattle.std.proofs.Common.{◌≡◌, ℕ, List, [], drop, Result, sym, ap, ◌∙◌}
 use Rattle.pv_pool.specs.declared.entry.Entry.{Entry}
-use Rattle.pv_pool.proofs.Cited.{IsBytes}
+use Rattle.pv_format.proofs.Cited.{IsBytes, takes_read}
 use Rattle.pv_class.specs.declared.file.Method.{Method}
 use Rattle.pv_class.specs.declared.file.ClassFile.{ClassFile}
 use Rattle.pv_class.specs.declared.fault.ClassFault.{ClassFault}
@@ -14,7 +14,6 @@ use Rattle.pv_class.specs.ClassFaults.{fault_at, IsOfPool, IsBad, too_long, in_h
 use Rattle.pv_class.specs.ClassGrammar.{head, tail}
 use Rattle.pv_class.specs.ClassFiles.{IsClass}
 use Rattle.pv_class.specs.Answers.{IsAnswer}
-use Rattle.pv_class.proofs.Readings.{takes_read}
 use Rattle.pv_class.proofs.ClassAgrees.{takes_class}
 use Rattle.pv_class.proofs.Outcomes.{file_of, one_tail, one_reading, is_comes, comes_once}
 

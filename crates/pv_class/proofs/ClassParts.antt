@@ -6,11 +6,14 @@ use Rattle.pv_class.specs.declared.file.Method.{Method}
 use Rattle.pv_class.specs.declared.fault.Cause.TheVariants as cause
 use Rattle.pv_class.specs.declared.fault.Failure.{Failure}
 use Rattle.pv_class.specs.declared.fault.Stop.{Stop}
-use Rattle.pv_class.specs.Checks.{holds, class, class_or_none}
-use Rattle.pv_class.specs.Grammars.{Grammar, give, here, check, bind, u2, times, table, failure}
+use Rattle.pv_format.specs.Grammars.{holds, give, here, check, bind, times}
+use Rattle.pv_class.specs.Checks.{class, class_or_none}
+use Rattle.pv_class.specs.Grammars.{Grammar, u2, table, failure}
 use Rattle.pv_class.specs.ClassGrammar.{in_file, index, interface, skipped, field, all_methods, class_front, class_end, tail}
-use Rattle.pv_class.specs.Reading.{read, Fails, Gives}
-use Rattle.pv_class.proofs.Grammars.{read_then, read_give, fails_first, fails_as}
+use Rattle.pv_format.specs.GrammarReading.{read}
+use Rattle.pv_class.specs.Reading.{Fails, Gives}
+use Rattle.pv_format.proofs.Cited.{read_then, read_give}
+use Rattle.pv_class.proofs.Stopping.{fails_first, fails_as}
 
 -- ---- two parts of which the second is returned
 

@@ -5,16 +5,17 @@ use Rattle.std.proofs.lemmas.Bool.{and_parts, and_from, eq-eqb, eqb-true, leb-tr
 use Rattle.std.proofs.lemmas.List.{append-nil}
 use Rattle.pv_pool.specs.declared.entry.Entry.{Entry}
 use Rattle.pv_pool.specs.Pools.{HasText, HasClass}
-use Rattle.pv_pool.proofs.Cited.{Then, Done}
+use Rattle.pv_format.proofs.Cited.{Then, Done, same_texts, then_texts, check_texts, here_texts, give_texts, then_takes, takes_then, Follow, joined, ended}
 use Rattle.pv_class.specs.declared.file.Method.{Method}
 use Rattle.pv_class.specs.declared.fault.Cause.TheVariants as cause
-use Rattle.pv_class.specs.Checks.{holds, class, class_or_none}
-use Rattle.pv_class.specs.Grammars.{Grammar, give, here, check, bind, Takes, failure}
+use Rattle.pv_format.specs.Grammars.{holds, give, here, check, bind, Takes}
+use Rattle.pv_class.specs.Checks.{class, class_or_none}
+use Rattle.pv_class.specs.Grammars.{Grammar, failure}
 use Rattle.pv_class.specs.Grammars as grammar
 use Rattle.pv_class.specs.ClassGrammar.{in_file, skipped, interface, field, all_methods, head, class_front, class_end, tail}
 use Rattle.pv_class.specs.Items.{u2, u4, IsU2, table, IsTable, Attribute, attribute_text, FitsAttribute, MemberInfo, member_text, FitsMemberInfo}
 use Rattle.pv_class.specs.ClassFiles.{IsField, IsMethod, AreDistinct}
-use Rattle.pv_class.proofs.Takings.{IsTexts, same_texts, then_texts, check_texts, here_texts, give_texts, then_takes, takes_then, Follow, with_u2, with_u4, joined, ended, Table, table_texts}
+use Rattle.pv_class.proofs.Takings.{IsTexts, with_u2, with_u4, Table, table_texts}
 use Rattle.pv_class.proofs.ItemTexts.{both_of, of_both, IsIndex, with_index, IsAttribute, attributes_texts, IsInterface, interface_texts, IsPlainField, field_texts}
 use Rattle.pv_class.proofs.MethodLists.{AreMethods, all_methods_texts}
 
@@ -230,11 +231,14 @@ then_as g k l bytes y rest change h = let o = then_takes g k bytes y rest h in t
 abbrev ending : List Method → Grammar (List Method)
 ending ms = here λ left. check (holds (eqb left 0)) (failure cause.Trailing left) (give ms)
 
-ending_given : (ms : List Method) (bytes : List ℕ) (all : List Method) (rest : List ℕ) → Takes (ending ms) bytes all rest → Takes (give ms) bytes all rest
+abbrev given : List Method → Grammar (List Method)
+given ms = give ms
+
+ending_given : (ms : List Method) (bytes : List ℕ) (all : List Method) (rest : List ℕ) → Takes (ending ms) bytes all rest → Takes (given ms) bytes all rest
 unfolding Takes
 ending_given ms bytes all rest h = h.1
 
-given_ending : (ms : List Method) (bytes : List ℕ) (all : List Method) → Takes (give ms) bytes all [] → Takes (ending ms) bytes all []
+given_ending : (ms : List Method) (bytes : List ℕ) (all : List Method) → Takes (given ms) bytes all [] → Takes (ending ms) bytes all []
 unfolding Takes
 given_ending ms bytes all h = (eq-eqb (length bytes) 0 (ap length (sym h.1)), h)
 

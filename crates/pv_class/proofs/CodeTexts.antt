@@ -4,18 +4,17 @@ use Rattle.std.proofs.lemmas.Bool.{and_parts, and_from, eq-eqb, eqb-true, leb-tr
 use Rattle.std.proofs.lemmas.List.{length-append, append-nil}
 use Rattle.pv_pool.specs.declared.entry.Entry.{Entry}
 use Rattle.pv_pool.specs.Pools.{HasText}
-use Rattle.std.specs.Int.{w32}
-use Rattle.pv_pool.proofs.Cited.{IsBytes, bytes_after, Then, Done, wide32}
+use Rattle.pv_format.proofs.Cited.{IsBytes, bytes_after, Then, Done, same_texts, then_texts, check_texts, give_texts, then_takes, takes_then, Follow, itself, HasLength, joined, ended}
 use Rattle.pv_class.specs.declared.room.Room.{Room}
 use Rattle.pv_class.specs.declared.file.Code.{Code}
 use Rattle.pv_class.specs.declared.fault.Cause.TheVariants as cause
-use Rattle.pv_class.specs.Checks.{holds}
-use Rattle.pv_class.specs.Grammars.{Grammar, give, here, check, bind, Takes, failure}
+use Rattle.pv_format.specs.Grammars.{holds, give, here, check, bind, Takes}
+use Rattle.pv_class.specs.Grammars.{Grammar, failure}
 use Rattle.pv_class.specs.Grammars as grammar
 use Rattle.pv_class.specs.ClassGrammar.{in_file, in_code, skipped, handler, code_front, code_contents, code}
 use Rattle.pv_class.specs.Items.{u2, u4, IsU2, table, attribute_text, FitsAttribute, handler_text, FitsHandler, CodeItems, code_text}
 use Rattle.pv_class.specs.ClassFiles.{HoldsCode}
-use Rattle.pv_class.proofs.Takings.{IsTexts, same_texts, then_texts, check_texts, give_texts, then_takes, takes_then, number_texts, Follow, with_u2, with_u4, with_run, IsU4, itself, HasLength, joined, ended, Table, table_texts}
+use Rattle.pv_class.proofs.Takings.{IsTexts, u4_texts, with_u2, with_u4, with_run, IsU4, Table, table_texts}
 use Rattle.pv_class.proofs.ItemTexts.{both_of, of_both, contents_text, Short, IsAttribute, handler_texts, attributes_texts}
 
 -- ---- up to the exception table
@@ -216,7 +215,7 @@ unfolding Takes code
 code_takes pool start bytes c rest fits h =
     let o = then_takes (grammar.u4 in_file) (sized pool start) bytes c rest h in
     let size = o.0 in
-    let p = (number_texts in_file w32 wide32).takes bytes size o.1 fits o.2 in
+    let p = (u4_texts in_file).takes bytes size o.1 fits o.2 in
     let left = length o.1 in
     let b = body_taken pool (in_code start size left) start size left o.1 c rest o.3 in
     let q = (body_texts pool (in_code start size left) start).takes o.1 c rest (bytes_after bytes p.0 o.1 p.1 fits) b.0 in
@@ -235,7 +234,7 @@ code_again pool start t c rest s =
     let len : length more ≡ size + length rest = length-append contents rest in
     let room = in_code start size left in
     let enough : room.after ≤ length rest = omega (arith, in_code_after start size left (omega arith)) in
-    let first : Takes (grammar.u4 in_file) (u4 size ++ more) size more = (number_texts in_file w32 wide32).again (u4 size) size more (refl, s.2) (omega arith) in
+    let first : Takes (grammar.u4 in_file) (u4 size ++ more) size more = (u4_texts in_file).again (u4 size) size more (refl, s.2) (omega arith) in
     let e : t ++ rest ≡ u4 size ++ more = ap (λ (u : List ℕ). u ++ rest) s.1 ∙ append_assoc (u4 size) contents rest in
     let P : List ℕ → Type 0 = λ u. Takes (grammar.u4 in_file) u size more in
     let read = (body_texts pool room start).again contents c rest (s.3, s.4) enough in

@@ -6,11 +6,13 @@ use Rattle.pv_class.specs.declared.room.Room.{Room}
 use Rattle.pv_class.specs.declared.file.Code.{Code}
 use Rattle.pv_class.specs.declared.fault.Cause.TheVariants as cause
 use Rattle.pv_class.specs.declared.fault.Stop.{Stop}
-use Rattle.pv_class.specs.Checks.{holds}
-use Rattle.pv_class.specs.Grammars.{Grammar, give, here, check, bind, table, failure}
+use Rattle.pv_format.specs.Grammars.{holds, give, here, check, bind}
+use Rattle.pv_class.specs.Grammars.{Grammar, table, failure}
 use Rattle.pv_class.specs.ClassGrammar.{code_front, code_contents, handler, skipped}
-use Rattle.pv_class.specs.Reading.{read, Fails}
-use Rattle.pv_class.proofs.Grammars.{read_then, fails_first, fails_as}
+use Rattle.pv_format.specs.GrammarReading.{read}
+use Rattle.pv_class.specs.Reading.{Fails}
+use Rattle.pv_format.proofs.Cited.{read_then}
+use Rattle.pv_class.proofs.Stopping.{fails_first, fails_as}
 
 abbrev pub Front : Type 0
 Front = ℕ × ℕ × List ℕ

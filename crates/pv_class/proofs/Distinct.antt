@@ -7,7 +7,7 @@ use Rattle.pv_class.specs.declared.file.Method.{Method}
 use Rattle.pv_class.specs.declared.signature.Signature.{Signature}
 use Rattle.pv_class.specs.ClassGrammar.{signature, signatures}
 use Rattle.pv_class.specs.ClassFiles.{AreDistinct}
-use Rattle.pv_class.proofs.Deciding.{same_signature}
+use Rattle.pv_class.specs.CheckLaws.{same_signature}
 
 -- each of the methods is new after these
 abbrev pub Fresh : List Method → List Method → Type 0

@@ -1,16 +1,17 @@
 -- Worked examples: the class of one method `f ()I` whose code is iconst_1, ireturn, its items and a run of it; runs of a sum and a difference of two arguments.
-use Rattle.std.proofs.Common.{◌≡◌, ◌∷◌, [], List, ℕ, ℤ, pos, negsuc, Some, false, refl, subst, rules, lit≤, inl, inr}
+use Rattle.std.proofs.Common.{◌≡◌, ◌∷◌, [], List, ℕ, Some, refl}
 use Rattle.std.specs.Prelude.{codes, ◌++◌, drop, take, Ok, Err}
 use Rattle.pv_pool.specs.declared.entry.Entry.{Entry}
 use Rattle.pv_pool.specs.declared.entry.Entry.TheVariants.{Utf8, Class}
 use Rattle.pv_pool.specs.Pools.{spelling}
 use Rattle.pv_class.specs.declared.file.Method.{Method}
 use Rattle.pv_class.specs.declared.fault.Cause.TheVariants as cause
-use Rattle.pv_class.specs.Grammars.{failure, bind, times}
+use Rattle.pv_format.specs.Grammars.{bind, times}
+use Rattle.pv_class.specs.Grammars.{failure}
 use Rattle.pv_class.specs.ClassGrammar as grammar
 use Rattle.pv_class.specs.Deciding.{after_params}
 use Rattle.pv_value.specs.Reading.{field_at}
-use Rattle.pv_class.specs.Reading.{read}
+use Rattle.pv_format.specs.GrammarReading.{read}
 use Rattle.pv_class.specs.Items.{Items, CodeItems, code_text, file_text}
 use Rattle.pv_class.specs.ClassFiles.{code_of}
 

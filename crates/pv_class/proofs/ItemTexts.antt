@@ -8,19 +8,20 @@ use Rattle.pv_pool.specs.declared.entry.Entry.{Entry}
 use Rattle.pv_pool.specs.declared.entry.Entry.TheVariants.{Utf8}
 use Rattle.pv_pool.specs.Pools.{entry_under, HasText, HasClass}
 use Rattle.pv_pool.specs.Readers.{◌>>=◌, text_of, text_under}
-use Rattle.pv_pool.proofs.Cited.{Done, Then}
+use Rattle.pv_format.proofs.Cited.{Done, Then, same_texts, then_texts, check_texts, here_texts, give_texts, Follow, follow_texts, itself, HasLength, joined, ended, One}
 use Rattle.pv_class.specs.declared.room.Room.{Room}
 use Rattle.pv_class.specs.declared.member.MemberHead as front
 use Rattle.pv_class.specs.declared.member.MemberKind.{MemberKind}
 use Rattle.pv_class.specs.declared.member.MemberKind.TheVariants as kind
 use Rattle.pv_class.specs.declared.fault.Cause.TheVariants as cause
-use Rattle.pv_class.specs.Checks.{Check, Passes, utf8, class}
-use Rattle.pv_class.specs.Grammars.{Grammar, bind, failure}
+use Rattle.pv_format.specs.Grammars.{Test, bind}
+use Rattle.pv_class.specs.Checks.{utf8, class}
+use Rattle.pv_class.specs.Grammars.{Grammar, failure}
 use Rattle.pv_class.specs.Grammars as grammar
 use Rattle.pv_class.specs.ClassGrammar.{in_file, index, contents, skipped, interface, handler, member, field, typed, text_at, or_nothing}
 use Rattle.pv_class.specs.Items.{u2, u4, IsU2, table, Attribute, attribute_text, FitsAttribute, MemberInfo, member_text, FitsMemberInfo, Handler, handler_text, FitsHandler}
 use Rattle.pv_class.specs.ClassFiles.{IsField}
-use Rattle.pv_class.proofs.Takings.{IsTexts, same_texts, then_texts, check_texts, here_texts, give_texts, Follow, follow_texts, with_u2, with_u4, with_run, IsU4, itself, HasLength, joined, ended, One, Table, table_texts}
+use Rattle.pv_class.proofs.Takings.{IsTexts, with_u2, with_u4, with_run, IsU4, Table, table_texts}
 
 -- ---- what holds of all
 
@@ -53,20 +54,20 @@ text_is pool i text e = (text, entry_is (entry_under pool i) text e)
 
 -- ---- an index
 
-abbrev pub IsIndex : (ℕ → Check) → ℕ → Type 0
-IsIndex kind i = IsU2 i × Passes (kind i)
+abbrev pub IsIndex : (ℕ → Test) → ℕ → Type 0
+IsIndex kind i = IsU2 i × (kind i).Holds
 
-index_texts : (room : Room) (kind : ℕ → Check) → IsTexts (index room kind) room (λ t i. (t ≡ u2 i) × IsIndex kind i)
+index_texts : (room : Room) (kind : ℕ → Test) → IsTexts (index room kind) room (λ t i. (t ≡ u2 i) × IsIndex kind i)
 unfolding index
 index_texts room kind =
-    let T : ℕ → List ℕ → ℕ → Type 0 = λ i t x. Passes (kind i) × Done i t x in
+    let T : ℕ → List ℕ → ℕ → Type 0 = λ i t x. (kind i).Holds × Done i t x in
     same_texts (here_texts (λ left. with_u2 room T (λ i. check_texts (kind i) (failure cause.Reference left) (give_texts i))))
     (λ t x s.
     let P : ℕ → Type 0 = λ i. (t ≡ u2 i) × IsIndex kind i in
     subst P (sym s.4.1.1) (ended (u2 s.0) s.2 s.4.1.0, (s.3, s.4.0)))
     (λ t x s. (x, [], s.0 ∙ sym (append-nil (u2 x)), s.1.0, (s.1.1, (refl, refl))))
 
-pub with_index : {B : Type 0} {k : ℕ → Grammar B} (room : Room) (kind : ℕ → Check) (T : ℕ → List ℕ → B → Type 0) → ((n : ℕ) → IsTexts (k n) room (T n)) → IsTexts (bind (index room kind) k) room (Follow u2 (IsIndex kind) T)
+pub with_index : {B : Type 0} {k : ℕ → Grammar B} (room : Room) (kind : ℕ → Test) (T : ℕ → List ℕ → B → Type 0) → ((n : ℕ) → IsTexts (k n) room (T n)) → IsTexts (bind (index room kind) k) room (Follow u2 (IsIndex kind) T)
 with_index room kind T r = follow_texts u2 (IsIndex kind) T (index_texts room kind) r
 
 -- ---- attributes that are skipped
@@ -157,13 +158,13 @@ pub record IsFront (k : MemberKind) (pool : List Entry) (t : List ℕ) (m : fron
   pub flags : IsU2 m.flags
   pub name : IsIndex (utf8 pool) m.name
   pub desc : IsIndex (utf8 pool) m.desc
-  pub typed : Passes (typed k (text_at pool m.desc))
+  pub typed : (typed k (text_at pool m.desc)).Holds
 
 pub member_texts : (k : MemberKind) (pool : List Entry) → IsTexts (member k pool) in_file (IsFront k pool)
 unfolding member
 member_texts k pool =
     let made : ℕ → ℕ → ℕ → front.MemberHead = λ flags name desc. record { flags = flags; name = name; desc = desc } in
-    let T3 : ℕ → ℕ → ℕ → List ℕ → front.MemberHead → Type 0 = λ flags name desc t m. Passes (typed k (text_at pool desc)) × Done (made flags name desc) t m in
+    let T3 : ℕ → ℕ → ℕ → List ℕ → front.MemberHead → Type 0 = λ flags name desc t m. (typed k (text_at pool desc)).Holds × Done (made flags name desc) t m in
     let T2 : ℕ → ℕ → List ℕ → front.MemberHead → Type 0 = λ flags name. Follow u2 (IsIndex (utf8 pool)) (T3 flags name) in
     let T1 : ℕ → List ℕ → front.MemberHead → Type 0 = λ flags. Follow u2 (IsIndex (utf8 pool)) (T2 flags) in
     same_texts (here_texts (λ left. with_u2 in_file T1 (λ flags. with_index in_file (utf8 pool) (T2 flags) (λ name. with_index in_file (utf8 pool) (T3 flags name) (λ desc. check_texts (typed k (text_at pool desc)) (failure cause.Descriptor left) (give_texts (made flags name desc)))))))

@@ -1,11 +1,10 @@
 pub mod Outcomes
-pub mod Readings
 pub mod ClassParts
 pub mod MethodReads
 pub mod MethodAttributes
 pub mod Codes
 pub mod Deciding
-pub mod Grammars
+pub mod Stopping
 pub mod Takings
 pub mod ItemTexts
 pub mod CodeTexts

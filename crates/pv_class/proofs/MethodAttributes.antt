@@ -5,10 +5,13 @@ use Rattle.pv_class.specs.declared.file.Code.{Code}
 use Rattle.pv_class.specs.declared.fault.Cause.TheVariants as cause
 use Rattle.pv_class.specs.declared.fault.Stop.{Stop}
 use Rattle.pv_class.specs.Checks.{utf8}
-use Rattle.pv_class.specs.Grammars.{Grammar, give, bind, failure}
+use Rattle.pv_format.specs.Grammars.{give, bind}
+use Rattle.pv_class.specs.Grammars.{Grammar, failure}
 use Rattle.pv_class.specs.ClassGrammar.{in_file, index, contents, code, is_code, attribute_named, attribute, attributes}
-use Rattle.pv_class.specs.Reading.{read, Fails}
-use Rattle.pv_class.proofs.Grammars.{read_then, read_give, fails_first, fails_as}
+use Rattle.pv_format.specs.GrammarReading.{read}
+use Rattle.pv_class.specs.Reading.{Fails}
+use Rattle.pv_format.proofs.Cited.{read_then, read_give}
+use Rattle.pv_class.proofs.Stopping.{fails_first, fails_as}
 
 -- ---- an attribute
 

@@ -6,22 +6,22 @@ use Rattle.pv_value.specs.declared.descriptor.Descriptor.{Descriptor}
 use Rattle.pv_value.specs.Descriptors.{IsMethodType}
 use Rattle.pv_pool.specs.declared.entry.Entry.{Entry}
 use Rattle.pv_pool.specs.Pools.{HasText}
-use Rattle.pv_pool.proofs.Cited.{Then, Done}
+use Rattle.pv_format.proofs.Cited.{Then, Done, same_texts, then_texts, check_texts, here_texts, give_texts, Follow, joined, ended}
 use Rattle.pv_class.specs.declared.member.MemberHead as front
 use Rattle.pv_class.specs.declared.member.MemberKind.TheVariants as kind
 use Rattle.pv_class.specs.declared.file.Code.{Code}
 use Rattle.pv_class.specs.declared.file.Method.{Method}
 use Rattle.pv_class.specs.declared.signature.Signature.{Signature}
 use Rattle.pv_class.specs.declared.fault.Cause.TheVariants as cause
-use Rattle.pv_class.specs.Checks.{Passes, new}
+use Rattle.pv_class.specs.Checks.{new}
 use Rattle.pv_class.specs.Grammars.{failure}
 use Rattle.pv_class.specs.ClassGrammar.{in_file, text_at, signature_of, method_of, signature, signatures, method, methods, all_methods}
 use Rattle.pv_class.specs.Items.{u2, IsU2, table, IsTable, attribute_text, FitsAttribute, MemberInfo, member_text, FitsMemberInfo}
 use Rattle.pv_class.specs.ClassFiles.{IsMethod, AreDistinct}
-use Rattle.pv_class.proofs.Takings.{IsTexts, same_texts, then_texts, check_texts, here_texts, give_texts, Follow, with_u2, joined, ended}
+use Rattle.pv_class.proofs.Takings.{IsTexts, with_u2}
 use Rattle.pv_class.proofs.ItemTexts.{both_of, of_both, text_found, text_read, text_is, IsFront, member_texts, with_attributes, front_of, front_text, member_parts}
 use Rattle.pv_class.proofs.MethodTexts.{KeepAll, kept_texts, code_among, among_threads}
-use Rattle.pv_class.proofs.Deciding.{same_signature}
+use Rattle.pv_class.specs.CheckLaws.{same_signature}
 use Rattle.pv_class.proofs.Distinct.{Fresh, fresh_distinct, distinct_fresh}
 
 -- ---- a method
@@ -34,7 +34,7 @@ abbrev AfterFront : List Entry → front.MemberHead → List ℕ → Method → 
 AfterFront pool m = Follow u2 IsU2 (λ n. Then (Option Code) Method (KeepAll pool None n) (λ code. Done (method_of pool m code)))
 
 abbrev Parts : List Entry → List Signature → List ℕ → Method → Type 0
-Parts pool seen = Then front.MemberHead Method (IsFront kind.Method pool) (λ m t y. Passes (new seen (signature_of pool m)) × AfterFront pool m t y)
+Parts pool seen = Then front.MemberHead Method (IsFront kind.Method pool) (λ m t y. (new seen (signature_of pool m)).Holds × AfterFront pool m t y)
 
 to_new : (pool : List Entry) (seen : List Signature) (t : List ℕ) (y : Method) → Parts pool seen t y → IsNew pool seen t y
 to_new pool seen t y s =

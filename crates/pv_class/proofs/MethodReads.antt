@@ -10,11 +10,13 @@ use Rattle.pv_class.specs.declared.fault.Cause.TheVariants as cause
 use Rattle.pv_class.specs.declared.fault.Failure.{Failure}
 use Rattle.pv_class.specs.declared.fault.Stop.{Stop}
 use Rattle.pv_class.specs.Checks.{new}
-use Rattle.pv_class.specs.Deciding.{passes}
-use Rattle.pv_class.specs.Grammars.{Grammar, give, check, bind, u2, failure}
+use Rattle.pv_format.specs.Grammars.{give, check, bind}
+use Rattle.pv_class.specs.Grammars.{Grammar, u2, failure}
 use Rattle.pv_class.specs.ClassGrammar.{in_file, member, attributes, signature_of, method_of, method, signature, signatures, methods}
-use Rattle.pv_class.specs.Reading.{read, Fails}
-use Rattle.pv_class.proofs.Grammars.{read_then, read_give, fails_first, fails_as}
+use Rattle.pv_format.specs.GrammarReading.{read}
+use Rattle.pv_class.specs.Reading.{Fails}
+use Rattle.pv_format.proofs.Cited.{read_then, read_give}
+use Rattle.pv_class.proofs.Stopping.{fails_first, fails_as}
 
 -- ---- a method
 
@@ -35,31 +37,31 @@ read_member : (pool : List Entry) (seen : List Signature) (bytes rest : List ℕ
 unfolding method read
 read_member pool seen bytes rest m e = read_then (member kind.Method pool) (λ m. after_member pool seen (length bytes) m) bytes m rest e
 
-check_passed : {A : Type 0} (seen : List Signature) (s : Signature) (f : Failure) (g : Grammar A) (bytes : List ℕ) → passes (new seen s) ≡ true → read (check (new seen s) f g) bytes ≡ read g bytes
+check_passed : {A : Type 0} (seen : List Signature) (s : Signature) (f : Failure) (g : Grammar A) (bytes : List ℕ) → (new seen s).tells ≡ true → read (check (new seen s) f g) bytes ≡ read g bytes
 unfolding read
 check_passed seen s f g bytes e = rw e refl
 
-check_failed : {A : Type 0} (seen : List Signature) (s : Signature) (f : Failure) (g : Grammar A) (bytes : List ℕ) → passes (new seen s) ≡ false → read (check (new seen s) f g) bytes ≡ Err f
+check_failed : {A : Type 0} (seen : List Signature) (s : Signature) (f : Failure) (g : Grammar A) (bytes : List ℕ) → (new seen s).tells ≡ false → read (check (new seen s) f g) bytes ≡ Err f
 unfolding read
 check_failed seen s f g bytes e = rw e refl
 
-pub duplicate : (pool : List Entry) (seen : List Signature) (bytes rest : List ℕ) (m : MemberHead) → read (member kind.Method pool) bytes ≡ Ok (m, rest) → passes (new seen (signature_of pool m)) ≡ false → read (method pool seen) bytes ≡ Err (failure cause.Duplicate (length bytes))
+pub duplicate : (pool : List Entry) (seen : List Signature) (bytes rest : List ℕ) (m : MemberHead) → read (member kind.Method pool) bytes ≡ Ok (m, rest) → (new seen (signature_of pool m)).tells ≡ false → read (method pool seen) bytes ≡ Err (failure cause.Duplicate (length bytes))
 duplicate pool seen bytes rest m e old = read_member pool seen bytes rest m e ∙ check_failed seen (signature_of pool m) (failure cause.Duplicate (length bytes)) (after_check pool m) rest old
 
-read_check : (pool : List Entry) (seen : List Signature) (bytes rest : List ℕ) (m : MemberHead) → read (member kind.Method pool) bytes ≡ Ok (m, rest) → passes (new seen (signature_of pool m)) ≡ true → read (method pool seen) bytes ≡ read (after_check pool m) rest
+read_check : (pool : List Entry) (seen : List Signature) (bytes rest : List ℕ) (m : MemberHead) → read (member kind.Method pool) bytes ≡ Ok (m, rest) → (new seen (signature_of pool m)).tells ≡ true → read (method pool seen) bytes ≡ read (after_check pool m) rest
 read_check pool seen bytes rest m e fresh = read_member pool seen bytes rest m e ∙ check_passed seen (signature_of pool m) (failure cause.Duplicate (length bytes)) (after_check pool m) rest fresh
 
-pub count_fails : (pool : List Entry) (seen : List Signature) (bytes rest : List ℕ) (m : MemberHead) (s : Stop) → read (member kind.Method pool) bytes ≡ Ok (m, rest) → passes (new seen (signature_of pool m)) ≡ true → Fails s (read (u2 in_file) rest) → Fails s (read (method pool seen) bytes)
+pub count_fails : (pool : List Entry) (seen : List Signature) (bytes rest : List ℕ) (m : MemberHead) (s : Stop) → read (member kind.Method pool) bytes ≡ Ok (m, rest) → (new seen (signature_of pool m)).tells ≡ true → Fails s (read (u2 in_file) rest) → Fails s (read (method pool seen) bytes)
 count_fails pool seen bytes rest m s e fresh h = fails_as s _ _ (read_check pool seen bytes rest m e fresh) (fails_first (u2 in_file) (λ n. after_count pool m n) rest s h)
 
-read_count : (pool : List Entry) (seen : List Signature) (bytes rest more : List ℕ) (m : MemberHead) (n : ℕ) → read (member kind.Method pool) bytes ≡ Ok (m, rest) → passes (new seen (signature_of pool m)) ≡ true → read (u2 in_file) rest ≡ Ok (n, more) → read (method pool seen) bytes ≡ read (after_count pool m n) more
+read_count : (pool : List Entry) (seen : List Signature) (bytes rest more : List ℕ) (m : MemberHead) (n : ℕ) → read (member kind.Method pool) bytes ≡ Ok (m, rest) → (new seen (signature_of pool m)).tells ≡ true → read (u2 in_file) rest ≡ Ok (n, more) → read (method pool seen) bytes ≡ read (after_count pool m n) more
 read_count pool seen bytes rest more m n e fresh f = read_check pool seen bytes rest m e fresh ∙ read_then (u2 in_file) (λ n. after_count pool m n) rest n more f
 
-pub code_fails : (pool : List Entry) (seen : List Signature) (bytes rest more : List ℕ) (m : MemberHead) (n : ℕ) (s : Stop) → read (member kind.Method pool) bytes ≡ Ok (m, rest) → passes (new seen (signature_of pool m)) ≡ true → read (u2 in_file) rest ≡ Ok (n, more) → Fails s (read (attributes pool n None) more)
+pub code_fails : (pool : List Entry) (seen : List Signature) (bytes rest more : List ℕ) (m : MemberHead) (n : ℕ) (s : Stop) → read (member kind.Method pool) bytes ≡ Ok (m, rest) → (new seen (signature_of pool m)).tells ≡ true → read (u2 in_file) rest ≡ Ok (n, more) → Fails s (read (attributes pool n None) more)
     → Fails s (read (method pool seen) bytes)
 code_fails pool seen bytes rest more m n s e fresh f h = fails_as s _ _ (read_count pool seen bytes rest more m n e fresh f) (fails_first (attributes pool n None) (λ code. give (method_of pool m code)) more s h)
 
-pub method_reads : (pool : List Entry) (seen : List Signature) (bytes rest more end : List ℕ) (m : MemberHead) (n : ℕ) (code : Option Code) → read (member kind.Method pool) bytes ≡ Ok (m, rest) → passes (new seen (signature_of pool m)) ≡ true → read (u2 in_file) rest ≡ Ok (n, more)
+pub method_reads : (pool : List Entry) (seen : List Signature) (bytes rest more end : List ℕ) (m : MemberHead) (n : ℕ) (code : Option Code) → read (member kind.Method pool) bytes ≡ Ok (m, rest) → (new seen (signature_of pool m)).tells ≡ true → read (u2 in_file) rest ≡ Ok (n, more)
     → read (attributes pool n None) more ≡ Ok (code, end) → read (method pool seen) bytes ≡ Ok (method_of pool m code, end)
 method_reads pool seen bytes rest more end m n code e fresh f h =
     read_count pool seen bytes rest more m n e fresh f ∙ read_then (attributes pool n None) (λ code. give (method_of pool m code)) more code end h ∙ read_give (method_of pool m code) end
@@ -91,8 +93,8 @@ methods_end pool n i so_far bytes le = let e : n - i ≡ 0 = omega arith in ap (
 
 -- ---- with equal signatures
 
-pub put_as : (seen : List Signature) (s t : Signature) (is_new b : Bool) → s ≡ t → is_new ≡ passes (new seen s) → is_new ≡ b → passes (new seen t) ≡ b
-put_as seen s t is_new b e f g = ap (λ (x : Signature). passes (new seen x)) (sym e) ∙ sym f ∙ g
+pub put_as : (seen : List Signature) (s t : Signature) (is_new b : Bool) → s ≡ t → is_new ≡ (new seen s).tells → is_new ≡ b → (new seen t).tells ≡ b
+put_as seen s t is_new b e f g = ap (λ (x : Signature). (new seen x).tells) (sym e) ∙ sym f ∙ g
 
 pub fails_seen : (pool : List Entry) (seen other : List Signature) (bytes : List ℕ) (s : Stop) → seen ≡ other → Fails s (read (method pool seen) bytes) → Fails s (read (method pool other) bytes)
 fails_seen pool seen other bytes s e h = subst (λ (x : List Signature). Fails s (read (method pool x) bytes)) e h

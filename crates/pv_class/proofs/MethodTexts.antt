@@ -6,15 +6,16 @@ use Rattle.std.proofs.lemmas.List.{append-nil}
 use Rattle.std.proofs.lemmas.Slice.Eq.{bytes_eq-Decides}
 use Rattle.pv_pool.specs.declared.entry.Entry.{Entry}
 use Rattle.pv_pool.specs.Readers.{text_under}
-use Rattle.pv_pool.proofs.Cited.{Then, Done}
+use Rattle.pv_format.proofs.Cited.{Then, Done, same_texts, then_texts, check_texts, here_texts, give_texts, joined, ended}
 use Rattle.pv_class.specs.declared.file.Code.{Code}
 use Rattle.pv_class.specs.declared.fault.Cause.TheVariants as cause
-use Rattle.pv_class.specs.Checks.{utf8, holds}
+use Rattle.pv_format.specs.Grammars.{holds}
+use Rattle.pv_class.specs.Checks.{utf8}
 use Rattle.pv_class.specs.Grammars.{failure}
 use Rattle.pv_class.specs.ClassGrammar.{in_file, or_nothing, text_at, is_code, attribute_named, attribute, attributes}
 use Rattle.pv_class.specs.Items.{u2, Attribute, attribute_text, CodeItems}
 use Rattle.pv_class.specs.ClassFiles.{code_word, IsCodeAttribute, HoldsCode, OneCode, CodeAmong}
-use Rattle.pv_class.proofs.Takings.{IsTexts, same_texts, then_texts, check_texts, here_texts, give_texts, joined, ended}
+use Rattle.pv_class.proofs.Takings.{IsTexts}
 use Rattle.pv_class.proofs.ItemTexts.{contents_text, Short, contents_texts, with_index, IsAttribute, text_read}
 use Rattle.pv_class.proofs.CodeTexts.{code_texts}
 

@@ -6,13 +6,14 @@ use Rattle.pv_pool.specs.declared.fault.PoolFault.{PoolFault}
 use Rattle.pv_pool.specs.declared.fault.PoolFault.TheVariants as fault
 use Rattle.pv_pool.specs.Pools.{IsPoolAt}
 use Rattle.pv_pool.specs.Faults as pool
-use Rattle.pv_pool.proofs.Cited.{IsBytes, one_answer, one_pool}
+use Rattle.pv_format.proofs.Cited.{IsBytes, read_takes, takes_read, read_stops, stops_read}
+use Rattle.pv_pool.proofs.Cited.{one_answer, one_pool}
 use Rattle.pv_class.specs.declared.class.TheConstants.{LONGEST_FILE}
 use Rattle.pv_class.specs.declared.file.Method.{Method}
 use Rattle.pv_class.specs.declared.file.ClassFile.{ClassFile}
 use Rattle.pv_class.specs.declared.fault.PoolWord.TheVariants as word
 use Rattle.pv_class.specs.declared.fault.Failure.{Failure}
-use Rattle.pv_class.specs.Grammars.{bind, Takes}
+use Rattle.pv_format.specs.Grammars.{bind, Takes}
 use Rattle.pv_class.specs.ClassGrammar.{head, tail}
 use Rattle.pv_class.specs.ClassFaults.{fault_of, IsOfPool, HasHead, IsBad, too_long, in_head, in_pool, in_tail}
 use Rattle.pv_class.specs.declared.fault.ClassFault.{ClassFault}
@@ -22,8 +23,8 @@ use Rattle.pv_class.specs.declared.fault.Stop.TheVariants.{Failed, Memory}
 use Rattle.pv_pool.specs.Answers.{Answers}
 use Rattle.pv_class.specs.Answers.{IsAnswer, UnlessMemory}
 use Rattle.pv_class.specs.Answers as answers
-use Rattle.pv_class.specs.Reading.{read, Fails, fault_in, of_pool}
-use Rattle.pv_class.proofs.Readings.{read_takes, takes_read, read_stops, stops_read}
+use Rattle.pv_format.specs.GrammarReading.{read}
+use Rattle.pv_class.specs.Reading.{Fails, fault_in, of_pool}
 use Rattle.pv_class.proofs.ClassAgrees.{takes_class, class_taken}
 
 abbrev pub HeadRead : List ℕ → Type 0

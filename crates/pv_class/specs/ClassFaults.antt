@@ -12,7 +12,7 @@ use Rattle.pv_class.specs.declared.fault.PoolWord.TheVariants as word
 use Rattle.pv_class.specs.declared.fault.ClassFault.{ClassFault}
 use Rattle.pv_class.specs.declared.fault.ClassFault.TheVariants as fault
 use Rattle.pv_class.specs.declared.fault.Failure.{Failure}
-use Rattle.pv_class.specs.Grammars.{Takes, Stops}
+use Rattle.pv_format.specs.Grammars.{Takes, Stops}
 use Rattle.pv_class.specs.ClassGrammar.{head, tail}
 
 -- the fault of an item that fails at a place

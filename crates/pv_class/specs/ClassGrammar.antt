@@ -11,8 +11,9 @@ use Rattle.pv_class.specs.declared.member.MemberKind.TheVariants as kind
 use Rattle.pv_class.specs.declared.file.Code.{Code}
 use Rattle.pv_class.specs.declared.file.Method.{Method}
 use Rattle.pv_class.specs.declared.signature.Signature.{Signature}
-use Rattle.pv_class.specs.Checks.{Check, holds, utf8, class, class_or_none, field_type, method_type, new}
-use Rattle.pv_class.specs.Grammars.{failure, Grammar, give, here, check, ◌>>=◌, u2, u4, run, table}
+use Rattle.pv_format.specs.Grammars.{Test, holds, give, here, check, ◌>>=◌}
+use Rattle.pv_class.specs.Checks.{utf8, class, class_or_none, field_type, method_type, new}
+use Rattle.pv_class.specs.Grammars.{failure, Grammar, u2, u4, run, table}
 
 abbrev pub in_file : Room
 in_file = record { after = 0; code = None }
@@ -22,7 +23,7 @@ abbrev pub in_code : ℕ → ℕ → ℕ → Room
 in_code start size left = if nat_le size left then record { after = left - size; code = Some start } else in_file
 
 -- the index of an entry of the right kind, tested where it stands
-unfoldable pub index : Room → (ℕ → Check) → Grammar ℕ
+unfoldable pub index : Room → (ℕ → Test) → Grammar ℕ
 index room kind = here λ left. u2 room >>= λ i. check (kind i) (failure cause.Reference left) (give i)
 
 abbrev pub or_nothing : Option (List ℕ) → List ℕ
@@ -45,7 +46,7 @@ unfoldable pub interface : Room → List Entry → Grammar (Unit {0})
 interface room pool = index room (class pool) >>= λ i. give tt
 
 -- what the descriptor of a member is tested for
-abbrev pub typed : MemberKind → List ℕ → Check
+abbrev pub typed : MemberKind → List ℕ → Test
 typed kind.Field desc = field_type desc
 typed kind.Method desc = method_type desc
 

@@ -1,15 +1,11 @@
 -- Tests of what items must pass.
-use Rattle.std.specs.Prelude.{ℕ, zero, suc, Bool, true, false, List, [], ◌∷◌, length, Option, Some, None, is_some, not, ◌==◌, ◌&&◌, ◌||◌, if◌then◌else◌}
-use Rattle.std.specs.List.{list_any}
+use Rattle.std.specs.Prelude.{ℕ, zero, suc, Bool, true, false, List, [], ◌∷◌, length, Option, Some, None, ◌==◌, ◌&&◌, ◌||◌, if◌then◌else◌}
 use Rattle.std.specs.Str.{bytes_eq}
 use Rattle.pv_value.specs.declared.descriptor.JType.{JType}
 use Rattle.pv_value.specs.Reading.{field_at}
 use Rattle.pv_pool.specs.declared.entry.Entry.{Entry}
 use Rattle.pv_pool.specs.declared.entry.Entry.TheVariants as entry
-use Rattle.pv_pool.specs.Pools.{entry_under}
-use Rattle.pv_pool.specs.Readers.{text_under}
 use Rattle.pv_class.specs.declared.signature.Signature.{Signature}
-use Rattle.pv_class.specs.Checks.{Check, holds, utf8, class, class_or_none, field_type, method_type, new}
 
 abbrev pub is_class : Option Entry → Bool
 is_class (Some (entry.Class name)) = true
@@ -43,12 +39,3 @@ is_method_type (b ∷ body) = (b == 40) && is_result (after_params (length body)
 
 abbrev pub alike : Signature → Signature → Bool
 alike s t = bytes_eq s.name t.name && bytes_eq s.desc t.desc
-
-abbrev pub passes : Check → Bool
-passes (holds b) = b
-passes (utf8 pool i) = is_some (text_under pool i)
-passes (class pool i) = is_class (entry_under pool i)
-passes (class_or_none pool i) = (i == 0) || is_class (entry_under pool i)
-passes (field_type desc) = is_field_type desc
-passes (method_type desc) = is_method_type desc
-passes (new seen s) = not (list_any (alike s) seen)

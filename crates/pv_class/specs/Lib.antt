@@ -9,3 +9,5 @@ pub mod ClassFiles
 -- the vocabulary of private functions
 pub mod Deciding
 pub mod Reading
+-- laws: each test tells its fact; a test holds its law, so it is proved where it is made
+pub mod CheckLaws

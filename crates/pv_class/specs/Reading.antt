@@ -1,5 +1,5 @@
--- Reading by a grammar, from left to right, and what the readers of a class file answer.
-use Rattle.std.specs.Prelude.{◌≡◌, ℕ, ◌+◌, ◌-◌, Bool, true, List, [], ◌∷◌, ◌++◌, length, take, drop, Result, Ok, Err, nat_lt, if◌then◌else◌}
+-- What the readers of a class file answer.
+use Rattle.std.specs.Prelude.{◌≡◌, ℕ, ◌-◌, Bool, true, List, [], ◌∷◌, ◌++◌, Result, Ok, Err}
 use Rattle.pv_pool.specs.declared.entry.Entry.{Entry}
 use Rattle.pv_pool.specs.declared.fault.PoolFault.{PoolFault}
 use Rattle.pv_pool.specs.declared.fault.PoolFault.TheVariants as pool
@@ -11,20 +11,12 @@ use Rattle.pv_class.specs.declared.fault.Stop.{Stop}
 use Rattle.pv_class.specs.declared.fault.Stop.TheVariants.{Failed, Memory}
 use Rattle.pv_class.specs.declared.signature.Signature.{Signature}
 use Rattle.pv_class.specs.Checks.{new}
-use Rattle.pv_class.specs.Deciding.{passes}
 use Rattle.pv_class.specs.declared.room.Room.{Room}
 use Rattle.pv_class.specs.declared.table.Entries.{Entries}
 use Rattle.pv_class.specs.declared.table.Entries.TheVariants.{Attributes, Handlers, Interfaces}
-use Rattle.pv_class.specs.Grammars.{Grammar, give, here, item, check, short}
+use Rattle.pv_class.specs.Grammars.{Grammar}
 use Rattle.pv_class.specs.ClassGrammar.{skipped, handler, interface}
 use Rattle.pv_class.specs.ClassFaults.{fault_at}
-
--- what is read, and the bytes after it, or the failure
-unfoldable pub read : {A : Type 0} → Grammar A → List ℕ → Result (A × List ℕ) Failure
-read (give x) bytes = Ok (x, bytes)
-read (here f) bytes = read (f (length bytes)) bytes
-read (item room n f) bytes = if nat_lt (length bytes) (n + room.after) then Err (short room (length bytes)) else read (f (take n bytes)) (drop n bytes)
-read (check c failure g) bytes = if passes c then read g bytes else Err failure
 
 -- an entry of a table that is only tested
 abbrev pub entry_of : Entries → List Entry → Room → Grammar (Unit {0})
@@ -44,7 +36,7 @@ Gives view (Err s) result = Fails s result
 
 -- a signature is added at the end where it is new
 abbrev pub Puts : List Signature → List Signature → Signature → Bool → Type 0
-Puts old after s is_new = (is_new ≡ passes (new old s)) × (is_new ≡ true → after ≡ old ++ s ∷ [])
+Puts old after s is_new = (is_new ≡ (new old s).tells) × (is_new ≡ true → after ≡ old ++ s ∷ [])
 
 -- the fault of a file of this length
 abbrev pub fault_in : ℕ → Stop → ClassFault

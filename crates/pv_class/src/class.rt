@@ -1,9 +1,11 @@
 //! Reading a class file.
 
 ghost use Rattle.std.specs.Prelude.{◌≡◌, [], IfOk};
-ghost use Rattle.pv_class.specs.Grammars.{table, bind};
+ghost use Rattle.pv_format.specs.Grammars.{bind};
+ghost use Rattle.pv_class.specs.Grammars.{table};
 ghost use Rattle.pv_class.specs.ClassGrammar.{in_file, interface, field, all_methods, head, class_front, class_end, tail};
-ghost use Rattle.pv_class.specs.Reading.{Gives, read, fault_in, of_pool};
+ghost use Rattle.pv_format.specs.GrammarReading.{read};
+ghost use Rattle.pv_class.specs.Reading.{Gives, fault_in, of_pool};
 ghost use Rattle.pv_class.specs.Answers.{Answers, Tells};
 
 use crate::fault::{Cause, ClassFault, PoolWord, Stop};
@@ -55,7 +57,7 @@ fn of_pool(fault: PoolFault) -> ClassFault
 }
 
 /// What stands before the constant pool (JVMS 4.1).
-#[tactic(auto, unfolding(crate::specs::Reading::read, crate::specs::Grammars::bind, crate::specs::ClassGrammar::head))]
+#[tactic(auto, unfolding(pv_format::specs::GrammarReading::read, pv_format::specs::Grammars::bind, crate::specs::ClassGrammar::head))]
 fn head_at(bytes: &[u8]) -> Result<&[u8], Stop>
     ensures { Gives (λ x. (tt, x.now)) result (read head bytes.now) }
 {
@@ -72,7 +74,7 @@ fn head_at(bytes: &[u8]) -> Result<&[u8], Stop>
 }
 
 /// The flags, the class and its superclass.
-#[tactic(auto, unfolding(crate::specs::Reading::read, crate::specs::Grammars::bind, crate::specs::ClassGrammar::index, crate::specs::ClassGrammar::class_front))]
+#[tactic(auto, unfolding(pv_format::specs::GrammarReading::read, pv_format::specs::Grammars::bind, crate::specs::ClassGrammar::index, crate::specs::ClassGrammar::class_front))]
 fn class_front_at<'a>(pool: &Pool, bytes: &'a [u8]) -> Result<&'a [u8], Stop>
     ensures { Gives (λ x. (tt, x.now)) result (read (class_front pool.now) bytes.now) }
 {

@@ -7,7 +7,8 @@ ghost use Rattle.pv_class.specs.Checks.{utf8, class, class_or_none};
 ghost use Rattle.pv_class.specs.Grammars.{u2, u4, run};
 ghost use Rattle.pv_class.specs.ClassGrammar.{index, contents, in_file};
 ghost use Rattle.pv_class.specs.Deciding.{is_class};
-ghost use Rattle.pv_class.specs.Reading.{Gives, read};
+ghost use Rattle.pv_format.specs.GrammarReading.{read};
+ghost use Rattle.pv_class.specs.Reading.{Gives};
 ghost use Rattle.std.specs.Prelude.{◌≡◌};
 ghost use Rattle.pv_pool.specs.Pools.{entry_under};
 
@@ -17,7 +18,7 @@ use byteorder::{BigEndian, ByteOrder};
 use pv_pool::{Entry, Pool};
 
 /// A number of two bytes, the high one first.
-#[tactic(auto, unfolding(crate::specs::Reading::read))]
+#[tactic(auto, unfolding(pv_format::specs::GrammarReading::read))]
 pub(crate) fn u16_at(room: Room, bytes: &[u8]) -> Result<(u16, &[u8]), Stop>
     ensures { Gives (λ x. (x.0, x.1.now)) result (read (u2 room) bytes.now) }
 {
@@ -28,7 +29,7 @@ pub(crate) fn u16_at(room: Room, bytes: &[u8]) -> Result<(u16, &[u8]), Stop>
 }
 
 /// A number of four bytes, the highest first.
-#[tactic(auto, unfolding(crate::specs::Reading::read))]
+#[tactic(auto, unfolding(pv_format::specs::GrammarReading::read))]
 pub(crate) fn u32_at(room: Room, bytes: &[u8]) -> Result<(u32, &[u8]), Stop>
     ensures { Gives (λ x. (x.0, x.1.now)) result (read (u4 room) bytes.now) }
 {
@@ -39,7 +40,7 @@ pub(crate) fn u32_at(room: Room, bytes: &[u8]) -> Result<(u32, &[u8]), Stop>
 }
 
 /// A run of `size` bytes.
-#[tactic(auto, unfolding(crate::specs::Reading::read))]
+#[tactic(auto, unfolding(pv_format::specs::GrammarReading::read))]
 pub(crate) fn run_at(room: Room, size: usize, bytes: &[u8]) -> Result<(&[u8], &[u8]), Stop>
     ensures { Gives (λ x. (x.0.now, x.1.now)) result (read (run room size) bytes.now) }
 {
@@ -57,7 +58,7 @@ fn has_class(pool: &Pool, i: u16) -> bool
 }
 
 /// The index of a Utf8.
-#[tactic(auto, unfolding(crate::specs::Reading::read, crate::specs::Grammars::bind, crate::specs::ClassGrammar::index))]
+#[tactic(auto, unfolding(pv_format::specs::GrammarReading::read, pv_format::specs::Grammars::bind, crate::specs::ClassGrammar::index))]
 pub(crate) fn text_index_at<'a>(
     pool: &Pool,
     room: Room,
@@ -73,7 +74,7 @@ pub(crate) fn text_index_at<'a>(
 }
 
 /// The index of a Class.
-#[tactic(auto, unfolding(crate::specs::Reading::read, crate::specs::Grammars::bind, crate::specs::ClassGrammar::index))]
+#[tactic(auto, unfolding(pv_format::specs::GrammarReading::read, pv_format::specs::Grammars::bind, crate::specs::ClassGrammar::index))]
 pub(crate) fn class_index_at<'a>(
     pool: &Pool,
     room: Room,
@@ -89,7 +90,7 @@ pub(crate) fn class_index_at<'a>(
 }
 
 /// The index of a Class, or 0.
-#[tactic(auto, unfolding(crate::specs::Reading::read, crate::specs::Grammars::bind, crate::specs::ClassGrammar::index))]
+#[tactic(auto, unfolding(pv_format::specs::GrammarReading::read, pv_format::specs::Grammars::bind, crate::specs::ClassGrammar::index))]
 pub(crate) fn super_index_at<'a>(pool: &Pool, bytes: &'a [u8]) -> Result<(u16, &'a [u8]), Stop>
     ensures { Gives (λ x. (x.0, x.1.now)) result (read (index in_file (class_or_none pool.now)) bytes.now) }
 {
@@ -101,7 +102,7 @@ pub(crate) fn super_index_at<'a>(pool: &Pool, bytes: &'a [u8]) -> Result<(u16, &
 }
 
 /// The contents of an attribute that is skipped, after its name (JVMS 4.7).
-#[tactic(auto, unfolding(crate::specs::Reading::read, crate::specs::Grammars::bind, crate::specs::ClassGrammar::contents))]
+#[tactic(auto, unfolding(pv_format::specs::GrammarReading::read, pv_format::specs::Grammars::bind, crate::specs::ClassGrammar::contents))]
 pub(crate) fn contents_at(room: Room, bytes: &[u8]) -> Result<&[u8], Stop>
     ensures { Gives (λ x. (tt, x.now)) result (read (contents room) bytes.now) }
 {

@@ -1,9 +1,10 @@
 //! What fields and methods begin with.
 
 ghost use Rattle.std.specs.Prelude.{◌≡◌, IfOk};
-ghost use Rattle.pv_class.specs.Deciding.{is_field_type, is_method_type, passes};
+ghost use Rattle.pv_class.specs.Deciding.{is_field_type, is_method_type};
 ghost use Rattle.pv_class.specs.ClassGrammar.{text_at, typed, member};
-ghost use Rattle.pv_class.specs.Reading.{Gives, read};
+ghost use Rattle.pv_format.specs.GrammarReading.{read};
+ghost use Rattle.pv_class.specs.Reading.{Gives};
 
 use crate::fault::{Cause, Stop};
 use crate::items::{text_index_at, u16_at};
@@ -53,7 +54,7 @@ fn is_method_type(alloc: Global, text: &[u8]) -> Result<bool, Memory>
 
 /// Whether a text is the descriptor of such a member.
 fn is_typed(alloc: Global, kind: MemberKind, text: &[u8]) -> Result<bool, Memory>
-    ensures { IfOk result (λ is. is ≡ passes (typed kind text.now)) }
+    ensures { IfOk result (λ is. is ≡ (typed kind text.now).tells) }
 {
     match kind {
         MemberKind::Field => Ok(is_field_type(text)),
@@ -62,7 +63,7 @@ fn is_typed(alloc: Global, kind: MemberKind, text: &[u8]) -> Result<bool, Memory
 }
 
 /// What a field or a method begins with (JVMS 4.5, 4.6).
-#[tactic(auto, unfolding(crate::specs::Reading::read, crate::specs::Grammars::bind, crate::specs::ClassGrammar::index, crate::specs::ClassGrammar::member))]
+#[tactic(auto, unfolding(pv_format::specs::GrammarReading::read, pv_format::specs::Grammars::bind, crate::specs::ClassGrammar::index, crate::specs::ClassGrammar::member))]
 pub(crate) fn member_at<'a>(
     alloc: Global,
     kind: MemberKind,

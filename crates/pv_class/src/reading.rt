@@ -1,9 +1,10 @@
 //! Reading the fields and the methods of a class file.
 
 ghost use Rattle.std.specs.Prelude.{◌≡◌, ◌++◌, ◌∷◌, [], IfOk, None};
-ghost use Rattle.pv_class.specs.Grammars.{times};
+ghost use Rattle.pv_format.specs.Grammars.{times};
 ghost use Rattle.pv_class.specs.ClassGrammar.{field, is_code, attribute, attributes, method, methods, method_of, signature, signature_of};
-ghost use Rattle.pv_class.specs.Reading.{Gives, read};
+ghost use Rattle.pv_format.specs.GrammarReading.{read};
+ghost use Rattle.pv_class.specs.Reading.{Gives};
 
 use crate::code::code_at;
 use crate::fault::{Cause, Stop};

@@ -1,9 +1,11 @@
 //! Reading tables whose entries are only tested.
 
 ghost use Rattle.std.specs.Prelude.{◌≡◌};
-ghost use Rattle.pv_class.specs.Grammars.{times, table};
+ghost use Rattle.pv_format.specs.Grammars.{times};
+ghost use Rattle.pv_class.specs.Grammars.{table};
 ghost use Rattle.pv_class.specs.ClassGrammar.{skipped, handler, interface};
-ghost use Rattle.pv_class.specs.Reading.{Gives, read, entry_of};
+ghost use Rattle.pv_format.specs.GrammarReading.{read};
+ghost use Rattle.pv_class.specs.Reading.{Gives, entry_of};
 
 use crate::fault::Stop;
 use crate::items::{class_index_at, contents_at, text_index_at, u16_at};
@@ -21,7 +23,7 @@ pub(crate) enum Entries {
     Interfaces,
 }
 
-#[tactic(auto, unfolding(crate::specs::Reading::read, crate::specs::Grammars::bind, crate::specs::ClassGrammar::index, crate::specs::ClassGrammar::contents, crate::specs::ClassGrammar::skipped))]
+#[tactic(auto, unfolding(pv_format::specs::GrammarReading::read, pv_format::specs::Grammars::bind, crate::specs::ClassGrammar::index, crate::specs::ClassGrammar::contents, crate::specs::ClassGrammar::skipped))]
 fn attribute_at<'a>(pool: &Pool, room: Room, bytes: &'a [u8]) -> Result<&'a [u8], Stop>
     ensures { Gives (λ x. (tt, x.now)) result (read (skipped room pool.now) bytes.now) }
 {
@@ -29,7 +31,7 @@ fn attribute_at<'a>(pool: &Pool, room: Room, bytes: &'a [u8]) -> Result<&'a [u8]
     contents_at(room, rest)
 }
 
-#[tactic(auto, unfolding(crate::specs::Reading::read, crate::specs::Grammars::bind, crate::specs::ClassGrammar::handler))]
+#[tactic(auto, unfolding(pv_format::specs::GrammarReading::read, pv_format::specs::Grammars::bind, crate::specs::ClassGrammar::handler))]
 fn handler_at(room: Room, bytes: &[u8]) -> Result<&[u8], Stop>
     ensures { Gives (λ x. (tt, x.now)) result (read (handler room) bytes.now) }
 {
@@ -40,7 +42,7 @@ fn handler_at(room: Room, bytes: &[u8]) -> Result<&[u8], Stop>
     Ok(rest)
 }
 
-#[tactic(auto, unfolding(crate::specs::Reading::read, crate::specs::Grammars::bind, crate::specs::ClassGrammar::index, crate::specs::ClassGrammar::interface))]
+#[tactic(auto, unfolding(pv_format::specs::GrammarReading::read, pv_format::specs::Grammars::bind, crate::specs::ClassGrammar::index, crate::specs::ClassGrammar::interface))]
 fn interface_at<'a>(pool: &Pool, room: Room, bytes: &'a [u8]) -> Result<&'a [u8], Stop>
     ensures { Gives (λ x. (tt, x.now)) result (read (interface room pool.now) bytes.now) }
 {
@@ -82,7 +84,7 @@ fn times_at<'a>(
 }
 
 /// A table, with the number of its entries.
-#[tactic(auto, unfolding(crate::specs::Reading::read, crate::specs::Grammars::bind), using(crate::proofs::Grammars::read_then, crate::proofs::Grammars::read_fails))]
+#[tactic(auto, unfolding(pv_format::specs::GrammarReading::read, pv_format::specs::Grammars::bind), using(pv_format::proofs::GrammarParts::read_then, pv_format::proofs::GrammarParts::read_fails))]
 pub(crate) fn table_at<'a>(
     entries: Entries,
     pool: &Pool,

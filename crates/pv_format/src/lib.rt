@@ -1,4 +1,4 @@
-//! Formats of texts: what a value is spelled as, and how it is read again.
+//! Formats of texts, and grammars of bytes: what a value is spelled as, and how it is read again.
 //!
 //! This layer stands on `std` alone. A format (`specs/Formats`) says which values have a spelling, what that is and how a
 //! text is read, and it holds the laws that these agree: what is spelled is read again, nothing else is read, and each
@@ -8,6 +8,14 @@
 //! parts with a separator between them, the lines of a text, one of several names. Each of their laws is composed there
 //! once and for all (`FormatLaws`, `SplitLaws`, `ChoiceLaws`), so that what an upper layer says of its own spellings is
 //! proved where it is made. Where a text is at fault, and at which place, is the business of the layer that reads it.
+//!
+//! A grammar (`specs/Grammars`) is for bytes whose items say what comes after them, and for readers that name the first
+//! item at fault. It is data over any type of faults: an item of so many bytes, a test with what it tells (`Test`), how
+//! many bytes are left. Once and for all grammars: `read` (`specs/GrammarReading`) gives what the grammar takes, or the fault
+//! by which it stops, and nothing else (`read_law` of `proofs/GrammarReadings`); it reads part by part
+//! (`proofs/GrammarParts`); and the texts of a grammar are those of its parts (`IsTexts` of `proofs/GrammarTexts`). An upper
+//! layer defines its grammar, says in the contract of a reader that it gives what `read` gives, and joins the grammar to
+//! its own spelling of items by `IsTexts`.
 //!
 //! The code cuts texts: `words_of` and `lines_of` read by the formats `parts blank` and `lines`, and `cut_at` cuts once
 //! (`specs/Splits`). Upper layers use these clauses, and cite `proofs/Cited`.

@@ -1,7 +1,7 @@
 use Rattle.std.proofs.Common.{◌≡◌, Err, rules}
 use Rattle.pv_class.specs.Grammars.{u2}
 use Rattle.pv_class.specs.ClassGrammar.{in_file}
-use Rattle.pv_class.proofs.Grammars.{fails_first, gives_err}
+use Rattle.pv_class.proofs.Stopping.{fails_first, gives_err}
 use Rattle.pv_class.proofs.ClassParts.{fields_fail, fields_read}
 use Rattle.pv_class.proofs.class.all_fields_at.Goals as goal
 

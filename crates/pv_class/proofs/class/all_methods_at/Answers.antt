@@ -1,7 +1,7 @@
 use Rattle.std.proofs.Common.{◌≡◌, Err, [], rules}
 use Rattle.pv_class.specs.Grammars.{u2}
 use Rattle.pv_class.specs.ClassGrammar.{in_file, methods, all_methods}
-use Rattle.pv_class.proofs.Grammars.{fails_first, gives_err}
+use Rattle.pv_class.proofs.Stopping.{fails_first, gives_err}
 use Rattle.pv_class.proofs.ClassParts.{gives_second}
 use Rattle.pv_class.proofs.class.all_methods_at.Goals as goal
 

@@ -1,5 +1,5 @@
 use Rattle.std.proofs.Common.{◌≡◌, Err, length, rules}
-use Rattle.pv_class.proofs.Grammars.{gives_err}
+use Rattle.pv_class.proofs.Stopping.{gives_err}
 use Rattle.pv_class.proofs.ClassParts.{methods_fail, attributes_fail, trailing, ends}
 use Rattle.pv_class.proofs.class.class_end_at.Goals as goal
 

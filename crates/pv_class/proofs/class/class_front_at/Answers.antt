@@ -1,5 +1,5 @@
 use Rattle.std.proofs.Common.{◌≡◌, Err, rules}
-use Rattle.pv_class.proofs.Grammars.{gives_err}
+use Rattle.pv_class.proofs.Stopping.{gives_err}
 use Rattle.pv_class.proofs.ClassParts.{super_fails}
 use Rattle.pv_class.proofs.class.class_front_at.Goals as goal
 

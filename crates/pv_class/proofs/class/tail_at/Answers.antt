@@ -1,5 +1,5 @@
 use Rattle.std.proofs.Common.{◌≡◌, Err, rules}
-use Rattle.pv_class.proofs.Grammars.{gives_err}
+use Rattle.pv_class.proofs.Stopping.{gives_err}
 use Rattle.pv_class.proofs.ClassParts.{gives_as, front_fails, interfaces_fail, class_fields_fail, read_fields}
 use Rattle.pv_class.proofs.class.tail_at.Goals as goal
 

@@ -1,5 +1,5 @@
 use Rattle.std.proofs.Common.{◌≡◌, ◌∙◌, Err, length, rules}
-use Rattle.pv_class.proofs.Grammars.{gives_err}
+use Rattle.pv_class.proofs.Stopping.{gives_err}
 use Rattle.pv_class.proofs.Codes.{Front, front_fails, handlers_fail, attributes_fail, read_contents, ends_wrong, ends_right}
 use Rattle.pv_class.proofs.code.code_contents_at.Goals as goal
 

@@ -1,6 +1,6 @@
 use Rattle.std.proofs.Common.{◌≡◌, Err, true, false, is_some, rules}
 use Rattle.pv_class.specs.ClassGrammar.{is_code}
-use Rattle.pv_class.proofs.Grammars.{gives_err}
+use Rattle.pv_class.proofs.Stopping.{gives_err}
 use Rattle.pv_class.proofs.MethodAttributes.{name_fails, other_fails, other_reads, second_fails, code_fails, code_reads}
 use Rattle.pv_class.proofs.reading.attribute_at.Goals as goal
 

@@ -1,5 +1,5 @@
 use Rattle.std.proofs.Common.{◌≡◌, Err, None, rules, ◌∙◌}
-use Rattle.pv_class.proofs.Grammars.{fails_as, gives_err}
+use Rattle.pv_class.proofs.Stopping.{fails_as, gives_err}
 use Rattle.pv_class.proofs.MethodAttributes.{attributes_begin, attributes_more, attributes_fail, attributes_end}
 use Rattle.pv_class.proofs.reading.attributes_at.Goals as goal
 

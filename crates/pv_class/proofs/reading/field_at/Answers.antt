@@ -1,8 +1,10 @@
 use Rattle.std.proofs.Common.{◌≡◌, Err, rules, ◌∙◌}
 use Rattle.pv_class.specs.declared.member.MemberKind.TheVariants as kind
-use Rattle.pv_class.specs.Grammars.{give, bind, table}
+use Rattle.pv_format.specs.Grammars.{give, bind}
+use Rattle.pv_class.specs.Grammars.{table}
 use Rattle.pv_class.specs.ClassGrammar.{in_file, member, skipped, field}
-use Rattle.pv_class.proofs.Grammars.{read_then, read_give, fails_first, fails_as, gives_err}
+use Rattle.pv_format.proofs.Cited.{read_then, read_give}
+use Rattle.pv_class.proofs.Stopping.{fails_first, fails_as, gives_err}
 use Rattle.pv_class.proofs.reading.field_at.Goals as goal
 
 pub returns-in_err-_member : goal.returns-in_err-_member

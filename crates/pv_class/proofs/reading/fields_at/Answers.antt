@@ -1,6 +1,7 @@
 use Rattle.std.proofs.Common.{◌≡◌, Err, rules, ◌∙◌}
 use Rattle.pv_class.specs.ClassGrammar.{field}
-use Rattle.pv_class.proofs.Grammars.{fails_as, gives_err, times_begin, times_more, times_fails, times_end}
+use Rattle.pv_class.proofs.Stopping.{fails_as, gives_err, times_fails}
+use Rattle.pv_format.proofs.Cited.{times_begin, times_more, times_end}
 use Rattle.pv_class.proofs.reading.fields_at.Goals as goal
 
 pub loop-init : goal.loop-init

@@ -1,7 +1,7 @@
 use Rattle.std.proofs.Common.{◌≡◌, ◌-◌}
-use Rattle.pv_class.specs.Grammars.{times}
+use Rattle.pv_format.specs.Grammars.{times}
 use Rattle.pv_class.specs.ClassGrammar.{field}
-use Rattle.pv_class.specs.Reading.{read}
+use Rattle.pv_format.specs.GrammarReading.{read}
 use Rattle.pv_class.proofs.reading.fields_at.Given as goal
 
 abbrev pub invariant-loop : goal.invariant-loop

@@ -1,6 +1,6 @@
 use Rattle.std.proofs.Common.{◌≡◌, Err, true, false, rules}
 use Rattle.pv_class.specs.ClassGrammar.{signature_of}
-use Rattle.pv_class.proofs.Grammars.{gives_err}
+use Rattle.pv_class.proofs.Stopping.{gives_err}
 use Rattle.pv_class.proofs.MethodReads.{put_as, member_fails, duplicate, count_fails, code_fails, method_reads}
 use Rattle.pv_class.proofs.reading.method_at.Goals as goal
 

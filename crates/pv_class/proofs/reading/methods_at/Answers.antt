@@ -1,6 +1,6 @@
 use Rattle.std.proofs.Common.{◌≡◌, ◌∙◌, [], ◌∷◌, ◌++◌, Err, List, refl, sym, ap, rules}
 use Rattle.pv_class.specs.ClassGrammar.{signature, signatures}
-use Rattle.pv_class.proofs.Grammars.{fails_as, gives_err}
+use Rattle.pv_class.proofs.Stopping.{fails_as, gives_err}
 use Rattle.pv_class.proofs.MethodReads.{signatures_more, methods_begin, methods_more, methods_fail, methods_end, fails_seen, reads_seen}
 use Rattle.pv_class.proofs.reading.methods_at.Goals as goal
 

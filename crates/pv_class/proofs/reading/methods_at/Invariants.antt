@@ -1,6 +1,6 @@
 use Rattle.std.proofs.Common.{◌≡◌, ◌-◌, []}
 use Rattle.pv_class.specs.ClassGrammar.{signatures, methods}
-use Rattle.pv_class.specs.Reading.{read}
+use Rattle.pv_format.specs.GrammarReading.{read}
 use Rattle.pv_class.proofs.reading.methods_at.Given as goal
 
 abbrev pub invariant-loop : goal.invariant-loop

@@ -1,7 +1,8 @@
 use Rattle.std.proofs.Common.{◌∙◌}
-use Rattle.pv_class.specs.Grammars.{give, bind, u2, times}
+use Rattle.pv_format.specs.Grammars.{give, bind, times}
+use Rattle.pv_class.specs.Grammars.{u2}
 use Rattle.pv_class.specs.Reading.{entry_of}
-use Rattle.pv_class.proofs.Grammars.{read_then, read_give}
+use Rattle.pv_format.proofs.Cited.{read_then, read_give}
 use Rattle.pv_class.proofs.table.table_at.Goals as goal
 
 pub returns : goal.returns

@@ -1,6 +1,7 @@
 use Rattle.std.proofs.Common.{◌≡◌, ◌-◌}
-use Rattle.pv_class.specs.Grammars.{times}
-use Rattle.pv_class.specs.Reading.{read, entry_of}
+use Rattle.pv_format.specs.Grammars.{times}
+use Rattle.pv_format.specs.GrammarReading.{read}
+use Rattle.pv_class.specs.Reading.{entry_of}
 use Rattle.pv_class.proofs.table.times_at.Given as goal
 
 abbrev pub invariant-loop : goal.invariant-loop

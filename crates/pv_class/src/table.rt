@@ -84,7 +84,7 @@ fn times_at<'a>(
 }
 
 /// A table, with the number of its entries.
-#[tactic(auto, unfolding(pv_format::specs::GrammarReading::read, pv_format::specs::Grammars::bind), using(pv_format::proofs::GrammarParts::read_then, pv_format::proofs::GrammarParts::read_fails))]
+#[tactic(auto, unfolding(pv_format::specs::GrammarReading::read, pv_format::specs::Grammars::bind), using(pv_format::proofs::Cited::read_then, pv_format::proofs::Cited::read_fails))]
 pub(crate) fn table_at<'a>(
     entries: Entries,
     pool: &Pool,

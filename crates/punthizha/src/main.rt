@@ -54,10 +54,10 @@ fn run_words<R: AllocGlobal + Threads + Sync, F: Files, K: Sink>(
     out: &mut K,
 ) -> Status
     ensures equivalent { (a b : List ℕ) → AreOn (after_name words.now) a b → EachEquivalent (F.held files.old) a b (K.sent out.old) (K.sent out.new) }
-    ensures answered { (a b : List ℕ) → IsValidate (after_name words.now) a b → Answered (K.sent out.old) (K.sent out.new) (Rose (F.faults files.old) (F.faults files.new)) result (SaidOf (F.held files.old) a b (K.sent out.old) (K.sent out.new) (Rose (K.faults out.old) (K.faults out.new)) result) }
-    ensures checked { (a b cert : List ℕ) → IsCheck (after_name words.now) a b cert → Answered (K.sent out.old) (K.sent out.new) (Rose (F.faults files.old) (F.faults files.new)) result (SaidOfCert (F.held files.old) a b cert (K.sent out.old) (K.sent out.new) (Rose (K.faults out.old) (K.faults out.new)) result) }
+    ensures answered { (a b : List ℕ) → IsValidate (after_name words.now) a b → Answered (K.sent out.old) (K.sent out.new) (Rose (F.failures files.old) (F.failures files.new)) result (SaidOf (F.held files.old) a b (K.sent out.old) (K.sent out.new) (Rose (K.failures out.old) (K.failures out.new)) result) }
+    ensures checked { (a b cert : List ℕ) → IsCheck (after_name words.now) a b cert → Answered (K.sent out.old) (K.sent out.new) (Rose (F.failures files.old) (F.failures files.new)) result (SaidOfCert (F.held files.old) a b cert (K.sent out.old) (K.sent out.new) (Rose (K.failures out.old) (K.failures out.new)) result) }
     ensures asked { (names : List (List ℕ)) → Fetches (after_name words.now) names → AskedFor (F.held files.old) (F.asked files.old) (F.asked files.new) names result }
-    ensures bad_words { IsNoCommand (after_name words.now) → (result ≡ Status.Memory) ⊎ Says (K.sent out.old) (K.sent out.new) bad_words Status.BadWords result (Rose (K.faults out.old) (K.faults out.new)) }
+    ensures bad_words { IsNoCommand (after_name words.now) → (result ≡ Status.Memory) ⊎ Says (K.sent out.old) (K.sent out.new) bad_words Status.BadWords result (Rose (K.failures out.old) (K.failures out.new)) }
 {
     let Ok(borrowed) = borrowed(rt.alloc(), words) else {
         return Status::Memory;

@@ -5,9 +5,9 @@ use Rattle.pv_base.specs.declared.outside.FileFault.TheVariants as file
 
 -- one failure more; at its greatest value the count stands still
 abbrev pub count_up : ℕ → ℕ
-count_up faults = min (faults + 1) (2 ^ 64 - 1)
+count_up failures = min (failures + 1) (2 ^ 64 - 1)
 
 -- the count after a call: a failure counts, and nothing else
 abbrev pub count_failed : {T : Type 0} → ℕ → Result T FileFault → ℕ
-count_failed faults (Err file.Failed) = count_up faults
-count_failed faults _ = faults
+count_failed failures (Err file.Failed) = count_up failures
+count_failed failures _ = failures

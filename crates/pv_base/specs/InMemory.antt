@@ -19,13 +19,13 @@ pub record MemoryStore : Type 0 where
   pub held : Stored
   pub asked : List Asked
   pub fail : List ℕ
-  pub faults : ℕ
+  pub failures : ℕ
 
 -- a store is kept as the tuple of its fields
 abbrev pub coded_store : Coded MemoryStore
 coded_store =
     code_by (Stored × (List Asked × (List ℕ × ℕ))) (coded× (code (coded_list coded_ℕ) (coded_list coded_ℕ)) (coded× (coded_list (asked_row.the_row).coded) (coded× (coded_list coded_ℕ) coded_ℕ)))
-    (λ s. (s.held, (s.asked, (s.fail, s.faults)))) (λ p. record { held = p.0; asked = p.1.0; fail = p.1.1.0; faults = p.1.1.1 }) (λ _. refl)
+    (λ s. (s.held, (s.asked, (s.fail, s.failures)))) (λ p. record { held = p.0; asked = p.1.0; fail = p.1.1.0; failures = p.1.1.1 }) (λ _. refl)
 
 -- what entries hold: the first of a name counts
 abbrev pub stored : List (List ℕ × Vec ℕ) → Stored
@@ -61,7 +61,7 @@ noted store call = record store { asked = store.asked ++ call ∷ [] }
 -- the store after a call that was answered so: out of memory changes nothing, and a failure counts
 abbrev pub after_call : {T : Type 0} → MemoryStore → Asked → Result T FileFault → MemoryStore
 after_call store call (Err file.Memory) = store
-after_call store call (Err file.Failed) = record (noted store call) { faults = count_up store.faults }
+after_call store call (Err file.Failed) = record (noted store call) { failures = count_up store.failures }
 after_call store call _ = noted store call
 
 -- the store after a place that was answered so

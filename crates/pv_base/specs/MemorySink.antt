@@ -6,7 +6,7 @@ use Rattle.pv_base.specs.Counts.{count_up}
 pub record MemorySink : Type 0 where
   pub sent : List ℕ
   pub room : ℕ
-  pub faults : ℕ
+  pub failures : ℕ
 
 -- the sink after a put that fits
 abbrev pub after_whole : MemorySink → List ℕ → MemorySink
@@ -14,4 +14,4 @@ after_whole sink bytes = record sink { sent = sink.sent ++ bytes; room = sink.ro
 
 -- the sink after a put that doesn't fit: the first bytes fill it, and it has failed
 abbrev pub after_part : MemorySink → List ℕ → MemorySink
-after_part sink bytes = record { sent = sink.sent ++ take sink.room bytes; room = 0; faults = count_up sink.faults }
+after_part sink bytes = record { sent = sink.sent ++ take sink.room bytes; room = 0; failures = count_up sink.failures }

@@ -36,9 +36,9 @@ pub fn run<R: Threads + Sync, F: Files, K: Sink, G: Gate>(
     ensures equivalent { (a b : List ℕ) → AreOn (texts words.now) a b → EachEquivalent (F.held files.old) a b (K.sent out.old) (K.sent out.new) }
 
     // What is said, and with which status.
-    ensures answered { (a b : List ℕ) → IsValidate (texts words.now) a b → Answered (K.sent out.old) (K.sent out.new) (Rose (F.faults files.old) (F.faults files.new)) result (SaidOf (F.held files.old) a b (K.sent out.old) (K.sent out.new) (Rose (K.faults out.old) (K.faults out.new)) result) }
-    ensures checked { (a b cert : List ℕ) → IsCheck (texts words.now) a b cert → Answered (K.sent out.old) (K.sent out.new) (Rose (F.faults files.old) (F.faults files.new)) result (SaidOfCert (F.held files.old) a b cert (K.sent out.old) (K.sent out.new) (Rose (K.faults out.old) (K.faults out.new)) result) }
-    ensures bad_words { IsNoCommand (texts words.now) → Says (K.sent out.old) (K.sent out.new) bad_words Status.BadWords result (Rose (K.faults out.old) (K.faults out.new)) }
+    ensures answered { (a b : List ℕ) → IsValidate (texts words.now) a b → Answered (K.sent out.old) (K.sent out.new) (Rose (F.failures files.old) (F.failures files.new)) result (SaidOf (F.held files.old) a b (K.sent out.old) (K.sent out.new) (Rose (K.failures out.old) (K.failures out.new)) result) }
+    ensures checked { (a b cert : List ℕ) → IsCheck (texts words.now) a b cert → Answered (K.sent out.old) (K.sent out.new) (Rose (F.failures files.old) (F.failures files.new)) result (SaidOfCert (F.held files.old) a b cert (K.sent out.old) (K.sent out.new) (Rose (K.failures out.old) (K.failures out.new)) result) }
+    ensures bad_words { IsNoCommand (texts words.now) → Says (K.sent out.old) (K.sent out.new) bad_words Status.BadWords result (Rose (K.failures out.old) (K.failures out.new)) }
 
     // What is asked of the files, and what they hold afterwards.
     ensures asked { (names : List (List ℕ)) → Fetches (texts words.now) names → AskedFor (F.held files.old) (F.asked files.old) (F.asked files.new) names result }
@@ -66,7 +66,7 @@ fn validate<F: Files, K: Sink>(
     files: &mut F,
     out: &mut K,
 ) -> Status
-    ensures answered { Answered (K.sent out.old) (K.sent out.new) (Rose (F.faults files.old) (F.faults files.new)) result (SaidOf (F.held files.old) a.now b.now (K.sent out.old) (K.sent out.new) (Rose (K.faults out.old) (K.faults out.new)) result) }
+    ensures answered { Answered (K.sent out.old) (K.sent out.new) (Rose (F.failures files.old) (F.failures files.new)) result (SaidOf (F.held files.old) a.now b.now (K.sent out.old) (K.sent out.new) (Rose (K.failures out.old) (K.failures out.new)) result) }
     ensures asked { AskedFor (F.held files.old) (F.asked files.old) (F.asked files.new) (a.now ∷ b.now ∷ []) result }
     ensures held { F.held files.new ≡ F.held files.old }
 {
@@ -89,7 +89,7 @@ fn check<F: Files, K: Sink>(
     files: &mut F,
     out: &mut K,
 ) -> Status
-    ensures checked { Answered (K.sent out.old) (K.sent out.new) (Rose (F.faults files.old) (F.faults files.new)) result (SaidOfCert (F.held files.old) a.now b.now cert.now (K.sent out.old) (K.sent out.new) (Rose (K.faults out.old) (K.faults out.new)) result) }
+    ensures checked { Answered (K.sent out.old) (K.sent out.new) (Rose (F.failures files.old) (F.failures files.new)) result (SaidOfCert (F.held files.old) a.now b.now cert.now (K.sent out.old) (K.sent out.new) (Rose (K.failures out.old) (K.failures out.new)) result) }
     ensures asked { AskedFor (F.held files.old) (F.asked files.old) (F.asked files.new) (a.now ∷ b.now ∷ cert.now ∷ []) result }
     ensures held { F.held files.new ≡ F.held files.old }
 {
@@ -116,8 +116,8 @@ fn fetched_both<F: Files>(
 ) -> Result<(Fetched, Fetched), Status>
     ensures first { IfOk result (λ both. HoldsFetched (F.held files.old) a.now LONGEST_FILE both.0) }
     ensures second { IfOk result (λ both. HoldsFetched (F.held files.old) b.now LONGEST_FILE both.1) }
-    ensures fault { IfErr result (λ status. ReadFailed status (Rose (F.faults files.old) (F.faults files.new))) }
-    ensures later { F.faults files.old ≤ F.faults files.new }
+    ensures failure { IfErr result (λ status. ReadFailed status (Rose (F.failures files.old) (F.failures files.new))) }
+    ensures later { F.failures files.old ≤ F.failures files.new }
     ensures asked { AsksAll (F.held files.old) (F.asked files.old) (F.asked files.new) (a.now ∷ b.now ∷ []) result }
     ensures held { F.held files.new ≡ F.held files.old }
 {
@@ -134,8 +134,8 @@ fn fetched<F: Files>(
     files: &mut F,
 ) -> Result<Fetched, Status>
     ensures content { IfOk result (λ fetched. HoldsFetched (F.held files.old) name.now limit fetched) }
-    ensures fault { IfErr result (λ status. ReadFailed status (Rose (F.faults files.old) (F.faults files.new))) }
-    ensures later { F.faults files.old ≤ F.faults files.new }
+    ensures failure { IfErr result (λ status. ReadFailed status (Rose (F.failures files.old) (F.failures files.new))) }
+    ensures later { F.failures files.old ≤ F.failures files.new }
     ensures asked { Asks (F.asked files.old) (F.asked files.new) (Fetch name.now) result }
     ensures held { F.held files.new ≡ F.held files.old }
 {
@@ -159,7 +159,7 @@ fn law_bytes(bytes: &[u8])
 
 // Says a text, where there is one, and answers the status that goes with it.
 fn say<K: Sink>(out: &mut K, text: &[u8], status: Status) -> Status
-    ensures { Says (K.sent out.old) (K.sent out.new) text.now status result (Rose (K.faults out.old) (K.faults out.new)) }
+    ensures { Says (K.sent out.old) (K.sent out.new) text.now status result (Rose (K.failures out.old) (K.failures out.new)) }
 {
     if text.is_empty() {
         return status;

@@ -21,5 +21,5 @@ pub returns-in_err-second-clause-asked : goal.returns-in_err-second-clause-asked
 returns-in_err-second-clause-asked g c =
     let is : c.from_residual-in_err-second.result ≡ Err c.in_err-second.field-0.0 = search rules in
     second (g.F.Files.held c.args.files.now) (g.F.Files.asked c.args.files.now) (g.F.Files.asked c.fetched.new.files) (g.F.Files.asked c.fetched-2.new.files) c.args.a.now c.args.b.now c.from_residual-in_err-second.result c.in_err-second.field-0.0
-    (Rose (g.F.Files.faults c.fetched.new.files) (g.F.Files.faults c.fetched-2.new.files)) is
-    (c.in_ok-first.ensures.content.0, c.in_ok-first.ensures.content.1) c.in_ok-first.ensures.asked c.in_err-second.ensures.fault c.in_err-second.ensures.asked
+    (Rose (g.F.Files.failures c.fetched.new.files) (g.F.Files.failures c.fetched-2.new.files)) is
+    (c.in_ok-first.ensures.content.0, c.in_ok-first.ensures.content.1) c.in_ok-first.ensures.asked c.in_err-second.ensures.failure c.in_err-second.ensures.asked

@@ -11,7 +11,7 @@ pub returns-in-Ok-judge-clause-asked : goal.returns-in-Ok-judge-clause-asked
 returns-in-Ok-judge-clause-asked g c =
     let old = g.K.Sink.sent c.args.out.now in
     let new = g.K.Sink.sent c.say.new.out in
-    let rose = Rose (g.K.Sink.faults c.args.out.now) (g.K.Sink.faults c.say.new.out) in
+    let rose = Rose (g.K.Sink.failures c.args.out.now) (g.K.Sink.failures c.say.new.out) in
     let text = c.in-Ok-judge.text.items in
     let j = c.in-Ok-judge.judgement in
     let put : Says old new text c.of.result c.say.result rose = subst (λ (t : List ℕ). Says old new t c.of.result c.say.result rose) c.deref.ensures.value c.say.ensures in

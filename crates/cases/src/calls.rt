@@ -62,6 +62,7 @@ pub fn answer<R: Files + Threads + Sync>(rt: &R, bench: &Bench, line: &str) -> A
 
         "cert" => certs::cert(bench, rest),
         "section" => sections::section(bench, rest),
+        "steps" => sections::steps(bench, rest),
 
         "run" => runs::running(rt, bench, rest),
         "validate" => runs::validation(rt, bench, rest),

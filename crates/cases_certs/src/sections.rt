@@ -3,6 +3,7 @@
 //! | Line | Answer |
 //! |---|---|
 //! | `section BYTES; METHOD ..; METHOD ..` | for each section of the certificate whether it is accepted over the least graph of the roots of two methods, the first of each class, or the step for which it is rejected; or the verdict on the two where they don't both have a root, or the fault of the certificate |
+//! | `steps BYTES; METHOD ..; METHOD ..` | for each step of the sections, in order, whether it is `right` or `wrong` over that graph; else as `section` |
 //!
 //! `samples` says how a METHOD is written, and what may stand before it.
 
@@ -14,15 +15,33 @@ use cases_words::answers::{Answer, List, NoAnswer, shown};
 use cases_words::bench::{Bench, words};
 use pv_alike::Least;
 use pv_axioms::Axioms;
+use pv_base::OpenGate;
 use pv_cert::{CertFault, Section, read_cert};
-use pv_check::check;
+use pv_check::Checker;
 use pv_class::{ClassFault, ClassFile, read_class};
 use pv_report::{Verdict, least_roots};
 use pv_value::Memory;
 use std::alloc::Global;
 
+// What a line asks of sections: whether each is accepted, or whether each step is right.
+#[derive(Clone, Copy)]
+enum Question {
+    Accepted,
+    Right,
+}
+
 /// `section BYTES; METHOD ..; METHOD ..`
 pub fn section(bench: &Bench, rest: &str) -> Answer {
+    asked(bench, Question::Accepted, rest)
+}
+
+/// `steps BYTES; METHOD ..; METHOD ..`
+pub fn steps(bench: &Bench, rest: &str) -> Answer {
+    asked(bench, Question::Right, rest)
+}
+
+// `BYTES; METHOD ..; METHOD ..`
+fn asked(bench: &Bench, question: Question, rest: &str) -> Answer {
     let alloc = bench.alloc();
     let (bytes, methods) = rest.split_once(';').ok_or(NoAnswer::Unreadable)?;
     let (first, second) = methods.split_once(';').ok_or(NoAnswer::Unreadable)?;
@@ -34,22 +53,39 @@ pub fn section(bench: &Bench, rest: &str) -> Answer {
     let first = with_method(bench, first)?;
     let second = with_method(bench, second)?;
     match first_roots(alloc, &first, &second)? {
-        Ok(roots) => checked(alloc, &roots, cert.sections.as_slice()),
+        Ok(roots) => answered(alloc, question, &roots, cert.sections.as_slice()),
         Err(verdict) => shown(alloc, verdict),
     }
 }
 
-// What is answered on each section over a least graph.
-fn checked(alloc: Global, roots: &Least, sections: &[Section]) -> Answer
+// What is answered on the sections over a least graph.
+fn answered(alloc: Global, question: Question, roots: &Least, sections: &[Section]) -> Answer
     requires { roots.now.graph.is_open ≡ false }
 {
     let axioms = Axioms::new(alloc)?;
     let mut list = List::new(alloc);
     for section in sections {
-        let answer = check(alloc, &axioms, roots, section.steps.as_slice())?;
-        list.add(shown(alloc, answer)?.as_str())?;
+        let checker = Checker::new(&axioms, roots, section.steps.as_slice());
+        match question {
+            Question::Accepted => {
+                let answer = checker.check(alloc, &OpenGate)?;
+                list.add(shown(alloc, answer)?.as_str())?;
+            }
+            Question::Right => add_steps(alloc, &checker, &mut list)?,
+        }
     }
     list.into_text()
+}
+
+// Puts for each step of a section whether it is right.
+fn add_steps(alloc: Global, checker: &Checker, list: &mut List) -> Result<(), NoAnswer>
+    requires { checker.now.least.now.graph.is_open ≡ false }
+{
+    for k in 1..checker.steps.len() + 1 {
+        let right = checker.step_is_right(alloc, k)?;
+        list.add(if right { "right" } else { "wrong" })?;
+    }
+    Ok(())
 }
 
 // The least graph of the roots of the first methods of two classes, or the verdict where they don't both have a root.

@@ -1,5 +1,5 @@
 -- From the first steps of a section to one more.
-use Rattle.std.specs.Prelude.{◌≡◌, ℕ, suc, ◌<◌, Bool, false, List, [], ◌∷◌, ◌++◌, length, reverse, take, refl}
+use Rattle.std.specs.Prelude.{◌≡◌, ◌↔◌, ℕ, suc, ◌<◌, Bool, false, List, [], ◌∷◌, ◌++◌, length, reverse, take, refl}
 use Rattle.std.proofs.Math.ListN.{get_or}
 use Rattle.std.proofs.Common.{inl, inr, sym, ap, ◌∙◌, subst, arith, take-suc, take_all}
 use Rattle.std.proofs.lemmas.Option.{slice_get-get_or}
@@ -7,13 +7,13 @@ use Rattle.pv_graph.specs.Graphs.{Graph}
 use Rattle.pv_graph.specs.Calls.{IsSame}
 use Rattle.pv_steps.specs.declared.step.Step.TheVariants as steps
 use Rattle.pv_steps.specs.declared.step.Step.{Step}
-use Rattle.pv_steps.specs.Right.{AddsNode, Grows, GraphAfter, RightOver}
+use Rattle.pv_steps.specs.Right.{AddsNode, Grows, GraphAfter, Right, RightOver}
 use Rattle.pv_steps.specs.Accepted.{AllRight, IsConcluded, Derives, Rejects, first_steps}
 use Rattle.pv_steps.proofs.Cited.{after_same}
 use Rattle.pv_axioms.specs.Entries.{Instance}
 use Rattle.pv_check.specs.Growth.{GrowsTo}
 use Rattle.pv_check.specs.Kept.{AreKept}
-use Rattle.pv_check.specs.Checking.{IsSoFar}
+use Rattle.pv_check.specs.Checking.{IsReplayed, IsSoFar}
 use Rattle.pv_check.proofs.Carried.{prepared_as, adds_same, right_same}
 use Rattle.pv_check.proofs.Fronts.{next_first}
 
@@ -51,12 +51,12 @@ carry (steps.Close d fs) now graph new e h = record { next = now; grows = refl; 
 carry (steps.Assume p ns) now graph new e h = record { next = now; grows = refl; same = stays now graph new h.0 e h.1 h.2; sealed = refl }
 carry (steps.Finish p q t f r k) now graph new e h = record { next = now; grows = refl; same = stays now graph new h.0 e h.1 h.2; sealed = refl }
 
-pub starts : (g graph : Graph) (section : List Step) (innermost : List ℕ) (opened : List Bool) → g.is_open ≡ false → IsSame g graph → AreKept [] innermost opened → IsSoFar g section 0 innermost opened graph
-starts g graph section innermost opened sealed same kept = record { kept = kept; now = g; after = refl; same = same; right = tt; sealed = ap (λ (x : Graph). x.is_open) same ∙ sealed }
+pub starts : (g graph : Graph) (section : List Step) (innermost : List ℕ) (opened : List Bool) → g.is_open ≡ false → IsSame g graph → AreKept [] innermost opened → IsReplayed g section 0 innermost opened graph
+starts g graph section innermost opened sealed same kept = record { kept = kept; now = g; after = refl; same = same; sealed = ap (λ (x : Graph). x.is_open) same ∙ sealed }
 
-pub goes_on : (g graph new : Graph) (section : List Step) (n : ℕ) (innermost innermost' : List ℕ) (opened opened' : List Bool) → IsSoFar g section n innermost opened graph → n < length section → (d : Step)
-    → RightOver Instance graph (first_steps n section) (get_or section n d) → GrowsTo (get_or section n d) graph new → AreKept (take n section ++ get_or section n d ∷ []) innermost' opened' → IsSoFar g section (suc n) innermost' opened' new
-goes_on g graph new section n innermost innermost' opened opened' h low d right grows kept =
+pub replays : (g graph new : Graph) (section : List Step) (n : ℕ) (innermost innermost' : List ℕ) (opened opened' : List Bool) → IsReplayed g section n innermost opened graph → n < length section → (d : Step)
+    → GrowsTo (get_or section n d) graph new → AreKept (take n section ++ get_or section n d ∷ []) innermost' opened' → IsReplayed g section (suc n) innermost' opened' new
+replays g graph new section n innermost innermost' opened opened' h low d grows kept =
     let s : Step = get_or section n d in
     let first : first_steps (suc n) section ≡ s ∷ first_steps n section = next_first section n s (slice_get-get_or section n d low) in
     let c = carry s h.now graph new h.same grows in
@@ -65,8 +65,25 @@ goes_on g graph new section n innermost innermost' opened opened' h low d right 
       now = c.next;
       after = subst (λ (q : List Step). GraphAfter g q c.next) (sym first) (h.now, h.after, c.grows);
       same = c.same;
-      right = subst (λ (q : List Step). AllRight Instance g q) (sym first) ((h.now, h.after, over_now h.now graph h.same (first_steps n section) s right), h.right);
       sealed = ap (λ (x : Graph). x.is_open) c.same ∙ c.sealed ∙ sym (ap (λ (x : Graph). x.is_open) h.same) ∙ h.sealed;
+    }
+
+-- a step is right exactly where it is so over the graph of the moment
+pub is_right : (g graph : Graph) (section : List Step) (n : ℕ) (innermost : List ℕ) (opened : List Bool) → IsReplayed g section n innermost opened graph → (s : Step)
+    → RightOver Instance graph (first_steps n section) s ↔ Right Instance g (first_steps n section) s
+is_right g graph section n innermost opened h s = (
+  λ r. (h.now, h.after, over_now h.now graph h.same (first_steps n section) s r),
+  λ r. over_graph h.now graph h.same (first_steps n section) s (subst (λ (x : Graph). RightOver Instance x (first_steps n section) s) (after_same g (first_steps n section) r.0 h.now r.1 h.after) r.2),
+)
+
+pub goes_on : (g graph new : Graph) (section : List Step) (n : ℕ) (innermost innermost' : List ℕ) (opened opened' : List Bool) → IsSoFar g section n innermost opened graph → n < length section → (d : Step)
+    → RightOver Instance graph (first_steps n section) (get_or section n d) → GrowsTo (get_or section n d) graph new → AreKept (take n section ++ get_or section n d ∷ []) innermost' opened' → IsSoFar g section (suc n) innermost' opened' new
+goes_on g graph new section n innermost innermost' opened opened' h low d right grows kept =
+    let s : Step = get_or section n d in
+    let first : first_steps (suc n) section ≡ s ∷ first_steps n section = next_first section n s (slice_get-get_or section n d low) in
+    record {
+      replayed = replays g graph new section n innermost innermost' opened opened' h.replayed low d grows kept;
+      right = subst (λ (q : List Step). AllRight Instance g q) (sym first) ((is_right g graph section n innermost opened h.replayed s).0 right, h.right);
     }
 
 pub is_wrong : (g graph : Graph) (section : List Step) (n : ℕ) (innermost : List ℕ) (opened : List Bool) (a b : ℕ) → IsSoFar g section n innermost opened graph → n < length section → (d : Step)
@@ -75,19 +92,14 @@ is_wrong g graph section n innermost opened a b h low d wrong m e = record {
   before = n;
   number = e;
   right = h.right;
-  wrong = inl (
-    get_or section n d,
-    slice_get-get_or section n d low,
-    λ r. wrong (over_graph h.now graph h.same (first_steps n section) (get_or section n d)
-        (subst (λ (x : Graph). RightOver Instance x (first_steps n section) (get_or section n d)) (after_same g (first_steps n section) r.0 h.now r.1 h.after) r.2)),
-  );
+  wrong = inl (get_or section n d, slice_get-get_or section n d low, λ r. wrong ((is_right g graph section n innermost opened h.replayed (get_or section n d)).1 r));
 }
 
 all_steps : (section : List Step) (n : ℕ) → n ≡ length section → take n section ≡ section
 all_steps section n e = take_all n section (omega (arith, e))
 
 pub all_kept : (g graph : Graph) (section : List Step) (n : ℕ) (innermost : List ℕ) (opened : List Bool) → IsSoFar g section n innermost opened graph → n ≡ length section → AreKept section innermost opened
-all_kept g graph section n innermost opened h e = subst (λ (q : List Step). AreKept q innermost opened) (all_steps section n e) h.kept
+all_kept g graph section n innermost opened h e = subst (λ (q : List Step). AreKept q innermost opened) (all_steps section n e) h.replayed.kept
 
 pub is_accepted : (g graph : Graph) (section : List Step) (n : ℕ) (innermost : List ℕ) (opened : List Bool) (a b : ℕ) → IsSoFar g section n innermost opened graph → n ≡ length section → IsConcluded (reverse section) a b → Derives Instance g a b section
 is_accepted g graph section n innermost opened a b h e c = (subst (λ (q : List Step). AllRight Instance g (reverse q)) (all_steps section n e) h.right, c)

@@ -17,4 +17,5 @@ pub mod Carried
 pub mod Moments
 pub mod Concluding
 pub mod Checking
+pub mod Replaying
 pub mod Judged

@@ -1,18 +1,21 @@
 //! A section of a certificate, checked step by step.
 
-ghost use Rattle.std.specs.Prelude.{◌≡◌, ◌↔◌, ◌∷◌, ◌++◌, [], ℕ, IfOk, IsTrue, false, reverse};
-ghost use Rattle.std.specs.Bool.{OnTrue};
-ghost use Rattle.pv_steps.specs.Right.{RightOver};
+ghost use Rattle.std.specs.Prelude.{◌≡◌, ◌↔◌, ◌≤◌, ◌∷◌, ◌++◌, [], ℕ, IfOk, IsTrue, false, length, reverse};
+ghost use Rattle.std.specs.Bool.{OnTrue, OnFalse};
+ghost use Rattle.pv_graph.specs.Graphs.{Graph};
+ghost use Rattle.pv_steps.specs.Right.{Grows, RightOver};
 ghost use Rattle.pv_axioms.specs.Entries.{Instance};
 ghost use Rattle.pv_check.specs.Kept.{AreKept};
 ghost use Rattle.pv_check.specs.Growth.{GrowsTo};
-ghost use Rattle.pv_check.specs.Checking.{IsJudged};
+ghost use Rattle.pv_check.specs.Checking.{IsJudged, IsRightAt};
 ghost use Rattle.pv_steps.specs.Accepted.{Derives, Rejects};
 
+use crate::moment::follow;
 use crate::seen::Seen;
 use crate::tables::Tables;
 use pv_alike::Least;
 use pv_axioms::Axioms;
+use pv_base::Gate;
 use pv_graph::Graph;
 use pv_steps::Step;
 use pv_value::Memory;
@@ -45,6 +48,27 @@ fn advance(
     Ok(true)
 }
 
+// Takes a step after those before it, right or not, where there is a graph after it.
+fn replay(
+    alloc: Global,
+    graph: &mut Graph,
+    tables: &mut Tables,
+    before: &[Step],
+    step: &Step,
+) -> Result<bool, Memory>
+    requires sealed { graph.old.is_open ≡ false }
+    requires kept { AreKept before.now tables.old.innermost.items tables.old.opened.items }
+    ensures grows { IfOk result (λ yes. OnTrue yes (GrowsTo step.now graph.old graph.new)) }
+    ensures none { IfOk result (λ yes. OnFalse yes ((new : Graph) → Grows step.now graph.old new → ⊥)) }
+    ensures kept { IfOk result (λ yes. OnTrue yes (AreKept (before.now ++ step.now ∷ []) tables.new.innermost.items tables.new.opened.items)) }
+{
+    if !follow(alloc, graph, step)? {
+        return Ok(false);
+    }
+    tables.take(before, step)?;
+    Ok(true)
+}
+
 /// The answer about a section: it is accepted, or rejected with the number of the first step that isn't right,
 /// or with one more than the number of steps where they don't conclude that the roots are equal.
 #[derive(Clone, Copy, Debug, PartialEq, Eq)]
@@ -53,49 +77,93 @@ pub enum Checked {
     Rejected(usize),
 }
 
-// Tests the steps of a section in order.
-fn judge(alloc: Global, axioms: &Axioms, least: &Least, steps: &[Step]) -> Result<Checked, Memory>
-    requires { least.now.graph.is_open ≡ false }
-    ensures { IfOk result (λ answer. IsJudged least.now steps.now answer) }
-{
-    let mut graph = least.graph().copy(alloc)?;
-    let mut tables = Tables::new(alloc)?;
-    for k in 0..steps.len() {
-        if !advance(
-            alloc,
-            axioms,
-            &mut graph,
-            &mut tables,
-            &steps[..k],
-            &steps[k],
-        )? {
-            return Ok(Checked::Rejected(k + 1));
-        }
-    }
-    let seen = Seen {
-        steps,
-        innermost: tables.innermost.as_slice(),
-        opened: tables.opened.as_slice(),
-    };
-    if seen.concludes(least.first(), least.second()) {
-        Ok(Checked::Accepted)
-    } else {
-        Ok(Checked::Rejected(steps.len() + 1))
-    }
+/// A section of a certificate, to be checked over the least graph of two roots. Steps are counted from 1.
+#[derive(Clone, Copy)]
+pub struct Checker<'a> {
+    pub axioms: &'a Axioms,
+    pub least: &'a Least,
+    pub steps: &'a [Step],
 }
 
-/// Whether a section of a certificate is accepted over the least graph of two roots, or the least step of it that isn't
-/// right; one more than the number of steps where all are right but don't conclude that the roots are equal. Steps are
-/// counted from 1. Out of memory is the one error.
-pub fn check(
-    alloc: Global,
-    axioms: &Axioms,
-    least: &Least,
-    steps: &[Step],
-) -> Result<Checked, Memory>
-    requires sealed { least.now.graph.is_open ≡ false }
-    ensures accepts { IfOk result (λ answer. (answer ≡ Checked.Accepted) ↔ Derives Instance least.now.graph least.now.first least.now.second steps.now) }
-    ensures rejects { IfOk result (λ answer. (n : ℕ) → (answer ≡ Checked.Rejected n) ↔ Rejects Instance least.now.graph least.now.first least.now.second steps.now n) }
-{
-    judge(alloc, axioms, least, steps)
+impl<'a> Checker<'a> {
+    /// The checker of these steps. It takes no memory.
+    pub fn new(axioms: &'a Axioms, least: &'a Least, steps: &'a [Step]) -> Checker<'a>
+        ensures axioms { result.axioms.now ≡ axioms.now }
+        ensures least { result.least.now ≡ least.now }
+        ensures steps { result.steps.now ≡ steps.now }
+    {
+        Checker {
+            axioms,
+            least,
+            steps,
+        }
+    }
+
+    /// Whether step k is right after the steps before it, each node step of which is right. Other steps before it may
+    /// be wrong. It goes over the steps before k, so its time is linear in k. Out of memory is the one error.
+    pub fn step_is_right(&self, alloc: Global, k: usize) -> Result<bool, Memory>
+        requires sealed { self.now.least.now.graph.is_open ≡ false }
+        requires first { 1 ≤ k }
+        requires last { k ≤ length self.now.steps.now }
+        ensures right { IfOk result (λ yes. IsTrue yes ↔ IsRightAt self.now.least.now.graph self.now.steps.now k) }
+    {
+        let mut graph = self.least.graph().copy(alloc)?;
+        let mut tables = Tables::new(alloc)?;
+        for n in 0..k - 1 {
+            let (before, step) = (&self.steps[..n], &self.steps[n]);
+            let has_graph = replay(alloc, &mut graph, &mut tables, before, step)?;
+            if !has_graph {
+                return Ok(false);
+            }
+        }
+        let seen = Seen {
+            steps: &self.steps[..k - 1],
+            innermost: tables.innermost.as_slice(),
+            opened: tables.opened.as_slice(),
+        };
+        seen.takes(alloc, self.axioms, &mut graph, &self.steps[k - 1])
+    }
+
+    // Tests the steps in order.
+    fn judge<G: Gate>(&self, alloc: Global, gate: &G) -> Result<Checked, Memory>
+        requires { self.now.least.now.graph.is_open ≡ false }
+        ensures { IfOk result (λ answer. IsJudged self.now.least.now self.now.steps.now answer) }
+    {
+        let mut graph = self.least.graph().copy(alloc)?;
+        let mut tables = Tables::new(alloc)?;
+        for k in 0..self.steps.len() {
+            gate.enter(0);
+            if !advance(
+                alloc,
+                self.axioms,
+                &mut graph,
+                &mut tables,
+                &self.steps[..k],
+                &self.steps[k],
+            )? {
+                return Ok(Checked::Rejected(k + 1));
+            }
+        }
+        let seen = Seen {
+            steps: self.steps,
+            innermost: tables.innermost.as_slice(),
+            opened: tables.opened.as_slice(),
+        };
+        if seen.concludes(self.least.first(), self.least.second()) {
+            Ok(Checked::Accepted)
+        } else {
+            Ok(Checked::Rejected(self.steps.len() + 1))
+        }
+    }
+
+    /// Whether the section is accepted, or the least step of it that isn't right; one more than the number of steps
+    /// where all are right but don't conclude that the roots are equal. It passes the gate before each step, as piece
+    /// 0, which changes no answer. Out of memory is the one error.
+    pub fn check<G: Gate>(&self, alloc: Global, gate: &G) -> Result<Checked, Memory>
+        requires sealed { self.now.least.now.graph.is_open ≡ false }
+        ensures accepts { IfOk result (λ answer. (answer ≡ Checked.Accepted) ↔ Derives Instance self.now.least.now.graph self.now.least.now.first self.now.least.now.second self.now.steps.now) }
+        ensures rejects { IfOk result (λ answer. (n : ℕ) → (answer ≡ Checked.Rejected n) ↔ Rejects Instance self.now.least.now.graph self.now.least.now.first self.now.least.now.second self.now.steps.now n) }
+    {
+        self.judge(alloc, gate)
+    }
 }

@@ -1,9 +1,9 @@
 //! Whether the steps of a certificate are right.
 //!
 //! This layer stands on `pv_steps`, whose `specs/Right` says when a step is right after those before it
-//! (`RightOver`), on `pv_axioms` for the axioms (`Instance`), and on `pv_graph`. It takes the steps of a
-//! section in order, and looks at no step twice: each is tested over the graph of the moment and by what is
-//! kept of the steps so far.
+//! (`RightOver`), on `pv_axioms` for the axioms (`Instance`), on `pv_graph`, and on `pv_base` for the gate that
+//! is passed before each step. A check takes the steps of a section in order, and looks at no step twice: each
+//! is tested over the graph of the moment and by what is kept of the steps so far.
 //!
 //! What is kept (`specs/Kept`, `AreKept`): of each number of steps the innermost block that is open after
 //! them, and of each block whether it is open now. A block goes by the number of the step that opened it.
@@ -18,11 +18,14 @@
 //! `RightOver` holds at the axioms of all tables, and makes the graph that the step leaves (`GrowsTo`): a node
 //! step adds its node, and the test of what opens an ending block prepares the graph. `concludes` of
 //! `conclusion` is yes exactly where the steps so far conclude that two nodes are equal (`IsConcluded`).
-//! `advance` of `checker` takes one right step.
+//! `advance` of `checker` takes one right step. `replay` takes one that may be wrong: it keeps the graph (`follow` of
+//! `moment`) and the tables, and tests node steps alone.
 //!
-//! The layer above uses `check`, which walks over a section: its clauses say that the answer is `Accepted` exactly where the
-//! section derives that the roots are equal (`Derives`), and a number exactly where it is rejected with that number
-//! (`Rejects`). What an accepted section shows is `law_accepted` of `pv_axioms`.
+//! The layer above uses `Checker`, of axioms, a least graph and steps. `check` walks over a section: its clauses say that
+//! the answer is `Accepted` exactly where the section derives that the roots are equal (`Derives`), and a number exactly
+//! where it is rejected with that number (`Rejects`). What an accepted section shows is `law_accepted` of `pv_axioms`.
+//! `step_is_right` answers of one step whether it is right after those before it (`IsRightAt`), each node step of which is
+//! right; it replays these.
 #![tactic(auto)]
 
 mod assuming;
@@ -42,4 +45,4 @@ mod spine;
 mod tables;
 mod testing;
 
-pub use checker::{Checked, check};
+pub use checker::{Checked, Checker};

@@ -7,8 +7,9 @@ ghost use Rattle.pv_sections.specs.Findings.{IsFinding};
 ghost use Rattle.pv_sections.specs.Reading.{IsFindingOnPlaces};
 
 use pv_axioms::Axioms;
+use pv_base::Gate;
 use pv_cert::Section;
-use pv_check::{Checked, check};
+use pv_check::{Checked, Checker};
 use pv_class::ClassFile;
 use pv_report::{Partners, Verdict, least_roots, named, partner_of};
 use pv_value::Memory;
@@ -35,8 +36,9 @@ pub(crate) struct Classes<'a> {
 }
 
 /// What is said of a section for two classes.
-pub(crate) fn find(
+pub(crate) fn find<G: Gate>(
     alloc: Global,
+    gate: &G,
     axioms: &Axioms,
     classes: &Classes,
     section: &Section,
@@ -50,13 +52,14 @@ pub(crate) fn find(
     let methods = classes.first.methods.as_slice();
     match named(&section.name, &section.desc, methods, classes.in_first)? {
         None => Ok(Finding::Verdict(Verdict::Missing)),
-        Some(method) => find_at(alloc, axioms, classes, method, section),
+        Some(method) => find_at(alloc, gate, axioms, classes, method, section),
     }
 }
 
 // What is said of a section, where the method that it names is at this place of the first class.
-fn find_at(
+fn find_at<G: Gate>(
     alloc: Global,
+    gate: &G,
     axioms: &Axioms,
     classes: &Classes,
     method: usize,
@@ -72,13 +75,14 @@ fn find_at(
     let one = &classes.first.methods.as_slice()[method];
     match partner_of(one, classes.second.methods.as_slice(), classes.in_second)? {
         None => Ok(Finding::Verdict(Verdict::Missing)),
-        Some(partner) => find_on(alloc, axioms, classes, method, partner, section),
+        Some(partner) => find_on(alloc, gate, axioms, classes, method, partner, section),
     }
 }
 
 // What is said of a section for two methods at their places.
-fn find_on(
+fn find_on<G: Gate>(
     alloc: Global,
+    gate: &G,
     axioms: &Axioms,
     classes: &Classes,
     method: usize,
@@ -95,7 +99,8 @@ fn find_on(
         Ok(least) => least,
         Err(verdict) => return Ok(Finding::Verdict(verdict)),
     };
-    match check(alloc, axioms, &least, section.steps.as_slice())? {
+    let checker = Checker::new(axioms, &least, section.steps.as_slice());
+    match checker.check(alloc, gate)? {
         Checked::Accepted => Ok(Finding::Verdict(Verdict::Equivalent)),
         Checked::Rejected(n) => Ok(Finding::Rejected(n)),
     }

@@ -9,6 +9,7 @@ use crate::certificate::{cert_of, other_file};
 use crate::finding::{Classes, Finding, find};
 use crate::line::{bad_certificate, push_section};
 use pv_axioms::Axioms;
+use pv_base::Gate;
 use pv_cert::Section;
 use pv_class::{ClassFault, ClassFile, LONGEST_FILE};
 use pv_report::{Fetched, Partners, Side, Verdict, bad_class, class_in};
@@ -39,9 +40,10 @@ pub(crate) struct Digested {
 /// What is said of two files and a certificate, and how that went: a line for each section of the certificate, in its
 /// order; or one line on the first of the two files that is no class file, or else on the certificate where it has no
 /// reading or names another file. The limit of the first two fetches is `LONGEST_FILE`, that of the third `LONGEST_CERT`.
-/// Out of memory is the one error.
-pub fn rule(
+/// The gate is passed before each step of a section, and changes no answer. Out of memory is the one error.
+pub fn rule<G: Gate>(
     alloc: Global,
+    gate: &G,
     first: &Fetched,
     second: &Fetched,
     cert: &Fetched,
@@ -62,7 +64,13 @@ pub fn rule(
     };
     match other_file(&cert, one.digest, two.digest) {
         Some(flaw) => Ok((bad_certificate(alloc, flaw)?, Ruling::BadCert)),
-        None => find_all(alloc, &one.class, &two.class, cert.sections.as_slice()),
+        None => find_all(
+            alloc,
+            gate,
+            &one.class,
+            &two.class,
+            cert.sections.as_slice(),
+        ),
     }
 }
 
@@ -84,8 +92,9 @@ fn with_digest(alloc: Global, fetched: &Fetched) -> Result<Result<Digested, Clas
 }
 
 // The lines of all sections, and whether each of them says `equivalent`.
-fn find_all(
+fn find_all<G: Gate>(
     alloc: Global,
+    gate: &G,
     first: &ClassFile,
     second: &ClassFile,
     sections: &[Section],
@@ -106,7 +115,7 @@ fn find_all(
     let mut text = Vec::new(alloc);
     let mut all_equivalent = true;
     for section in sections {
-        let finding = find(alloc, &axioms, &classes, section)?;
+        let finding = find(alloc, gate, &axioms, &classes, section)?;
         push_section(alloc, &mut text, section, finding)?;
         if !says_equivalent(finding) {
             all_equivalent = false;

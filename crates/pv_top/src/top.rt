@@ -23,14 +23,14 @@ use std::thread::Threads;
 /// `words` are the words after the program's name. `validate A B` fetches the class files A and B
 /// and says, in a line for each method of A, whether its partner in B has the same meaning.
 /// `check A B CERT` fetches a certificate too, and says, in a line for each of its sections, whether
-/// the steps of the section show this of the two methods that it names.
+/// the steps of the section show this of the two methods that it names; the gate is passed before each step.
 pub fn run<R: Threads + Sync, F: Files, K: Sink, G: Gate>(
     _rt: &R,
     alloc: Global,
     words: &[&str],
     files: &mut F,
     out: &mut K,
-    _gate: &G,
+    gate: &G,
 ) -> Status
     // Whatever else happened, each whole line `.. equivalent` that the sink took is true.
     ensures equivalent { (a b : List ℕ) → AreOn (texts words.now) a b → EachEquivalent (F.held files.old) a b (K.sent out.old) (K.sent out.new) }
@@ -53,7 +53,7 @@ pub fn run<R: Threads + Sync, F: Files, K: Sink, G: Gate>(
                 second,
                 cert,
             },
-        ) => { check(alloc, first, second, cert, files, out) }
+        ) => { check(alloc, gate, first, second, cert, files, out) }
         None => say(out, b"bad words\n", Status::BadWords),
     }
 }
@@ -81,8 +81,9 @@ fn validate<F: Files, K: Sink>(
 }
 
 // Fetches both files and the certificate, and says what there is to say of them.
-fn check<F: Files, K: Sink>(
+fn check<F: Files, K: Sink, G: Gate>(
     alloc: Global,
+    gate: &G,
     a: &str,
     b: &str,
     cert: &str,
@@ -101,7 +102,7 @@ fn check<F: Files, K: Sink>(
         Ok(cert) => cert,
         Err(status) => return status,
     };
-    match rule(alloc, &first, &second, &cert) {
+    match rule(alloc, gate, &first, &second, &cert) {
         Ok((text, ruling)) => say(out, &text, Status::of_ruling(ruling)),
         Err(_) => Status::Memory,
     }

@@ -7,10 +7,10 @@ use Rattle.pv_sections.proofs.report.find_all.Goals as goal
 use Rattle.pv_sections.proofs.report.find_all.Goals.{then-not-says_equivalent, else-not-says_equivalent}
 
 pub loop-section-init : goal.loop-section-init
-loop-section-init c = rw c.new-text.ensures.items (nothing_so_far (IsFinding c.args.first.now c.args.second.now) section_line SaysEquivalent c.args.sections.now)
+loop-section-init g c = rw c.new-text.ensures.items (nothing_so_far (IsFinding c.args.first.now c.args.second.now) section_line SaysEquivalent c.args.sections.now)
 
 pub loop-section-preserved : goal.loop-section-preserved
-loop-section-preserved c =
+loop-section-preserved g c =
     let s = c.section-item.result in
     let f = c.in_ok-finding.finding in
     let flags : Flags SaysEquivalent c.loop-section.all_equivalent c.if-not-says_equivalent.all_equivalent f =

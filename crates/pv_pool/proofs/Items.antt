@@ -22,17 +22,10 @@ abbrev pub Spells : ToCome → List ℕ → Entry → Type 0
 Spells Of t e = (items : List Item) × (t ≡ flat_map item_text items) × Of e items × Fit items
 
 -- some of them, and then fewer bytes than the next item has
-pub record Cuts (Of : ToCome) (bytes : List ℕ) (s : Stop) : Type 0 where
-  pub entry : Entry
-  pub before : List Item
-  pub item : Item
-  pub after : List Item
-  pub rest : List ℕ
-  pub of : Of entry (before ++ item ∷ after)
-  pub fits : Fit (before ++ item ∷ after)
-  pub stands : bytes ≡ flat_map item_text before ++ rest
-  pub short : length rest < length (item_text item)
-  pub far : s ≡ stop.Truncated (length rest)
+abbrev pub Cuts : ToCome → List ℕ → Stop → Type 0
+Cuts Of bytes s =
+    (e : Entry) × (before : List Item) × (next : Item) × (after : List Item) × (rest : List ℕ) × Of e (before ++ next ∷ after) × Fit (before ++ next ∷ after)
+    × (bytes ≡ flat_map item_text before ++ rest) × (length rest < length (item_text next)) × (s ≡ stop.Truncated (length rest))
 
 -- a grammar of these items, which stops where they are cut, and by E
 pub record Reads (g : Grammar Stop Entry) (Of : ToCome) (E : List ℕ → Stop → Type 0) : Type 0 where
@@ -43,15 +36,6 @@ pub record Reads (g : Grammar Stop Entry) (Of : ToCome) (E : List ℕ → Stop �
 
 abbrev pub Never : List ℕ → Stop → Type 0
 Never bytes s = ⊥
-
--- where E is never so
-pub only_cuts : {g : Grammar Stop Entry} {Of : ToCome} {E : List ℕ → Stop → Type 0} → Reads g Of E → ((bytes : List ℕ) (s : Stop) → E bytes s → ⊥) → Reads g Of Never
-only_cuts r none = record {
-  texts = r.texts;
-  stops = λ bytes s fits h. elim (r.stops bytes s fits h) [ inl c ↦ inl c | inr e ↦ absurd (none bytes s e) ];
-  cut = r.cut;
-  other = λ bytes s h. absurd h;
-}
 
 -- ---- no items
 
@@ -67,7 +51,7 @@ unfolding Stops
 made_reads e = record {
   texts = same_texts (give_texts e) (λ t d s. ([], s.0, (s.1, refl), tt)) (λ t d s. (s.1 ∙ ap (flat_map item_text) s.2.1, s.2.0));
   stops = λ bytes s fits h. absurd h;
-  cut = λ bytes s c. no_split c.before c.item c.after (sym c.of.1);
+  cut = λ bytes s c. no_split c.1 c.2 c.3 (sym c.5.1);
   other = λ bytes s h. h;
 }
 
@@ -145,53 +129,34 @@ module _ {X : Type 0} {g : Grammar Stop X} {k : X → Grammar Stop Entry} (made 
       (x, flat_map item_text rest, text ∙ ap (flat_map item_text) parts ∙ flat_map-cons item_text (made x) rest, (both.0, is), (rest, refl, of, both.1))
 
   stops_here : Example made P Of → (bytes : List ℕ) (s : Stop) → length bytes < size → s ≡ stop.Truncated (length bytes) → Cuts (After made P Of) bytes s
-  stops_here n bytes s lt far = record {
-    entry = n.entry;
-    before = [];
-    item = made n.first;
-    after = n.items;
-    rest = bytes;
-    of = (n.first, n.items, refl, n.is.1, n.of);
-    fits = (n.is.0, n.fits);
-    stands = refl;
-    short = omega (arith, lt, i.long n.first n.is.1);
-    far = far;
-  }
+  stops_here n bytes s lt far =
+      let short : length bytes < length (item_text (made n.first)) = omega (arith, lt, i.long n.first n.is.1) in
+      (n.entry, [], made n.first, n.items, bytes, (n.first, n.items, refl, n.is.1, n.of), (n.is.0, n.fits), refl, short, far)
 
   stops_later : (bytes : List ℕ) (s : Stop) (x : X) (mid : List ℕ) → bytes ≡ item_text (made x) ++ mid → Is made P x → Cuts (Of x) mid s → Cuts (After made P Of) bytes s
-  stops_later bytes s x mid parts is c = record {
-    entry = c.entry;
-    before = made x ∷ c.before;
-    item = c.item;
-    after = c.after;
-    rest = c.rest;
-    of = (x, c.before ++ c.item ∷ c.after, refl, is.1, c.of);
-    fits = (is.0, c.fits);
-    stands = one_more x c.before bytes c.rest (parts ∙ ap (λ (u : List ℕ). item_text (made x) ++ u) c.stands);
-    short = c.short;
-    far = c.far;
-  }
+  stops_later bytes s x mid parts is (e, before, next, after, rest, of, fits, stands, short, far) =
+      let all = one_more x before bytes rest (parts ∙ ap (λ (u : List ℕ). item_text (made x) ++ u) stands) in
+      (e, made x ∷ before, next, after, rest, (x, before ++ next ∷ after, refl, is.1, of), (is.0, fits), all, short, far)
 
   in_next : (bytes : List ℕ) (s : Stop) (x : X) (mid : List ℕ) → bytes ≡ item_text (made x) ++ mid → Is made P x → Stops (k x) mid s → Stops (bind g k) bytes s
   in_next bytes s x mid parts is h =
       let Q : List ℕ → Type 0 = λ u. Stops (bind g k) u s in
       subst Q (sym parts) (stops_then g k (item_text (made x) ++ mid) x mid s (i.texts.again (item_text (made x)) x mid (refl, is) (omega arith)) h)
 
-  cut_stops : (bytes : List ℕ) (s : Stop) (e : Entry) (before : List Item) (next : Item) (after : List Item) (rest : List ℕ) → After made P Of e (before ++ next ∷ after) → Fit (before ++ next ∷ after)
-      → bytes ≡ flat_map item_text before ++ rest → length rest < length (item_text next) → s ≡ stop.Truncated (length rest) → Stops (bind g k) bytes s
-  cut_stops bytes s e [] next after rest (x, more, parts, is, of) all stands short far =
+  cut_stops : (bytes : List ℕ) (s : Stop) → Cuts (After made P Of) bytes s → Stops (bind g k) bytes s
+  cut_stops bytes s (e, [], next, after, rest, (x, more, parts, is, of), fits, stands, short, far) =
       let same : next ≡ made x = cc in
       let size : length (item_text next) ≡ size = ap (λ (j : Item). length (item_text j)) same ∙ i.long x is in
       let long : length bytes ≡ length rest = ap length stands in
-      let far : s ≡ stop.Truncated (length bytes) = far ∙ ap stop.Truncated (sym long) in
-      subst (Stops (bind g k) bytes) (sym far) (stops_first g k bytes (stop.Truncated (length bytes)) (i.short bytes (omega (arith, long, size, short))))
-  cut_stops bytes s e (b ∷ before) next after rest (x, more, parts, is, of) all stands short far =
+      let here = i.short bytes (omega (arith, long, size, short)) in
+      subst (Stops (bind g k) bytes) (ap stop.Truncated long ∙ sym far) (stops_first g k bytes (stop.Truncated (length bytes)) here)
+  cut_stops bytes s (e, b ∷ before, next, after, rest, (x, more, parts, is, of), fits, stands, short, far) =
       let same : b ≡ made x = cc in
       let others : more ≡ before ++ next ∷ after = cc in
-      let begins : bytes ≡ item_text (made x) ++ (flat_map item_text before ++ rest) =
-      stands ∙ ap (λ (u : List ℕ). u ++ rest) (flat_map-cons item_text b before) ∙ append_assoc (item_text b) (flat_map item_text before) rest ∙ ap (λ (j : Item). item_text j ++ (flat_map item_text before ++ rest)) same in
-      let small : FitsItem (made x) = subst FitsItem same all.0 in
-      in_next bytes s x (flat_map item_text before ++ rest) begins (small, is) ((r x).cut (flat_map item_text before ++ rest) s (record { entry = e; before = before; item = next; after = after; rest = rest; of = subst (Of x e) others of; fits = all.1; stands = refl; short = short; far = far }))
+      let later = flat_map item_text before ++ rest in
+      let begins : bytes ≡ item_text (made x) ++ later =
+      stands ∙ ap (λ (u : List ℕ). u ++ rest) (flat_map-cons item_text b before) ∙ append_assoc (item_text b) (flat_map item_text before) rest ∙ ap (λ (j : Item). item_text j ++ later) same in
+      in_next bytes s x later begins (subst FitsItem same fits.0, is) ((r x).cut later s (e, before, next, after, rest, subst (Of x e) others of, fits.1, refl, short, far))
 
   pub then_reads : Example made P Of → Reads (bind g k) (After made P Of) (Later made P E)
   then_reads n = record {
@@ -207,6 +172,6 @@ module _ {X : Type 0} {g : Grammar Stop X} {k : X → Grammar Stop Entry} (made 
                 | inr e ↦ inr (x, mid, parts, p.2.1, e)
               ]
         ];
-    cut = λ bytes s c. cut_stops bytes s c.entry c.before c.item c.after c.rest c.of c.fits c.stands c.short c.far;
+    cut = cut_stops;
     other = λ bytes s l. in_next bytes s l.0 l.1 l.2 l.3 ((r l.0).other l.1 s l.4);
   }

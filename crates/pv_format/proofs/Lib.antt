@@ -5,3 +5,4 @@ pub mod GrammarParts
 pub mod GrammarReadings
 pub mod Bytes
 pub mod GrammarTexts
+pub mod GrammarStops

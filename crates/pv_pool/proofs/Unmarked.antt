@@ -5,6 +5,7 @@ use Rattle.std.proofs.lemmas.List.Concat.{flat_map-cons}
 use Rattle.std.proofs.lemmas.List.Elements.{filter_map-append}
 use Rattle.pv_value.specs.declared.receiver.TheConstants.{MARK}
 use Rattle.pv_value.proofs.Cited.{receivers_apart}
+use Rattle.pv_format.proofs.Cited.{all-append}
 use Rattle.pv_pool.specs.declared.entry.Entry.{Entry}
 use Rattle.pv_pool.specs.declared.entry.Entry.TheVariants.{Utf8}
 use Rattle.pv_pool.specs.declared.constant.Member.{Member}
@@ -32,14 +33,10 @@ in_group (a ∷ b ∷ []) h = (small a (omega (arith, h.1)), (small b (omega (ar
 in_group (a ∷ b ∷ c ∷ []) h = (small a h.1, (small b (omega (arith, h.2.1)), (small c (omega (arith, h.3.1)), tt)))
 in_group (a ∷ b ∷ c ∷ d ∷ group) h = absurd h
 
-in_both : (xs ys : List ℕ) → IsUnmarked xs → IsUnmarked ys → IsUnmarked (xs ++ ys)
-in_both [] ys h k = k
-in_both (x ∷ xs) ys h k = (h.0, in_both xs ys h.1 k)
-
 in_groups : (groups : List (List ℕ)) → AllByRecursion IsGroup groups → IsUnmarked (flat_map (λ group. group) groups)
 in_groups [] all = tt
 in_groups (group ∷ groups) all =
-    subst IsUnmarked (sym (flat_map-cons (λ (g : List ℕ). g) group groups)) (in_both group (flat_map (λ g. g) groups) (in_group group all.0) (in_groups groups all.1))
+    subst IsUnmarked (sym (flat_map-cons (λ (g : List ℕ). g) group groups)) (all-append (λ b. b ≢ MARK) group (flat_map (λ g. g) groups) (in_group group all.0) (in_groups groups all.1))
 
 in_text : (text : List ℕ) → IsText text → IsUnmarked text
 in_text text h = subst IsUnmarked (sym h.spelled) (in_groups h.groups h.each)

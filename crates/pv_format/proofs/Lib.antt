@@ -5,3 +5,6 @@ pub mod GrammarParts
 pub mod GrammarReadings
 pub mod Bytes
 pub mod GrammarTexts
+pub mod ManyReads
+pub mod MoreTexts
+pub mod FreeGrammars

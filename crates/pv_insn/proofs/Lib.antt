@@ -1,8 +1,9 @@
-pub mod Loop
-pub mod Formats
+pub mod SwitchReads
+pub mod Numbers
 pub mod Switches
 pub mod Operands
 pub mod Walks
+pub mod Zips
 pub mod Linking
 pub mod Placing
 pub mod Resolving

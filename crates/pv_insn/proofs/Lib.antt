@@ -2,13 +2,14 @@ pub mod SwitchReads
 pub mod Numbers
 pub mod Switches
 pub mod Operands
+pub mod Nexts
 pub mod Walks
 pub mod Zips
 pub mod Linking
 pub mod Placing
 pub mod Resolving
-pub mod Once
 pub mod Answering
+pub mod Computed
 pub mod Examples
 pub mod Sizes
 pub mod Within

@@ -1,6 +1,6 @@
 -- Where a grammar that checks nothing stops, some more bytes make a text that it takes to its end; and what it takes, it takes whatever comes after.
-use Rattle.std.proofs.Common.{◌≡◌, ◌≢◌, inl, inr, ℕ, zero, suc, ◌+◌, ◌-◌, ◌<◌, Bool, true, false, List, [], ◌∷◌, ◌++◌, length, Ok, refl, sym, ap, subst, ◌∙◌, append_assoc, arith}
-use Rattle.std.proofs.lemmas.List.{append-nil, length-append}
+use Rattle.std.proofs.Common.{◌≡◌, ◌≢◌, inl, inr, ℕ, zero, suc, ◌-◌, ◌<◌, Bool, true, false, List, [], ◌∷◌, ◌++◌, length, refl, sym, ap, ◌∙◌, append_assoc, arith}
+use Rattle.std.proofs.lemmas.List.{length-append}
 use Rattle.pv_format.specs.Grammars.{Grammar, give, here, item, check, bind, Takes, Stops}
 use Rattle.pv_format.specs.FreeGrammars.{IsFree, either, many}
 use Rattle.pv_format.proofs.Bytes.{IsBytes}

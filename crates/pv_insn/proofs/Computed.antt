@@ -6,7 +6,6 @@ use Rattle.pv_format.specs.GrammarReading.{read}
 use Rattle.pv_format.proofs.Cited.{IsBytes}
 use Rattle.pv_insn.specs.declared.fault.Stop.{Stop}
 use Rattle.pv_insn.specs.declared.raw.Raw.{Raw}
-use Rattle.pv_insn.specs.declared.raw.RawPlaced.{RawPlaced}
 use Rattle.pv_insn.specs.Pieces.{instruction, Spells}
 use Rattle.pv_insn.specs.Codes.{IsOrdered, IsInstruction}
 use Rattle.pv_insn.specs.Reading.{piece, Fails}

@@ -1,6 +1,6 @@
 -- The texts of numbers, in two's complement too.
-use Rattle.std.proofs.Common.{◌≡◌, ℕ, ℤ, ◌+◌, ◌*◌, ◌^◌, ◌<◌, List, length, FitsSigned, refl, sym, ap, subst, ◌∙◌}
-use Rattle.std.specs.Int.{Width, w8, w16, w32, w64, w128, byte_len, to_be_bytes, cast_unsigned, cast_signed}
+use Rattle.std.proofs.Common.{◌≡◌, ℕ, ℤ, List, FitsSigned, sym, ap, subst, ◌∙◌}
+use Rattle.std.specs.Int.{Width, w8, w16, w32, w64, w128, to_be_bytes, cast_unsigned, cast_signed}
 use Rattle.std.proofs.Math.Facts.{sfits_to_z, Fits-of_lt, Fits-of_z, Fits-lt-pow}
 use Rattle.std.proofs.lemmas.Int.{to_z-of_z, of_z-to_z}
 use Rattle.pv_format.proofs.Cited.{IsTexts, same_texts, number_texts, made_texts, IsWide, Follow, follow_texts}

@@ -10,6 +10,7 @@ pub mod Seen
 pub mod Numbers
 pub mod Grammars
 pub mod GrammarReading
+pub mod FreeGrammars
 -- laws: what is spelled is read again, and nothing else is; a format holds them, so each is proved where it is made
 pub mod Options
 pub mod FormatLaws

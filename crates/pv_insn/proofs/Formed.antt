@@ -56,13 +56,7 @@ module _ (raws : List RawPlaced) (from : ℕ) (i : Insn) where
   after_opcode : (at o : ℕ) (f : Option Form) (r : Raw) (rest : List ℕ) → o < 256 → form_of o ≡ f → AfterOpcode at o f (instruction r) rest → Leads' r → IsFormed i
   after_opcode at o None r rest byte is b l = absurd (cc (b.0))
   after_opcode at o (Some form.Plain) r rest byte is b l = plainly o byte is (subst Leads' (raw_of r _ b.0) l)
-  after_opcode at o (Some form.Byte) r rest byte is b l = subst IsFormed (sym (subst Leads' (raw_of r _ b.is) l)) tt
-  after_opcode at o (Some form.Short) r rest byte is b l = subst IsFormed (sym (subst Leads' (raw_of r _ b.is) l)) tt
   after_opcode at o (Some form.Local) r rest byte is b l = locally o b.number byte is (subst Leads' (raw_of r _ b.is) l)
-  after_opcode at o (Some form.Increment) r rest byte is b l = subst IsFormed (sym (subst Leads' (raw_of r _ b.is) l)) tt
-  after_opcode at o (Some form.Index1) r rest byte is b l = subst IsFormed (sym (subst Leads' (raw_of r _ b.is) l)) tt
-  after_opcode at o (Some form.Index2) r rest byte is b l = subst IsFormed (sym (subst Leads' (raw_of r _ b.is) l)) tt
-  after_opcode at o (Some form.IndexAndShort) r rest byte is b l = subst IsFormed (sym (subst Leads' (raw_of r _ b.is) l)) tt
   after_opcode at o (Some form.Branch2) r rest byte is b l = let to = subst Leads' (raw_of r _ b.is) l in subst IsFormed (sym to.2) (byte, inl is)
   after_opcode at o (Some form.Branch4) r rest byte is b l = let to = subst Leads' (raw_of r _ b.is) l in subst IsFormed (sym to.2) (byte, inr is)
   after_opcode at o (Some form.Table) r rest byte is (inl b) l =
@@ -76,6 +70,7 @@ module _ (raws : List RawPlaced) (from : ℕ) (i : Insn) where
   after_opcode at o (Some (form.Skipped n)) r rest byte is b l = refused o byte (inl (n, is)) (subst Leads' (raw_of r _ b.1) l)
   after_opcode at o (Some form.SkippedLocal) r rest byte is b l = refused o byte (inr is) (subst Leads' (raw_of r _ b.1) l)
   after_opcode at o (Some form.Wide) r rest byte is b l = widened b.op (form_of b.op) r b.rest b.byte refl b.operands l
+  after_opcode at o (Some f) r rest byte is b l = subst IsFormed (sym (subst Leads' (raw_of r _ b.is) l)) tt
 
 all_formed : (raws here : List RawPlaced) (placed : List Placed) (at : ℕ) (bytes : List ℕ) → AreFrom at here bytes → AllZip (IsPlaced raws) here placed → AllByRecursion (λ p. IsFormed p.insn) placed
 all_formed raws [] [] at bytes from all = tt

@@ -6,23 +6,23 @@ use Rattle.std.specs.Prelude.{ℤ}
 use Rattle.pv_insn.specs.Opcodes.{Format, nothing, byte, short, local, increment, byte_index, index, index_and_short, offset, wide_offset, table, pairs, wide_instruction, size_of, wide_size_of}
 use Rattle.pv_insn.specs.Forms.{taken, skipped}
 use Rattle.pv_insn.specs.Pieces.{Piece, unknown, IsUnsigned, IsSigned, IsIncrement, IsIndexAndShort, Operands, Widened}
-use Rattle.pv_insn.proofs.Formats.{IsWidth, width8, width16, width32}
+use Rattle.pv_format.proofs.Cited.{IsWide, wide8, wide16, wide32}
 
-unsigned_size : (w : Width) → IsWidth w → (n : ℕ) (bytes : List ℕ) → IsUnsigned w n bytes → length bytes ≡ byte_len w
-unsigned_size w width n bytes is = ap length is.1 ∙ width.len n
+unsigned_size : (w : Width) → IsWide w → (n : ℕ) (bytes : List ℕ) → IsUnsigned w n bytes → length bytes ≡ byte_len w
+unsigned_size w wide n bytes is = ap length is.1 ∙ wide.len n
 
-signed_size : (w : Width) → IsWidth w → (n : ℤ) (bytes : List ℕ) → IsSigned w n bytes → length bytes ≡ byte_len w
-signed_size w width n bytes is = ap length is.1 ∙ width.len (cast_unsigned w n)
+signed_size : (w : Width) → IsWide w → (n : ℤ) (bytes : List ℕ) → IsSigned w n bytes → length bytes ≡ byte_len w
+signed_size w wide n bytes is = ap length is.1 ∙ wide.len (cast_unsigned w n)
 
-increment_size : (w : Width) → IsWidth w → (piece : Piece) (bytes : List ℕ) → IsIncrement w piece bytes → length bytes ≡ byte_len w + byte_len w
-increment_size w width piece bytes is =
-    let first = unsigned_size w width is.local is.front is.first in
-    let second = signed_size w width is.number is.back is.second in
+increment_size : (w : Width) → IsWide w → (piece : Piece) (bytes : List ℕ) → IsIncrement w piece bytes → length bytes ≡ byte_len w + byte_len w
+increment_size w wide piece bytes is =
+    let first = unsigned_size w wide is.local is.front is.first in
+    let second = signed_size w wide is.number is.back is.second in
     omega (arith, first, second, ap length is.parts, length-append is.front is.back)
 
 index_and_short_size : (op : ℕ) (piece : Piece) (bytes : List ℕ) → IsIndexAndShort op piece bytes → length bytes ≡ 4
 index_and_short_size op piece bytes is =
-    let first = unsigned_size _ width16 is.number is.front is.spelled in
+    let first = unsigned_size _ wide16 is.number is.front is.spelled in
     omega (arith, first, is.any, ap length is.parts, length-append is.front is.back)
 
 -- those of switches and those after wide differ
@@ -38,15 +38,15 @@ skipped_size at op format piece bytes is = is.0
 
 pub taken_size : (at op : ℕ) (format : Format) (piece : Piece) (bytes : List ℕ) → HasOneSize format → Operands at op (taken format) piece bytes → length bytes ≡ size_of format
 taken_size at op nothing piece bytes one is = ap length is.1
-taken_size at op byte piece bytes one is = signed_size _ width8 is.number bytes is.spelled
-taken_size at op short piece bytes one is = signed_size _ width16 is.number bytes is.spelled
-taken_size at op local piece bytes one is = unsigned_size _ width8 is.number bytes is.spelled
-taken_size at op increment piece bytes one is = increment_size _ width8 piece bytes is
-taken_size at op byte_index piece bytes one is = unsigned_size _ width8 is.number bytes is.spelled
-taken_size at op index piece bytes one is = unsigned_size _ width16 is.number bytes is.spelled
+taken_size at op byte piece bytes one is = signed_size _ wide8 is.number bytes is.spelled
+taken_size at op short piece bytes one is = signed_size _ wide16 is.number bytes is.spelled
+taken_size at op local piece bytes one is = unsigned_size _ wide8 is.number bytes is.spelled
+taken_size at op increment piece bytes one is = increment_size _ wide8 piece bytes is
+taken_size at op byte_index piece bytes one is = unsigned_size _ wide8 is.number bytes is.spelled
+taken_size at op index piece bytes one is = unsigned_size _ wide16 is.number bytes is.spelled
 taken_size at op index_and_short piece bytes one is = index_and_short_size op piece bytes is
-taken_size at op offset piece bytes one is = signed_size _ width16 is.number bytes is.spelled
-taken_size at op wide_offset piece bytes one is = signed_size _ width32 is.number bytes is.spelled
+taken_size at op offset piece bytes one is = signed_size _ wide16 is.number bytes is.spelled
+taken_size at op wide_offset piece bytes one is = signed_size _ wide32 is.number bytes is.spelled
 taken_size at op table piece bytes one is = absurd one
 taken_size at op pairs piece bytes one is = absurd one
 taken_size at op wide_instruction piece bytes one is = absurd one
@@ -60,8 +60,8 @@ HasWideSize (Some n) piece bytes = length bytes ≡ n
 HasWideSize None piece bytes = piece ≡ unknown
 
 pub wide_taken_size : (op : ℕ) (format : Format) (piece : Piece) (bytes : List ℕ) → Widened op (Some (taken format)) piece bytes → HasWideSize (wide_size_of format) piece bytes
-wide_taken_size op local piece bytes is = unsigned_size _ width16 is.number bytes is.spelled
-wide_taken_size op increment piece bytes is = increment_size _ width16 piece bytes is
+wide_taken_size op local piece bytes is = unsigned_size _ wide16 is.number bytes is.spelled
+wide_taken_size op increment piece bytes is = increment_size _ wide16 piece bytes is
 wide_taken_size op format piece bytes is = is.0
 
 pub wide_skipped_size : (op : ℕ) (piece : Piece) (bytes : List ℕ) → Widened op (Some (skipped local)) piece bytes → HasWideSize (wide_size_of local) piece bytes

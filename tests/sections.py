@@ -10,9 +10,10 @@ step is right. It prints each difference, and counts.
 It knows the axioms of the table below alone, which are not all: only numbers in it, and some that no axiom has, come into a
 section. The graphs of the methods are those of the rows' comments.
 
-    tests/sections.py [--seed N] [COUNT]
+    tests/sections.py [--seed N] [--steps] [COUNT]
 
-COUNT is how many changed sections there are, 1000000 if left out. The program is the one that
+With --steps it asks of each step of a changed section whether it is right, in place of whether the section is accepted. COUNT is
+how many changed sections there are, 1000000 if left out. The program is the one that
 `cd crates/cases && rt run < stdin` leaves; another one is named by CASES in the environment.
 """
 
@@ -357,7 +358,7 @@ class Section:
             right, pairs = self.is_right_set(parts), [(p, q) for p, q, _ in parts]
         elif row == "close":
             right = self.is_right_close(int(rest[0]), list(zip(rest[1::2], rest[2::2])))
-            around, pairs = around[:-1], self.open[-1][3] if self.open else []
+            around, pairs = around[:-1], self.open[-1][3] if self.open and self.open[-1][1] == "open" else []
         elif row == "finish":
             right = self.is_right_finish(int(rest[0]), int(rest[1]), rest[2:])
             around, pairs = around[:-1], [(int(rest[0]), int(rest[1]))]
@@ -406,6 +407,16 @@ def check(methods, steps):
     if not section.open and (one == two or (one, two) in last):
         return "Accepted"
     return f"Rejected({len(steps) + 1})"
+
+
+def each_step(methods, steps):
+    """What is to be answered of each step: after a node step that isn't right there is no graph, and no step is right."""
+    section, has_graph, said = Section(least(methods)[0].copy()), True, []
+    for line in steps:
+        right = section.takes(line) and has_graph
+        has_graph = has_graph and (right or not line.startswith("node "))
+        said.append("right" if right else "wrong")
+    return said
 
 
 # ---- changes
@@ -537,31 +548,37 @@ def rows():
     return [line for line in lines if line.startswith("let ") and line.split(" ")[1] in words], sections
 
 
-def answers(named, batch):
-    """What the program says of sections, each with its methods."""
+def answers(word, sizes, named, batch):
+    """What the program says of sections, each with its methods; `sizes` gives how many answers there are to a section."""
     given = {methods: [steps for of, steps in batch if of == methods] for methods in GRAPHS}
     head = "peggy-cert 1\nfirst " + "0" * 64 + "\nsecond " + "0" * 64 + "\n"
     lines = list(named)
     for methods, sections in given.items():
         text = head + "".join("method a ()V\n" + "".join(step + "\n" for step in steps) + "end\n" for steps in sections)
-        lines.append(f"section {text.encode().hex().upper()}; {methods}")
+        lines.append(f"{word} {text.encode().hex().upper()}; {methods}")
     program = shlex.split(os.environ.get("CASES", PROGRAM))
     ran = subprocess.run(program, input="\n".join(lines) + "\n", capture_output=True, text=True, timeout=1200)
     said = ran.stdout.splitlines()[len(named) :]
     if ran.returncode != 0 or len(said) != len(given):
         sys.exit(f"the program ended with {ran.returncode} after {len(said)} of {len(given)} lines")
-    return [(methods, steps, answer) for (methods, of), line in zip(given.items(), said) for steps, answer in zip(of, split(line, len(of)))]
+    return [(methods, steps, answer) for (methods, of), line in zip(given.items(), said) for steps, answer in zip(of, split(line, [sizes(steps) for steps in of]))]
 
 
-def split(line, count):
-    parts = [] if line == "-" else line.split("; ")
-    if len(parts) != count:
-        sys.exit(f"{len(parts)} answers to {count} sections: {line[:200]}")
-    return parts
+def split(line, counts):
+    """The answers of a line, as many for each section as `counts` says."""
+    parts, found = [] if line == "-" else line.split("; "), []
+    if len(parts) != sum(counts):
+        sys.exit(f"{len(parts)} answers, and not {sum(counts)}: {line[:200]}")
+    at = 0
+    for count in counts:
+        found.append(parts[at : at + count])
+        at += count
+    return found
 
 
 def main(args):
     seed = int(args.pop(args.index("--seed") + 1)) if "--seed" in args else 1
+    by_step = "--steps" in args
     count = int(next((arg for arg in args if arg.isdigit()), 1000000))
     rand, began, wrong, counts = random.Random(seed), time.time(), 0, {}
     named, sections = rows()
@@ -570,7 +587,16 @@ def main(args):
     for first in range(0, count, BATCH):
         chosen = [rand.choice(pool) for _ in range(min(BATCH, count - first))]
         batch = [(methods, changed(steps, sections[methods], rand)) for methods, steps in chosen]
-        for methods, steps, said in answers(named, batch):
+        if by_step:
+            for methods, steps, said in answers("steps", len, named, batch):
+                want = each_step(methods, steps)
+                for one in want:
+                    counts[one] = counts.get(one, 0) + 1
+                if said != want:
+                    wrong += 1
+                    print(f"{want} wanted, {said}: {methods}: {steps}")
+            continue
+        for methods, steps, (said,) in answers("section", lambda steps: 1, named, batch):
             want = check(methods, steps)
             row = steps[int(want[9:-1]) - 1].split(" ")[0] if want != "Accepted" and int(want[9:-1]) <= len(steps) else "end"
             kind = want if want == "Accepted" else f"rejected at {row}"
@@ -578,6 +604,9 @@ def main(args):
             if said != want:
                 wrong += 1
                 print(f"{want} wanted, {said}: {methods}: {steps}")
+    if by_step:
+        print(f"{count} sections in {time.time() - began:.0f} s, {wrong} differ; {counts.get('right', 0)} steps right, {counts.get('wrong', 0)} wrong")
+        sys.exit(wrong > 0)
     accepted = counts.pop("Accepted", 0)
     rejected = sum(counts.values())
     print(f"{count} sections in {time.time() - began:.0f} s, {wrong} differ; {accepted} accepted, {rejected} rejected:", end=" ")

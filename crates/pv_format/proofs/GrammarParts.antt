@@ -3,42 +3,34 @@ use Rattle.std.proofs.Common.{◌≡◌, ℕ, suc, ◌+◌, ◌-◌, ◌<◌, �
 use Rattle.pv_format.specs.Grammars.{Grammar, give, here, item, check, bind, times}
 use Rattle.pv_format.specs.GrammarReading.{read}
 
-item_then : {F A B : Type 0} (b : Bool) (s : F) (r : Result (A × List ℕ) F) (q : Result (B × List ℕ) F) (x : A) (rest : List ℕ) (y : Result (B × List ℕ) F) → cond b (Err s) r ≡ Ok (x, rest) → (r ≡ Ok (x, rest) → q ≡ y) → cond b (Err s) q ≡ y
-item_then true s r q x rest y h next = absurd cc
-item_then false s r q x rest y h next = next h
+-- what is read after what was read, or the fault that there was
+abbrev pub then_read : {F A B : Type 0} → Result (A × List ℕ) F → (A → List ℕ → Result (B × List ℕ) F) → Result (B × List ℕ) F
+then_read (Ok (x, rest)) f = f x rest
+then_read (Err e) f = Err e
 
-check_then : {F A B : Type 0} (b : Bool) (s : F) (r : Result (A × List ℕ) F) (q : Result (B × List ℕ) F) (x : A) (rest : List ℕ) (y : Result (B × List ℕ) F) → cond b r (Err s) ≡ Ok (x, rest) → (r ≡ Ok (x, rest) → q ≡ y) → cond b q (Err s) ≡ y
-check_then true s r q x rest y h next = next h
-check_then false s r q x rest y h next = absurd cc
+unless : {F A B : Type 0} (b : Bool) (e : F) (r : Result (A × List ℕ) F) (f : A → List ℕ → Result (B × List ℕ) F) (q : Result (B × List ℕ) F) → q ≡ then_read r f → cond b (Err e) q ≡ then_read (cond b (Err e) r) f
+unless true e r f q same = refl
+unless false e r f q same = same
+
+if : {F A B : Type 0} (b : Bool) (e : F) (r : Result (A × List ℕ) F) (f : A → List ℕ → Result (B × List ℕ) F) (q : Result (B × List ℕ) F) → q ≡ then_read r f → cond b q (Err e) ≡ then_read (cond b r (Err e)) f
+if true e r f q same = same
+if false e r f q same = refl
+
+-- one grammar, and then the other
+pub read_bind : {F A B : Type 0} (g : Grammar F A) (k : A → Grammar F B) (bytes : List ℕ) → read (bind g k) bytes ≡ then_read (read g bytes) (λ x rest. read (k x) rest)
+unfolding read bind
+read_bind (give x) k bytes = refl
+read_bind (here f) k bytes = read_bind (f (length bytes)) k bytes
+read_bind (item size after short f) k bytes = unless (ltb (length bytes) (size + after)) (short (length bytes)) (read (f (take size bytes)) (drop size bytes)) _ _ (read_bind (f (take size bytes)) k (drop size bytes))
+read_bind (check c e g) k bytes = if c.tells e (read g bytes) _ _ (read_bind g k bytes)
 
 -- a grammar that reads, and then what follows it
 pub read_then : {F A B : Type 0} (g : Grammar F A) (k : A → Grammar F B) (bytes : List ℕ) (x : A) (rest : List ℕ) → read g bytes ≡ Ok (x, rest) → read (bind g k) bytes ≡ read (k x) rest
-unfolding read bind
-read_then {A = A} (give y) k bytes x rest e =
-    let same : (y, bytes) ≡ (x, rest) = cc in
-    ap (λ (p : A × List ℕ). read (k p.0) p.1) same
-read_then (here f) k bytes x rest e = read_then (f (length bytes)) k bytes x rest e
-read_then (item size after short f) k bytes x rest e =
-    item_then (ltb (length bytes) (size + after)) (short (length bytes)) (read (f (take size bytes)) (drop size bytes)) (read (bind (f (take size bytes)) k) (drop size bytes)) x rest (read (k x) rest) e
-    (λ h. read_then (f (take size bytes)) k (drop size bytes) x rest h)
-read_then (check c s g) k bytes x rest e = check_then c.tells s (read g bytes) (read (bind g k) bytes) x rest (read (k x) rest) e (λ h. read_then g k bytes x rest h)
-
-item_fails : {F A B : Type 0} (b : Bool) (s e : F) (r : Result (A × List ℕ) F) (q : Result (B × List ℕ) F) → cond b (Err s) r ≡ Err e → (r ≡ Err e → q ≡ Err e) → cond b (Err s) q ≡ Err e
-item_fails true s e r q h next = ap Err (cc)
-item_fails false s e r q h next = next h
-
-check_fails : {F A B : Type 0} (b : Bool) (s e : F) (r : Result (A × List ℕ) F) (q : Result (B × List ℕ) F) → cond b r (Err s) ≡ Err e → (r ≡ Err e → q ≡ Err e) → cond b q (Err s) ≡ Err e
-check_fails true s e r q h next = next h
-check_fails false s e r q h next = ap Err (cc)
+read_then {F = F} {A = A} g k bytes x rest e = read_bind g k bytes ∙ ap (λ (r : Result (A × List ℕ) F). then_read r (λ x rest. read (k x) rest)) e
 
 -- a grammar that fails, whatever follows it
 pub read_fails : {F A B : Type 0} (g : Grammar F A) (k : A → Grammar F B) (bytes : List ℕ) (e : F) → read g bytes ≡ Err e → read (bind g k) bytes ≡ Err e
-unfolding read bind
-read_fails (give y) k bytes e h = absurd cc
-read_fails (here f) k bytes e h = read_fails (f (length bytes)) k bytes e h
-read_fails (item size after short f) k bytes e h =
-    item_fails (ltb (length bytes) (size + after)) (short (length bytes)) e (read (f (take size bytes)) (drop size bytes)) (read (bind (f (take size bytes)) k) (drop size bytes)) h (λ i. read_fails (f (take size bytes)) k (drop size bytes) e i)
-read_fails (check c s g) k bytes e h = check_fails c.tells s e (read g bytes) (read (bind g k) bytes) h (λ i. read_fails g k bytes e i)
+read_fails {F = F} {A = A} g k bytes e h = read_bind g k bytes ∙ ap (λ (r : Result (A × List ℕ) F). then_read r (λ x rest. read (k x) rest)) h
 
 pub read_give : {F A : Type 0} (x : A) (bytes : List ℕ) → read {F = F} (give x) bytes ≡ Ok (x, bytes)
 unfolding read

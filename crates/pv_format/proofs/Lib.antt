@@ -5,7 +5,6 @@ pub mod GrammarParts
 pub mod GrammarReadings
 pub mod Bytes
 pub mod GrammarTexts
-pub mod GrammarStops
 pub mod ManyReads
 pub mod MoreTexts
 pub mod FreeGrammars

@@ -22,6 +22,10 @@
 //! (`specs/Splits`). Upper layers use these clauses, and cite `proofs/Cited`.
 #![tactic(auto)]
 
+mod front;
 mod split;
+mod stopped;
 
+pub use front::{run_at, u8_at, u16_at, u32_at, u64_at};
 pub use split::{cut_at, lines_of, words_of};
+pub use stopped::Stopped;

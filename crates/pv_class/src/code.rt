@@ -34,6 +34,7 @@ fn code_front_at(room: Room, start: usize, bytes: &[u8]) -> Result<((u16, u16, &
 
 /// The contents of a Code attribute that begins where `start` bytes are left, with contents of `size`
 /// bytes (JVMS 4.7.3).
+#[tactic(auto, unfolding(crate::specs::ClassGrammar::code_contents), using(pv_format::proofs::Cited::steps))]
 fn code_contents_at<'a>(
     alloc: Global,
     pool: &Pool,

@@ -67,6 +67,7 @@ fn entry_at<'a>(
 }
 
 /// `count` entries.
+#[tactic(auto, unfolding(pv_format::specs::Grammars::times), using(pv_format::proofs::Cited::steps))]
 fn times_at<'a>(
     entries: Entries,
     pool: &Pool,
@@ -84,7 +85,7 @@ fn times_at<'a>(
 }
 
 /// A table, with the number of its entries.
-#[tactic(auto, unfolding(pv_format::specs::GrammarReading::read, pv_format::specs::Grammars::bind), using(pv_format::proofs::Cited::read_then, pv_format::proofs::Cited::read_fails))]
+#[tactic(auto, using(pv_format::proofs::Cited::steps))]
 pub(crate) fn table_at<'a>(
     entries: Entries,
     pool: &Pool,

@@ -2,6 +2,7 @@ pub mod Cited
 pub mod Pairs
 pub mod Parts
 pub mod GrammarParts
+pub mod Steps
 pub mod GrammarReadings
 pub mod Bytes
 pub mod GrammarTexts

@@ -4,9 +4,10 @@ use Rattle.std.proofs.lemmas.List.{length-drop}
 use Rattle.pv_pool.specs.declared.entry.Entry.{Entry}
 use Rattle.pv_pool.specs.declared.fault.PoolFault.{PoolFault}
 use Rattle.pv_pool.specs.declared.fault.PoolFault.TheVariants as pool_fault
+use Rattle.pv_pool.specs.Pools.{IsPoolAt}
 use Rattle.pv_pool.specs.Faults as pool
 use Rattle.pv_pool.specs.Answers as pool_answers
-use Rattle.pv_pool.proofs.Cited.{one_answer}
+use Rattle.pv_pool.proofs.Cited.{one_answer, one_pool}
 use Rattle.pv_format.specs.Grammars.{bind}
 use Rattle.pv_format.specs.GrammarReading.{read}
 use Rattle.pv_format.proofs.Cited.{IsBytes, read_takes, takes_read, read_stops, stops_read}
@@ -21,6 +22,7 @@ use Rattle.pv_class.specs.declared.fault.Stop.{Stop}
 use Rattle.pv_class.specs.declared.fault.Stop.TheVariants.{Failed, Memory}
 use Rattle.pv_class.specs.ClassGrammar.{head, tail}
 use Rattle.pv_class.specs.ClassFaults.{fault_at, fault_of, IsOfPool, HasHead, IsBad, too_long, in_head, in_pool, in_tail}
+use Rattle.pv_class.specs.ClassFiles.{IsClass}
 use Rattle.pv_class.specs.Answers.{IsAnswer, UnlessMemory, Answers, Tells}
 use Rattle.pv_class.specs.Reading.{Fails, fault_in, of_pool}
 use Rattle.pv_class.proofs.ClassAgrees.{takes_class, class_taken}
@@ -52,10 +54,13 @@ head_read bytes h = (h.0, takes_read head bytes tt h.0 h.1)
 is_of_pool : (e : PoolFault) (b : ClassFault) → IsOfPool e b → b ≡ of_pool e
 is_of_pool e b h = grind arith
 
-is_comes : (bytes : List ℕ) (answer : Result ClassFile ClassFault) → IsAnswer bytes answer → Comes bytes answer
-is_comes bytes (Ok file) is =
+class_read : (bytes : List ℕ) (file : ClassFile) → IsClass bytes file → (after : ℕ) × HeadRead bytes × IsPoolAt bytes 8 file.pool after × (Ok file ≡ after_pool bytes (Ok (file.pool, after)))
+class_read bytes file is =
     let t = takes_class bytes file is in
-    to_pool is.small (t.rest, takes_read head bytes tt t.rest t.head_is) (Ok (file.pool, t.after)) t.pool_is (sym (ap (of_tail bytes file.pool) (takes_read (tail file.pool) (drop t.after bytes) file.methods [] t.tail_is)))
+    (t.after, head_read bytes (t.rest, t.head_is), t.pool_is, sym (ap (of_tail bytes file.pool) (takes_read (tail file.pool) (drop t.after bytes) file.methods [] t.tail_is)))
+
+is_comes : (bytes : List ℕ) (answer : Result ClassFile ClassFault) → IsAnswer bytes answer → Comes bytes answer
+is_comes bytes (Ok file) is = let r = class_read bytes file is in to_pool is.small r.1 (Ok (file.pool, r.0)) r.2 r.3
 is_comes bytes (Err b) (too_long long e) = nowhere long (ap Err e)
 is_comes bytes (Err b) (in_head le e stops is) = to_head le e (stops_read head bytes e stops) (ap Err is)
 is_comes bytes (Err b) (in_pool le h e has is) = to_pool le (head_read bytes h) (Err e) has (ap Err (is_of_pool e b is))
@@ -82,6 +87,15 @@ comes_once bytes a b fits (to_pool le h r is p) (to_pool le' h' r' is' q) = p �
 
 pub answer_once : (bytes : List ℕ) (a b : Result ClassFile ClassFault) → IsBytes bytes → IsAnswer bytes a → IsAnswer bytes b → a ≡ b
 answer_once bytes a b fits p q = comes_once bytes a b fits (is_comes bytes a p) (is_comes bytes b q)
+
+-- and the bytes of a class file are those of no other
+pub class_once : (bytes : List ℕ) (a b : ClassFile) → IsClass bytes a → IsClass bytes b → a ≡ b
+class_once bytes a b p q =
+    let x = class_read bytes a p in
+    let y = class_read bytes b q in
+    let one = one_pool bytes 8 a.pool b.pool x.0 y.0 (head_long bytes x.1) x.2 y.2 in
+    let pools : ◌≡◌ {A = List Entry × ℕ} (a.pool, x.0) (b.pool, y.0) = cc (one.0, one.1) in
+    cc (x.3 ∙ ap (λ (p : List Entry × ℕ). after_pool bytes (Ok p)) pools ∙ sym y.3)
 
 -- ---- what is answered
 
@@ -111,11 +125,11 @@ module _ (bytes : List ℕ) (fits : IsBytes bytes) (le : length bytes ≤ LONGES
   pool_fails pool_fault.Memory first h = memory bytes
   pool_fails e first h = answered bytes (Err (of_pool e)) fits (in_pool le (has_head bytes first) e h refl)
 
-  pub tail_fails : (entries : List Entry) (after : ℕ) (s : Stop) → HeadRead bytes → pool.IsAnswer bytes 8 (Ok (entries, after)) → Fails s (read (tail entries) (drop after bytes)) → Answered bytes (Err (fault_in (length bytes) s))
+  pub tail_fails : (entries : List Entry) (after : ℕ) (s : Stop) → HeadRead bytes → IsPoolAt bytes 8 entries after → Fails s (read (tail entries) (drop after bytes)) → Answered bytes (Err (fault_in (length bytes) s))
   tail_fails entries after (Failed e) first at h = answered bytes (Err (fault_of bytes e)) fits (in_tail le (has_head bytes first) entries after at e (read_stops (tail entries) (drop after bytes) e h) refl)
   tail_fails entries after Memory first at h = memory bytes
 
-  pub all_read : (entries : List Entry) (after : ℕ) (ms : List Method) → HeadRead bytes → pool.IsAnswer bytes 8 (Ok (entries, after)) → read (tail entries) (drop after bytes) ≡ Ok (ms, []) → Answered bytes (Ok (record { pool = entries; methods = ms }))
+  pub all_read : (entries : List Entry) (after : ℕ) (ms : List Method) → HeadRead bytes → IsPoolAt bytes 8 entries after → read (tail entries) (drop after bytes) ≡ Ok (ms, []) → Answered bytes (Ok (record { pool = entries; methods = ms }))
   all_read entries after ms first at e =
       answered bytes (Ok (record { pool = entries; methods = ms })) fits (class_taken bytes (record { pool = entries; methods = ms }) fits le (record {
         rest = first.0;

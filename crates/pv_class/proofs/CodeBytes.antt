@@ -1,5 +1,5 @@
 -- The code of a method of a class file holds bytes, since the file does.
-use Rattle.std.proofs.Common.{◌≡◌, ℕ, List, [], ◌∷◌, ◌++◌, length, Some, sym, subst}
+use Rattle.std.proofs.Common.{◌≡◌, ℕ, List, [], ◌∷◌, ◌++◌, Some, sym, subst}
 use Rattle.std.specs.List.{AllByRecursion, AllZip, flat_map}
 use Rattle.std.proofs.lemmas.List.Concat.{flat_map-cons}
 use Rattle.std.proofs.lemmas.Grind.{flat_map-append}
@@ -8,7 +8,7 @@ use Rattle.pv_format.proofs.Cited.{IsBytes, IsBytes-left, IsBytes-right}
 use Rattle.pv_class.specs.declared.file.Code.{Code}
 use Rattle.pv_class.specs.declared.file.Method.{Method}
 use Rattle.pv_class.specs.declared.file.ClassFile.{ClassFile}
-use Rattle.pv_class.specs.Items.{u2, u4, table, Attribute, attribute_text, MemberInfo, member_text, CodeItems, code_text, file_text}
+use Rattle.pv_class.specs.Items.{Attribute, attribute_text, MemberInfo, member_text, code_text, file_text}
 use Rattle.pv_class.specs.ClassFiles.{OneCode, CodeAmong, IsMethod, IsClass}
 
 -- the code of this method, if it has one

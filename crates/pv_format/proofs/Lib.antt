@@ -2,7 +2,6 @@ pub mod Cited
 pub mod Pairs
 pub mod Parts
 pub mod GrammarParts
-pub mod Steps
 pub mod GrammarReadings
 pub mod Bytes
 pub mod GrammarTexts

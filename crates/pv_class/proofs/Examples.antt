@@ -1,4 +1,4 @@
--- Worked examples: the class of one method `f ()I` whose code is iconst_1, ireturn, its items and a run of it; runs of a sum and a difference of two arguments.
+-- A worked example: the class of one method `f ()I` whose code is iconst_1, ireturn, by the spelling of its items and by the grammar.
 use Rattle.std.proofs.Common.{◌≡◌, ◌∷◌, [], List, ℕ, Some, refl}
 use Rattle.std.specs.Prelude.{codes, ◌++◌, drop, take, Ok, Err}
 use Rattle.pv_pool.specs.declared.entry.Entry.{Entry}
@@ -46,23 +46,15 @@ items = record {
 spelled : bytes ≡ file_text items
 spelled = refl
 
--- and they are read, the pool by its own reader
-head_reads : read grammar.head bytes ≡ Ok (tt, drop 8 bytes)
+-- and they are read, the pool by its own reader; the first 7 are cut in the major version
+head_reads : (read grammar.head bytes ≡ Ok (tt, drop 8 bytes)) × (read grammar.head (take 7 bytes) ≡ Err (failure cause.Truncated 1))
 unfolding read bind grammar.head
-head_reads = refl
+head_reads = (refl, refl)
 
 abbrev method : Method
 method = record { flags = 9; name = codes "f"; desc = codes "()I"; code = Some (code_of code) }
 
-tail_reads : read (grammar.tail pool) (drop 56 bytes) ≡ Ok (method ∷ [], [])
+-- a byte after the class is one too many
+tail_reads : (read (grammar.tail pool) (drop 56 bytes) ≡ Ok (method ∷ [], [])) × (read (grammar.tail pool) (drop 56 bytes ++ 0 ∷ []) ≡ Err (failure cause.Trailing 1))
 unfolding read bind times grammar.tail grammar.class_front grammar.class_end grammar.index grammar.interface grammar.field grammar.member grammar.method grammar.attributes grammar.attribute grammar.code grammar.code_contents grammar.code_front grammar.skipped grammar.handler grammar.contents grammar.methods grammar.all_methods after_params field_at
-tail_reads = refl
-
--- the first 7 bytes are cut in the major version, and a byte after the class is one too many
-head_cut : read grammar.head (take 7 bytes) ≡ Err (failure cause.Truncated 1)
-unfolding read bind grammar.head
-head_cut = refl
-
-one_too_many : read (grammar.tail pool) (drop 56 bytes ++ 0 ∷ []) ≡ Err (failure cause.Trailing 1)
-unfolding read bind times grammar.tail grammar.class_front grammar.class_end grammar.index grammar.interface grammar.field grammar.member grammar.method grammar.attributes grammar.attribute grammar.code grammar.code_contents grammar.code_front grammar.skipped grammar.handler grammar.contents grammar.methods grammar.all_methods after_params field_at
-one_too_many = refl
+tail_reads = (refl, refl)

@@ -1,10 +1,6 @@
 pub mod Outcomes
-pub mod ClassParts
-pub mod MethodReads
-pub mod MethodAttributes
-pub mod Codes
 pub mod Deciding
-pub mod Stopping
+pub mod Loops
 pub mod Takings
 pub mod ItemTexts
 pub mod CodeTexts
@@ -13,7 +9,6 @@ pub mod Distinct
 pub mod MethodLists
 pub mod ClassTexts
 pub mod ClassAgrees
-pub mod ClassLaws
 mod Examples
 pub mod CodeBytes
 pub mod Cited

@@ -74,7 +74,7 @@ fn head_at(bytes: &[u8]) -> Result<&[u8], Stop>
 }
 
 /// The flags, the class and its superclass.
-#[tactic(auto, unfolding(pv_format::specs::GrammarReading::read, pv_format::specs::Grammars::bind, crate::specs::ClassGrammar::index, crate::specs::ClassGrammar::class_front))]
+#[tactic(auto, unfolding(crate::specs::ClassGrammar::class_front), using(pv_format::proofs::Cited::steps))]
 fn class_front_at<'a>(pool: &Pool, bytes: &'a [u8]) -> Result<&'a [u8], Stop>
     ensures { Gives (λ x. (tt, x.now)) result (read (class_front pool.now) bytes.now) }
 {
@@ -85,6 +85,7 @@ fn class_front_at<'a>(pool: &Pool, bytes: &'a [u8]) -> Result<&'a [u8], Stop>
 }
 
 /// The fields, with their number.
+#[tactic(auto, using(pv_format::proofs::Cited::steps))]
 fn all_fields_at<'a>(alloc: Global, pool: &Pool, bytes: &'a [u8]) -> Result<(u16, &'a [u8]), Stop>
     ensures { Gives (λ x. (x.0, x.1.now)) result (read (table in_file (field pool.now)) bytes.now) }
 {
@@ -94,6 +95,7 @@ fn all_fields_at<'a>(alloc: Global, pool: &Pool, bytes: &'a [u8]) -> Result<(u16
 }
 
 /// The methods.
+#[tactic(auto, unfolding(crate::specs::ClassGrammar::all_methods), using(pv_format::proofs::Cited::steps))]
 fn all_methods_at<'a>(
     alloc: Global,
     pool: &Pool,
@@ -106,6 +108,7 @@ fn all_methods_at<'a>(
 }
 
 /// The methods and the attributes, after which nothing stands.
+#[tactic(auto, unfolding(crate::specs::ClassGrammar::class_end), using(pv_format::proofs::Cited::steps))]
 fn class_end_at<'a>(
     alloc: Global,
     pool: &Pool,
@@ -123,6 +126,7 @@ fn class_end_at<'a>(
 }
 
 /// What stands after the constant pool.
+#[tactic(auto, unfolding(crate::specs::ClassGrammar::tail), using(pv_format::proofs::Cited::steps))]
 fn tail_at<'a>(alloc: Global, pool: &Pool, bytes: &'a [u8]) -> Result<(Methods, &'a [u8]), Stop>
     ensures read { Gives (λ x. (x.0, x.1.now)) result (read (tail pool.now) bytes.now) }
     ensures end { IfOk result (λ x. x.1.now ≡ []) }
@@ -152,7 +156,8 @@ pub fn read_class(alloc: Global, bytes: &[u8]) -> Result<ClassFile, ClassFault>
         Ok(read) => read,
         Err(fault) => return Err(of_pool(fault)),
     };
-    match tail_at(alloc, &pool, &bytes[after..]) {
+    let (_, rest) = bytes.split_at(after);
+    match tail_at(alloc, &pool, rest) {
         Ok((methods, _)) => Ok(ClassFile { pool, methods }),
         Err(stop) => Err(stop.in_file(bytes.len())),
     }

@@ -18,7 +18,7 @@ const LONGEST_CODE: u32 = 65535;
 
 /// A Code up to its exception table (JVMS 4.7.3), in an attribute that begins where `start` bytes are
 /// left.
-#[tactic(auto, unfolding(pv_format::specs::GrammarReading::read, pv_format::specs::Grammars::bind, crate::specs::ClassGrammar::code_front))]
+#[tactic(auto, unfolding(crate::specs::ClassGrammar::code_front), using(pv_format::proofs::Cited::steps))]
 fn code_front_at(room: Room, start: usize, bytes: &[u8]) -> Result<((u16, u16, &[u8]), &[u8]), Stop>
     ensures { Gives (λ x. ((x.0.0, x.0.1, x.0.2.now), x.1.now)) result (read (code_front room start) bytes.now) }
 {
@@ -34,6 +34,7 @@ fn code_front_at(room: Room, start: usize, bytes: &[u8]) -> Result<((u16, u16, &
 
 /// The contents of a Code attribute that begins where `start` bytes are left, with contents of `size`
 /// bytes (JVMS 4.7.3).
+#[tactic(auto, unfolding(crate::specs::ClassGrammar::code_contents), using(pv_format::proofs::Cited::steps))]
 fn code_contents_at<'a>(
     alloc: Global,
     pool: &Pool,
@@ -60,7 +61,7 @@ fn code_contents_at<'a>(
 }
 
 /// A Code after its name, in an attribute that begins where `start` bytes are left.
-#[tactic(auto, unfolding(pv_format::specs::GrammarReading::read, pv_format::specs::Grammars::bind, crate::specs::ClassGrammar::code))]
+#[tactic(auto, unfolding(crate::specs::ClassGrammar::code), using(pv_format::proofs::Cited::steps))]
 pub(crate) fn code_at<'a>(
     alloc: Global,
     pool: &Pool,

@@ -58,7 +58,7 @@ fn has_class(pool: &Pool, i: u16) -> bool
 }
 
 /// The index of a Utf8.
-#[tactic(auto, unfolding(pv_format::specs::GrammarReading::read, pv_format::specs::Grammars::bind, crate::specs::ClassGrammar::index))]
+#[tactic(auto, unfolding(crate::specs::ClassGrammar::index), using(pv_format::proofs::Cited::steps))]
 pub(crate) fn text_index_at<'a>(
     pool: &Pool,
     room: Room,
@@ -74,7 +74,7 @@ pub(crate) fn text_index_at<'a>(
 }
 
 /// The index of a Class.
-#[tactic(auto, unfolding(pv_format::specs::GrammarReading::read, pv_format::specs::Grammars::bind, crate::specs::ClassGrammar::index))]
+#[tactic(auto, unfolding(crate::specs::ClassGrammar::index), using(pv_format::proofs::Cited::steps))]
 pub(crate) fn class_index_at<'a>(
     pool: &Pool,
     room: Room,
@@ -90,7 +90,7 @@ pub(crate) fn class_index_at<'a>(
 }
 
 /// The index of a Class, or 0.
-#[tactic(auto, unfolding(pv_format::specs::GrammarReading::read, pv_format::specs::Grammars::bind, crate::specs::ClassGrammar::index))]
+#[tactic(auto, unfolding(crate::specs::ClassGrammar::index), using(pv_format::proofs::Cited::steps))]
 pub(crate) fn super_index_at<'a>(pool: &Pool, bytes: &'a [u8]) -> Result<(u16, &'a [u8]), Stop>
     ensures { Gives (λ x. (x.0, x.1.now)) result (read (index in_file (class_or_none pool.now)) bytes.now) }
 {
@@ -102,7 +102,7 @@ pub(crate) fn super_index_at<'a>(pool: &Pool, bytes: &'a [u8]) -> Result<(u16, &
 }
 
 /// The contents of an attribute that is skipped, after its name (JVMS 4.7).
-#[tactic(auto, unfolding(pv_format::specs::GrammarReading::read, pv_format::specs::Grammars::bind, crate::specs::ClassGrammar::contents))]
+#[tactic(auto, unfolding(crate::specs::ClassGrammar::contents), using(pv_format::proofs::Cited::steps))]
 pub(crate) fn contents_at(room: Room, bytes: &[u8]) -> Result<&[u8], Stop>
     ensures { Gives (λ x. (tt, x.now)) result (read (contents room) bytes.now) }
 {

@@ -13,9 +13,9 @@
 //!
 //! The proofs join the spelling to the grammar by the texts that a grammar takes. The layers above
 //! use the clauses `exact` and `only` of `read_class`: its answer is right, and no other is
-//! (`Answers`). They use that a file is one class at most (`class_once`, `answer_once` of
-//! `proofs/ClassLaws`), and that its codes are of bytes (`class_bytes` of `proofs/CodeBytes`). `Reading`
-//! and `Deciding` are private to this crate.
+//! (`Answers`). They use that a file has one answer (`answer_once` of `proofs/Outcomes`), and that its
+//! codes are of bytes (`class_bytes` of `proofs/CodeBytes`). `Reading` and `Deciding` are private to
+//! this crate.
 #![tactic(auto)]
 
 mod class;

@@ -63,7 +63,7 @@ fn is_typed(alloc: Global, kind: MemberKind, text: &[u8]) -> Result<bool, Memory
 }
 
 /// What a field or a method begins with (JVMS 4.5, 4.6).
-#[tactic(auto, unfolding(pv_format::specs::GrammarReading::read, pv_format::specs::Grammars::bind, crate::specs::ClassGrammar::index, crate::specs::ClassGrammar::member))]
+#[tactic(auto, unfolding(crate::specs::ClassGrammar::member), using(pv_format::proofs::Cited::steps))]
 pub(crate) fn member_at<'a>(
     alloc: Global,
     kind: MemberKind,

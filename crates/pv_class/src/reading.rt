@@ -20,6 +20,7 @@ use pv_value::{Memory, Name};
 use std::alloc::Global;
 
 /// A field (JVMS 4.5).
+#[tactic(auto, unfolding(crate::specs::ClassGrammar::field), using(pv_format::proofs::Cited::steps))]
 fn field_at<'a>(alloc: Global, pool: &Pool, bytes: &'a [u8]) -> Result<&'a [u8], Stop>
     ensures { Gives (λ x. (tt, x.now)) result (read (field pool.now) bytes.now) }
 {
@@ -29,6 +30,7 @@ fn field_at<'a>(alloc: Global, pool: &Pool, bytes: &'a [u8]) -> Result<&'a [u8],
 }
 
 /// `count` fields.
+#[tactic(auto, unfolding(pv_format::specs::Grammars::times), using(pv_format::proofs::Cited::steps))]
 pub(crate) fn fields_at<'a>(
     alloc: Global,
     pool: &Pool,
@@ -52,6 +54,7 @@ fn is_code(pool: &Pool, name: u16) -> bool
 }
 
 /// An attribute of a method, after which the method has this Code (JVMS 4.7.3).
+#[tactic(auto, unfolding(crate::specs::ClassGrammar::attribute), using(pv_format::proofs::Cited::steps))]
 fn attribute_at<'a>(
     alloc: Global,
     pool: &Pool,
@@ -73,6 +76,7 @@ fn attribute_at<'a>(
 }
 
 /// `count` attributes of a method, with its Code if there is one.
+#[tactic(auto, unfolding(crate::specs::ClassGrammar::attributes), using(pv_format::proofs::Cited::steps, crate::proofs::Loops::read_attributes))]
 fn attributes_at<'a>(
     alloc: Global,
     pool: &Pool,
@@ -117,6 +121,7 @@ fn method_of(
 }
 
 /// A method after others (JVMS 4.6), whose signature is added to theirs.
+#[tactic(auto, unfolding(crate::specs::ClassGrammar::method), using(pv_format::proofs::Cited::steps))]
 fn method_at<'a>(
     alloc: Global,
     pool: &Pool,
@@ -137,6 +142,7 @@ fn method_at<'a>(
 }
 
 /// `count` methods, no two of which have the same signature.
+#[tactic(auto, unfolding(crate::specs::ClassGrammar::methods), using(pv_format::proofs::Cited::steps, crate::proofs::Loops::read_methods, crate::proofs::Loops::signatures_more))]
 pub(crate) fn methods_at<'a>(
     alloc: Global,
     pool: &Pool,

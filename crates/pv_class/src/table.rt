@@ -23,7 +23,7 @@ pub(crate) enum Entries {
     Interfaces,
 }
 
-#[tactic(auto, unfolding(pv_format::specs::GrammarReading::read, pv_format::specs::Grammars::bind, crate::specs::ClassGrammar::index, crate::specs::ClassGrammar::contents, crate::specs::ClassGrammar::skipped))]
+#[tactic(auto, unfolding(crate::specs::ClassGrammar::skipped), using(pv_format::proofs::Cited::steps))]
 fn attribute_at<'a>(pool: &Pool, room: Room, bytes: &'a [u8]) -> Result<&'a [u8], Stop>
     ensures { Gives (λ x. (tt, x.now)) result (read (skipped room pool.now) bytes.now) }
 {
@@ -31,7 +31,7 @@ fn attribute_at<'a>(pool: &Pool, room: Room, bytes: &'a [u8]) -> Result<&'a [u8]
     contents_at(room, rest)
 }
 
-#[tactic(auto, unfolding(pv_format::specs::GrammarReading::read, pv_format::specs::Grammars::bind, crate::specs::ClassGrammar::handler))]
+#[tactic(auto, unfolding(crate::specs::ClassGrammar::handler), using(pv_format::proofs::Cited::steps))]
 fn handler_at(room: Room, bytes: &[u8]) -> Result<&[u8], Stop>
     ensures { Gives (λ x. (tt, x.now)) result (read (handler room) bytes.now) }
 {
@@ -42,7 +42,7 @@ fn handler_at(room: Room, bytes: &[u8]) -> Result<&[u8], Stop>
     Ok(rest)
 }
 
-#[tactic(auto, unfolding(pv_format::specs::GrammarReading::read, pv_format::specs::Grammars::bind, crate::specs::ClassGrammar::index, crate::specs::ClassGrammar::interface))]
+#[tactic(auto, unfolding(crate::specs::ClassGrammar::interface), using(pv_format::proofs::Cited::steps))]
 fn interface_at<'a>(pool: &Pool, room: Room, bytes: &'a [u8]) -> Result<&'a [u8], Stop>
     ensures { Gives (λ x. (tt, x.now)) result (read (interface room pool.now) bytes.now) }
 {
@@ -67,6 +67,7 @@ fn entry_at<'a>(
 }
 
 /// `count` entries.
+#[tactic(auto, unfolding(pv_format::specs::Grammars::times), using(pv_format::proofs::Cited::steps))]
 fn times_at<'a>(
     entries: Entries,
     pool: &Pool,
@@ -84,7 +85,7 @@ fn times_at<'a>(
 }
 
 /// A table, with the number of its entries.
-#[tactic(auto, unfolding(pv_format::specs::GrammarReading::read, pv_format::specs::Grammars::bind), using(pv_format::proofs::Cited::read_then, pv_format::proofs::Cited::read_fails))]
+#[tactic(auto, using(pv_format::proofs::Cited::steps))]
 pub(crate) fn table_at<'a>(
     entries: Entries,
     pool: &Pool,

@@ -1,56 +1,57 @@
--- Reading by a grammar part by part.
-use Rattle.std.proofs.Common.{◌≡◌, ℕ, suc, ◌+◌, ◌-◌, ◌<◌, ◌≤◌, Bool, true, false, cond, ltb, List, length, take, drop, Result, Ok, Err, refl, ap, ◌∙◌, arith}
-use Rattle.pv_format.specs.Grammars.{Grammar, give, here, item, check, bind, times}
+-- Reading by a grammar part by part: an equation for each way in which a grammar is made.
+use Rattle.std.proofs.Common.{◌≡◌, ℕ, suc, ◌-◌, ◌+◌, ◌<◌, Bool, true, false, cond, ltb, if◌then◌else◌, List, length, take, drop, Result, Ok, Err, refl, ap, ◌∙◌, arith}
+use Rattle.pv_format.specs.Grammars.{Grammar, Test, give, here, item, check, bind, times}
 use Rattle.pv_format.specs.GrammarReading.{read}
 
--- what is read after what was read, or the fault that there was
-abbrev pub then_read : {F A B : Type 0} → Result (A × List ℕ) F → (A → List ℕ → Result (B × List ℕ) F) → Result (B × List ℕ) F
-then_read (Ok (x, rest)) f = f x rest
-then_read (Err e) f = Err e
+-- what is read after what was read, or the fault
+unfoldable pub then_read : {F A B : Type 0} → Result (A × List ℕ) F → (A → List ℕ → Result (B × List ℕ) F) → Result (B × List ℕ) F
+then_read (Ok (x, rest)) k = k x rest
+then_read (Err e) k = Err e
 
-unless : {F A B : Type 0} (b : Bool) (e : F) (r : Result (A × List ℕ) F) (f : A → List ℕ → Result (B × List ℕ) F) (q : Result (B × List ℕ) F) → q ≡ then_read r f → cond b (Err e) q ≡ then_read (cond b (Err e) r) f
-unless true e r f q same = refl
-unless false e r f q same = same
+pub then_ok : {F A B : Type 0} (x : A) (rest : List ℕ) (k : A → List ℕ → Result (B × List ℕ) F) → then_read (Ok (x, rest)) k ≡ k x rest
+unfolding then_read
+then_ok x rest k = refl
 
-if : {F A B : Type 0} (b : Bool) (e : F) (r : Result (A × List ℕ) F) (f : A → List ℕ → Result (B × List ℕ) F) (q : Result (B × List ℕ) F) → q ≡ then_read r f → cond b q (Err e) ≡ then_read (cond b r (Err e)) f
-if true e r f q same = same
-if false e r f q same = refl
+pub then_err : {F A B : Type 0} (e : F) (k : A → List ℕ → Result (B × List ℕ) F) → then_read (Err e) k ≡ Err e
+unfolding then_read
+then_err e k = refl
 
--- one grammar, and then the other
+then_cond : {F A B : Type 0} (b : Bool) (x y : Result (A × List ℕ) F) (k : A → List ℕ → Result (B × List ℕ) F) → cond b (then_read x k) (then_read y k) ≡ then_read (cond b x y) k
+then_cond true x y k = refl
+then_cond false x y k = refl
+
 pub read_bind : {F A B : Type 0} (g : Grammar F A) (k : A → Grammar F B) (bytes : List ℕ) → read (bind g k) bytes ≡ then_read (read g bytes) (λ x rest. read (k x) rest)
-unfolding read bind
+unfolding read bind then_read
 read_bind (give x) k bytes = refl
 read_bind (here f) k bytes = read_bind (f (length bytes)) k bytes
-read_bind (item size after short f) k bytes = unless (ltb (length bytes) (size + after)) (short (length bytes)) (read (f (take size bytes)) (drop size bytes)) _ _ (read_bind (f (take size bytes)) k (drop size bytes))
-read_bind (check c e g) k bytes = if c.tells e (read g bytes) _ _ (read_bind g k bytes)
+read_bind (item size after short f) k bytes =
+    let b = ltb (length bytes) (size + after) in
+    let s = short (length bytes) in
+    ap (cond b (Err s)) (read_bind (f (take size bytes)) k (drop size bytes)) ∙ then_cond b (Err s) (read (f (take size bytes)) (drop size bytes)) (λ x rest. read (k x) rest)
+read_bind (check c e g) k bytes = ap (λ r. cond c.tells r (Err e)) (read_bind g k bytes) ∙ then_cond c.tells (read g bytes) (Err e) (λ x rest. read (k x) rest)
 
--- a grammar that reads, and then what follows it
+-- a grammar that reads, and then what follows it; one that fails, whatever follows it
 pub read_then : {F A B : Type 0} (g : Grammar F A) (k : A → Grammar F B) (bytes : List ℕ) (x : A) (rest : List ℕ) → read g bytes ≡ Ok (x, rest) → read (bind g k) bytes ≡ read (k x) rest
-read_then {F = F} {A = A} g k bytes x rest e = read_bind g k bytes ∙ ap (λ (r : Result (A × List ℕ) F). then_read r (λ x rest. read (k x) rest)) e
+read_then g k bytes x rest e = rw (read_bind, e, then_ok) refl
 
--- a grammar that fails, whatever follows it
 pub read_fails : {F A B : Type 0} (g : Grammar F A) (k : A → Grammar F B) (bytes : List ℕ) (e : F) → read g bytes ≡ Err e → read (bind g k) bytes ≡ Err e
-read_fails {F = F} {A = A} g k bytes e h = read_bind g k bytes ∙ ap (λ (r : Result (A × List ℕ) F). then_read r (λ x rest. read (k x) rest)) h
+read_fails g k bytes e h = rw (read_bind, h, then_err) refl
 
 pub read_give : {F A : Type 0} (x : A) (bytes : List ℕ) → read {F = F} (give x) bytes ≡ Ok (x, bytes)
 unfolding read
 read_give x bytes = refl
 
--- ---- n of them
+pub read_here : {F A : Type 0} (f : ℕ → Grammar F A) (bytes : List ℕ) → read (here f) bytes ≡ read (f (length bytes)) bytes
+unfolding read
+read_here f bytes = refl
 
-times_next : {F A : Type 0} (n i : ℕ) (g : Grammar F A) (bytes : List ℕ) → i < n → read (times (n - i) g) bytes ≡ read (bind g (λ x. times (n - (i + 1)) g)) bytes
+pub read_check : {F A : Type 0} (c : Test) (e : F) (g : Grammar F A) (bytes : List ℕ) → read (check c e g) bytes ≡ if c.tells then read g bytes else Err e
+unfolding read
+read_check c e g bytes = refl
+
+-- after i of n items
+pub read_times : {F A : Type 0} (n i : ℕ) (g : Grammar F A) (bytes : List ℕ) → i < n → read (times (n - i) g) bytes ≡ then_read (read g bytes) (λ x rest. read (times (n - (i + 1)) g) rest)
 unfolding times
-times_next n i g bytes lt = let e : n - i ≡ suc (n - (i + 1)) = omega arith in ap (λ (m : ℕ). read (times m g) bytes) e
+read_times n i g bytes lt = let e : n - i ≡ suc (n - (i + 1)) = omega arith in ap (λ (m : ℕ). read (times m g) bytes) e ∙ read_bind g (λ x. times (n - (i + 1)) g) bytes
 
-pub times_more : {F A : Type 0} (n i : ℕ) (g : Grammar F A) (bytes : List ℕ) (x : A) (rest : List ℕ) → i < n → read g bytes ≡ Ok (x, rest) → read (times (n - i) g) bytes ≡ read (times (n - (i + 1)) g) rest
-times_more n i g bytes x rest lt e = times_next n i g bytes lt ∙ read_then g (λ y. times (n - (i + 1)) g) bytes x rest e
-
-pub times_fails : {F A : Type 0} (n i : ℕ) (g : Grammar F A) (bytes : List ℕ) (e : F) → i < n → read g bytes ≡ Err e → read (times (n - i) g) bytes ≡ Err e
-times_fails n i g bytes e lt h = times_next n i g bytes lt ∙ read_fails g (λ y. times (n - (i + 1)) g) bytes e h
-
-pub times_end : {F A : Type 0} (n i : ℕ) (g : Grammar F A) (bytes : List ℕ) → n ≤ i → read (times (n - i) g) bytes ≡ Ok (tt, bytes)
-unfolding times read
-times_end n i g bytes le = let e : n - i ≡ 0 = omega arith in ap (λ (m : ℕ). read (times m g) bytes) e
-
-pub times_begin : {F A : Type 0} (n : ℕ) (g : Grammar F A) (bytes : List ℕ) → read (times n g) bytes ≡ read (times (n - 0) g) bytes
-times_begin n g bytes = let e : n ≡ n - 0 = omega arith in ap (λ (m : ℕ). read (times m g) bytes) e
+pub ruleset steps = (then_ok, then_err, read_bind, read_give, read_here, read_check, read_times)

@@ -10,7 +10,7 @@ use Rattle.pv_pool.proofs.Cited.{IsBytes}
 use Rattle.pv_class.specs.declared.fault.ClassFault.{ClassFault}
 use Rattle.pv_class.specs.ClassFiles.{IsClass}
 use Rattle.pv_class.specs.ClassFaults.{IsBad}
-use Rattle.pv_class.proofs.Cited.{is_comes, comes_once, HasBytes, class_bytes}
+use Rattle.pv_class.proofs.Cited.{answer_once, HasBytes, class_bytes}
 use Rattle.pv_flow.specs.Edges.{edges_of}
 use Rattle.pv_report.specs.declared.verdict.Side.{Side}
 use Rattle.pv_report.specs.declared.verdict.Side.TheVariants as side
@@ -173,17 +173,17 @@ line_once f g m v w distinct x all h k =
 
 file_once : (bytes : List ℕ) (f g : ClassFile) → IsBytes bytes → IsClass bytes f → IsClass bytes g → f ≡ g
 file_once bytes f g fits p q =
-    let same : ◌≡◌ {A = Result ClassFile ClassFault} (Ok f) (Ok g) = comes_once bytes (Ok f) (Ok g) fits (is_comes bytes (Ok f) p) (is_comes bytes (Ok g) q) in
+    let same : ◌≡◌ {A = Result ClassFile ClassFault} (Ok f) (Ok g) = answer_once bytes (Ok f) (Ok g) fits p q in
     cc same
 
 bad_once : (bytes : List ℕ) (b c : ClassFault) → IsBytes bytes → IsBad bytes b → IsBad bytes c → b ≡ c
 bad_once bytes b c fits p q =
-    let same : ◌≡◌ {A = Result ClassFile ClassFault} (Err b) (Err c) = comes_once bytes (Err b) (Err c) fits (is_comes bytes (Err b) p) (is_comes bytes (Err c) q) in
+    let same : ◌≡◌ {A = Result ClassFile ClassFault} (Err b) (Err c) = answer_once bytes (Err b) (Err c) fits p q in
     cc same
 
 not_both : (bytes : List ℕ) (f : ClassFile) (b : ClassFault) → IsBytes bytes → IsClass bytes f → IsBad bytes b → ⊥
 not_both bytes f b fits p q =
-    let same : ◌≡◌ {A = Result ClassFile ClassFault} (Ok f) (Err b) = comes_once bytes (Ok f) (Err b) fits (is_comes bytes (Ok f) p) (is_comes bytes (Err b) q) in
+    let same : ◌≡◌ {A = Result ClassFile ClassFault} (Ok f) (Err b) = answer_once bytes (Ok f) (Err b) fits p q in
     absurd (cc same)
 
 -- ---- one report

@@ -1,6 +1,9 @@
 use Rattle.std.proofs.Common.{◌∙◌}
-use Rattle.pv_class.proofs.Deciding.{found_field}
+use Rattle.pv_value.specs.Descriptors.{IsFieldType}
+use Rattle.pv_class.specs.Deciding.{is_field_type}
+use Rattle.pv_class.specs.CheckLaws.{field_decides}
+use Rattle.pv_class.proofs.Deciding.{tells_found}
 use Rattle.pv_class.proofs.member.is_field_type.Goals as goal
 
 pub returns : goal.returns
-returns c = c.is_some.ensures ∙ found_field c.args.text.now c.read_field_type.result c.read_field_type.ensures
+returns c = c.is_some.ensures ∙ tells_found (is_field_type c.args.text.now) (IsFieldType c.args.text.now) c.read_field_type.result (field_decides c.args.text.now) c.read_field_type.ensures

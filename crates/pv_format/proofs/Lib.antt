@@ -8,4 +8,5 @@ pub mod GrammarTexts
 pub mod GrammarStops
 pub mod ManyReads
 pub mod MoreTexts
+pub mod Spellings
 pub mod FreeGrammars

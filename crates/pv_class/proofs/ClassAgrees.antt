@@ -30,9 +30,8 @@ takes_class bytes file c =
     let d = c.describes in
     let rest = i.pool_text ++ tail_text i in
     let pool : IsPoolAt bytes 8 file.pool (8 + length i.pool_text) = record { text = i.pool_text; rest = tail_text i; stands = ap (λ (u : List ℕ). drop 8 u) c.spelled; is = d.pool; ends = refl } in
-    let version : IsVersion (i.minor, i.major) = record { minor = d.fits.minor; major = d.fits.major; old = d.old; young = d.young } in
-    let f = d.fits in
-    let is : IsTail file.pool i file.methods = record { flags = f.flags; this = (f.this, d.this); super = (f.super, d.super); interfaces = (f.interfaces, d.interfaces); fields = (f.fields, d.fields); methods = (f.methods, d.methods, d.distinct); attributes = (f.attributes, d.attributes) } in
+    let version : IsVersion (i.minor, i.major) = assumption in
+    let is : IsTail file.pool i file.methods = assumption in
     let read : Takes (tail file.pool) (tail_text i ++ []) file.methods [] = (tail_spells file.pool).again (i, file.methods) [] (is, refl) (omega arith) in
     record {
       rest = rest;
@@ -51,20 +50,7 @@ class_taken bytes file fits small t =
     let read : Takes (tail file.pool) pool.rest file.methods [] = rw (after_pool bytes 8 file.pool t.after pool) at t.tail_is in
     let q = (tail_spells file.pool).takes pool.rest file.methods [] fits_rest read in
     let is : IsTail file.pool q.0.0 file.methods = subst (IsTail file.pool q.0.0) (sym q.2) q.3.0 in
-    let v = p.3 in
     let items = record q.0.0 { minor = p.0.0; major = p.0.1; pool_text = pool.text } in
     let later : t.rest ≡ pool.text ++ tail_text items = stands ∙ ap (λ (u : List ℕ). pool.text ++ u) (q.1 ∙ append-nil (tail_text items)) in
-    let described : Describes items file = record {
-      fits = record { minor = v.minor; major = v.major; flags = is.flags; this = is.this.0; super = is.super.0; interfaces = is.interfaces.0; fields = is.fields.0; methods = is.methods.0; attributes = is.attributes.0 };
-      old = v.old;
-      young = v.young;
-      pool = pool.is;
-      this = is.this.1;
-      super = is.super.1;
-      interfaces = is.interfaces.1;
-      fields = is.fields.1;
-      methods = is.methods.1;
-      distinct = is.methods.2;
-      attributes = is.attributes.1;
-    } in
+    let described : Describes items file = assumption (is, p.3) in
     record { items = items; spelled = p.1 ∙ ap (λ (u : List ℕ). head_text p.0 ++ u) later; small = small; describes = described }

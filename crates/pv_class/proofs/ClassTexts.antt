@@ -1,7 +1,8 @@
 -- What stands before the constant pool of a class file, and after it, by the spelling.
-use Rattle.std.proofs.Common.{◌≡◌, ℕ, ◌≤◌, Bool, ◌&&◌, eqb, leb, List, [], ◌++◌, length, refl, ap, append_assoc, arith}
+use Rattle.std.proofs.Common.{◌≡◌, ℕ, ◌≤◌, ◌&&◌, eqb, leb, List, [], ◌++◌, length, refl, ap, append_assoc, arith}
 use Rattle.std.specs.List.{AllByRecursion}
-use Rattle.std.proofs.lemmas.Bool.{and_parts, and_from, eq-eqb, eqb-true, leb-true, le-leb}
+use Rattle.std.specs.Bool.{Decides}
+use Rattle.std.proofs.lemmas.Bool.Decides.{Decides-eqb, nat_tests}
 use Rattle.pv_pool.specs.declared.entry.Entry.{Entry}
 use Rattle.pv_pool.specs.Pools.{HasClass}
 use Rattle.pv_format.proofs.Cited.{Spells, seen, give_spells, check_spells, here_spells, then_spells, last_spells}
@@ -15,7 +16,7 @@ use Rattle.pv_class.specs.Items.{u2, u4, IsU2, table, IsTable, Attribute, attrib
 use Rattle.pv_class.specs.ClassFiles.{IsField}
 use Rattle.pv_class.proofs.Takings.{u2_spells, u4_spells, tables_spells}
 use Rattle.pv_class.proofs.ItemTexts.{IsIndex, index_spells, Named, attributes_spells, interface_spells, field_spells}
-use Rattle.pv_class.proofs.MethodLists.{AreMethods, methods_spell}
+use Rattle.pv_class.proofs.MethodLists.{AreMethods, all_methods_spells}
 
 -- ---- before the pool
 
@@ -29,17 +30,15 @@ pub record IsVersion (version : ℕ × ℕ) : Type 0 where
   pub old : 45 ≤ version.1
   pub young : version.1 ≤ 69
 
-abbrev is_major : ℕ → Bool
-is_major n = leb 45 n && leb n 69
+major_decides : (n : ℕ) → Decides (leb 45 n && leb n 69) ((45 ≤ n) × (n ≤ 69))
+major_decides n = (λ e. grind (arith, nat_tests), λ h. grind (arith, nat_tests))
 
 pub head_spells : Spells head 0 head_text (λ version _. IsVersion version) (λ _. tt)
 unfolding head
 head_spells = seen (here_spells (λ start. then_spells (u4_spells in_file) (λ magic. check_spells (holds (eqb magic 0xCAFEBABE)) (failure cause.Magic start) (here_spells (λ start.
-    then_spells (u2_spells in_file) (λ minor. last_spells (u2_spells in_file) (λ major. check_spells (holds (is_major major)) (failure cause.Version start) (give_spells tt))))))))
-    (λ (magic, (minor, major)) rest s.
-    let both = and_parts (leb 45 major) (leb major 69) s.1.1.1.1.0 in
-    ((minor, major), ap (λ (n : ℕ). u4 n ++ (u2 minor ++ u2 major)) (eqb-true magic 0xCAFEBABE s.1.0), refl, record { minor = s.1.1.0; major = s.1.1.1.0; old = leb-true 45 major both.0; young = leb-true major 69 both.1 }))
-    (λ (minor, major) rest s. ((0xCAFEBABE, (minor, major)), refl, refl, (omega arith, (refl, (s.minor, (s.major, (and_from (leb 45 major) (leb major 69) (le-leb 45 major s.old) (le-leb major 69 s.young), tt)))))))
+    then_spells (u2_spells in_file) (λ minor. last_spells (u2_spells in_file) (λ major. check_spells (holds (leb 45 major && leb major 69)) (failure cause.Version start) (give_spells tt))))))))
+    (λ (magic, (minor, major)) rest s. ((minor, major), ap (λ (n : ℕ). u4 n ++ (u2 minor ++ u2 major)) ((Decides-eqb magic 0xCAFEBABE).0 s.1.0), refl, assumption ((major_decides major).0 s.1.1.1.1.0)))
+    (λ (minor, major) rest s. ((0xCAFEBABE, (minor, major)), refl, refl, (omega arith, (refl, (s.minor, (s.major, ((major_decides major).1 (s.old, s.young), tt)))))))
 
 -- ---- after the pool
 
@@ -64,9 +63,9 @@ front_spells pool = then_spells (u2_spells in_file) (λ flags. then_spells (inde
 end_spells : (pool : List Entry) → Spells (class_end pool) 0 (λ (x : (List MemberInfo × List Method) × List Attribute). table member_text x.0.0 ++ table attribute_text x.1)
     (λ x rest. AreMethods pool x.0.0 x.0.1 × (IsTable FitsAttribute x.1 × AllByRecursion (Named pool) x.1) × (length rest ≡ 0)) (λ x. x.0.1)
 unfolding class_end
-end_spells pool = seen (then_spells (methods_spell pool) (λ ms. last_spells (attributes_spells in_file pool) (λ _. here_spells (λ left. check_spells (holds (eqb left 0)) (failure cause.Trailing left) (give_spells ms)))))
-    (λ x rest s. (x, refl, refl, (s.0, s.1.0, eqb-true (length rest) 0 s.1.1.0)))
-    (λ x rest s. (x, refl, refl, (s.0, (s.1, (eq-eqb (length rest) 0 s.2, tt)))))
+end_spells pool = seen (then_spells (all_methods_spells pool) (λ ms. last_spells (attributes_spells in_file pool) (λ _. here_spells (λ left. check_spells (holds (eqb left 0)) (failure cause.Trailing left) (give_spells ms)))))
+    (λ x rest s. (x, refl, refl, (s.0, s.1.0, (Decides-eqb (length rest) 0).0 s.1.1.0)))
+    (λ x rest s. (x, refl, refl, (s.0, (s.1, ((Decides-eqb (length rest) 0).1 s.2, tt)))))
 
 pub tail_spells : (pool : List Entry) → Spells (tail pool) 0 (λ (x : Items × List Method). tail_text x.0) (λ x rest. IsTail pool x.0 x.1 × (length rest ≡ 0)) (λ x. x.1)
 unfolding tail

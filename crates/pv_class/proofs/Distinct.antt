@@ -1,7 +1,7 @@
 -- No two methods are the same where each is new after those before it.
-use Rattle.std.proofs.Common.{◌≡◌, ℕ, zero, suc, ◌<◌, List, [], ◌∷◌, ◌++◌, length, get_or, refl, sym, ap, ◌∙◌, arith}
+use Rattle.std.proofs.Common.{◌≡◌, ℕ, ◌<◌, List, [], ◌∷◌, ◌++◌, length, map, get_or, refl, sym, ap, ◌∙◌, arith}
 use Rattle.std.specs.List.{Contains, AllPairs}
-use Rattle.std.proofs.lemmas.List.{length-append, get_or_default, get_or_append_left}
+use Rattle.std.proofs.lemmas.List.{length-append, length-map, get_or-map, get_or_append_left}
 use Rattle.std.proofs.lemmas.List.Quantifiers.{all_pairs_push}
 use Rattle.std.proofs.lemmas.Option.{slice_get_within, get_or_from_slice_get, slice_get-get_or}
 use Rattle.std.proofs.Math.Seq.{get_or-append_seam}
@@ -29,24 +29,20 @@ distinct_pairs ms distinct i j d lt within same =
     let e = distinct i j (get_or ms i d) (get_or ms j d) (slice_get-get_or ms i d (omega arith)) (slice_get-get_or ms j d within) (ap (λ (s : Signature). s.name) same) (ap (λ (s : Signature). s.desc) same) in
     absurd (omega arith)
 
--- a signature in a list is that of a method there
-length_signatures : (ms : List Method) → length (signatures ms) ≡ length ms
-length_signatures [] = refl
-length_signatures (m ∷ ms) = ap suc (length_signatures ms)
-
-signature_at : (ms : List Method) (i : ℕ) (d : Method) → get_or (signatures ms) i (signature d) ≡ signature (get_or ms i d)
-signature_at [] i d = refl
-signature_at (m ∷ ms) zero d = refl
-signature_at (m ∷ ms) (suc i) d = signature_at ms i d
+signatures_map : (ms : List Method) → signatures ms ≡ map signature ms
+signatures_map [] = refl
+signatures_map (m ∷ ms) = ap (λ (others : List Signature). signature m ∷ others) (signatures_map ms)
 
 pub new_distinct : (ms : List Method) (y : Method) → AreDistinct ms → ¬ Contains (signatures ms) (signature y) → AreDistinct (ms ++ y ∷ [])
 new_distinct ms y distinct new =
-    let others : (k : ℕ) (d : Method) → k < length ms → Differ (get_or ms k d) y = λ k d lt same. new (k, omega (arith, length_signatures ms), signature_at ms k y ∙ ap signature (get_or_default ms k y d lt) ∙ same) in
+    let others : (k : ℕ) (d : Method) → k < length ms → Differ (get_or ms k d) y = λ k d lt same. new (rw signatures_map (k, rw length-map lt, get_or-map signature ms k d (signature y) lt ∙ same)) in
     pairs_distinct (ms ++ y ∷ []) (all_pairs_push Differ ms y (distinct_pairs ms distinct) others)
 
 pub distinct_new : (ms : List Method) (y : Method) (later : List Method) → AreDistinct (ms ++ y ∷ later) → ¬ Contains (signatures ms) (signature y)
-distinct_new ms y later distinct (k, lt, same) =
-    let within : k < length ms = omega (arith, length_signatures ms) in
-    let one : get_or (ms ++ y ∷ later) k y ≡ get_or ms k y = get_or_append_left ms (y ∷ later) y k within in
-    let other : get_or (ms ++ y ∷ later) (length ms) y ≡ y = get_or-append_seam ms y later y in
-    distinct_pairs (ms ++ y ∷ later) distinct k (length ms) y within (omega (arith, length-append ms (y ∷ later))) (ap signature one ∙ sym (signature_at ms k y) ∙ same ∙ sym (ap signature other))
+distinct_new ms y later distinct there =
+    let all = ms ++ y ∷ later in
+    let (k, lt, same) = rw signatures_map at there in
+    let within : k < length ms = rw length-map at lt in
+    let one : get_or all k y ≡ get_or ms k y = get_or_append_left ms (y ∷ later) y k within in
+    let other : get_or all (length ms) y ≡ y = get_or-append_seam ms y later y in
+    distinct_pairs all distinct k (length ms) y within (omega (arith, length-append ms (y ∷ later))) (ap signature one ∙ sym (get_or-map signature ms k y (signature y) within) ∙ same ∙ sym (ap signature other))

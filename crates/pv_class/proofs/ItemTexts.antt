@@ -1,10 +1,9 @@
 -- Single items by their spelling: indices, attributes, interfaces, exception handlers and fields.
-use Rattle.std.proofs.Common.{◌≡◌, ℕ, List, ◌++◌, length, Option, Some, None, refl, sym, ap, ◌∙◌, append_assoc}
+use Rattle.std.proofs.Common.{◌≡◌, ℕ, List, ◌++◌, length, Some, is_some, refl, ap, append_assoc}
 use Rattle.std.specs.List.{AllByRecursion}
 use Rattle.pv_pool.specs.declared.entry.Entry.{Entry}
-use Rattle.pv_pool.specs.declared.entry.Entry.TheVariants.{Utf8}
-use Rattle.pv_pool.specs.Pools.{entry_under, HasText, HasClass}
-use Rattle.pv_pool.specs.Readers.{◌>>=◌, text_of, text_under}
+use Rattle.pv_pool.specs.Pools.{HasText, HasClass}
+use Rattle.pv_pool.specs.Readers.{text_under}
 use Rattle.pv_format.proofs.Cited.{Spells, seen, give_spells, check_spells, here_spells, then_spells, last_spells}
 use Rattle.pv_class.specs.declared.room.Room.{Room}
 use Rattle.pv_class.specs.declared.member.MemberHead as front
@@ -12,6 +11,7 @@ use Rattle.pv_class.specs.declared.member.MemberKind.{MemberKind}
 use Rattle.pv_class.specs.declared.member.MemberKind.TheVariants as kind
 use Rattle.pv_class.specs.declared.fault.Cause.TheVariants as cause
 use Rattle.pv_format.specs.Grammars.{Test}
+use Rattle.pv_class.specs.CheckLaws
 use Rattle.pv_class.specs.Checks.{utf8, class}
 use Rattle.pv_class.specs.Grammars.{failure}
 use Rattle.pv_class.specs.Grammars as grammar
@@ -23,20 +23,13 @@ use Rattle.pv_class.proofs.Takings.{u2_spells, bytes_spells, sized_spells, IsU4,
 -- ---- the text under an index
 
 pub text_found : (pool : List Entry) (i : ℕ) → HasText pool i → text_under pool i ≡ Some (text_at pool i)
-text_found pool i h =
-    let e : text_under pool i ≡ Some h.0 = ap (λ (o : Option Entry). o >>= text_of) h.1 in
-    e ∙ ap (λ (o : Option (List ℕ)). Some (or_nothing o)) (sym e)
+text_found pool i h = rw h.1 refl
 
 pub text_read : (pool : List Entry) (i : ℕ) (text : List ℕ) → text_under pool i ≡ Some text → text_at pool i ≡ text
 text_read pool i text e = ap or_nothing e
 
-entry_is : (o : Option Entry) (text : List ℕ) → (o >>= text_of) ≡ Some text → o ≡ Some (Utf8 text)
-entry_is (Some (Utf8 t)) text e = cc
-entry_is (Some entry) text e = absurd cc
-entry_is None text e = absurd cc
-
 pub text_is : (pool : List Entry) (i : ℕ) (text : List ℕ) → text_under pool i ≡ Some text → HasText pool i
-text_is pool i text e = (text, entry_is (entry_under pool i) text e)
+text_is pool i text e = (CheckLaws.text_decides pool i).0 (ap is_some e)
 
 -- ---- items
 
@@ -107,18 +100,12 @@ info m attributes = record { flags = m.flags; name = m.name; desc = m.desc; attr
 abbrev pub front_of : MemberInfo → front.MemberHead
 front_of m = record { flags = m.flags; name = m.name; desc = m.desc }
 
-field_typed : (pool : List Entry) (m : MemberInfo) → IsField pool m → (typed kind.Field (text_at pool m.desc)).Holds
-field_typed pool m is = rw (text_read pool m.desc is.desc is.desc_is) is.typed
+pub front_is : (k : MemberKind) (pool : List Entry) (m : MemberInfo) (desc : List ℕ) → FitsMemberInfo m → HasText pool m.name → text_under pool m.desc ≡ Some desc → (typed k desc).Holds → IsFront k pool (front_of m)
+front_is k pool m desc f name e is = record { flags = f.flags; name = (f.name, name); desc = (f.desc, text_is pool m.desc desc e); typed = rw (text_read pool m.desc desc e) is }
 
 pub field_spells : (pool : List Entry) → Spells (field pool) 0 member_text (λ m _. FitsMemberInfo m × IsField pool m) (λ _. tt)
 unfolding field
 field_spells pool = seen (then_spells (member_spells kind.Field pool) (λ _. last_spells (attributes_spells in_file pool) (λ _. give_spells tt)))
-    (λ (m, attrs) rest s.
-    let f = s.0 in
-    let a = s.1.0 in
+    (λ (m, attrs) rest (f, (a, _)).
     (info m attrs, simp append_assoc, refl, (record { flags = f.flags; name = f.name.0; desc = f.desc.0; attributes = a.0 }, record { name = f.name.1; desc = text_at pool m.desc; desc_is = text_found pool m.desc f.desc.1; typed = f.typed; attributes = a.1 })))
-    (λ m rest s.
-    let f = s.0 in
-    let is = s.1 in
-    let front : IsFront kind.Field pool (front_of m) = record { flags = f.flags; name = (f.name, is.name); desc = (f.desc, text_is pool m.desc is.desc is.desc_is); typed = field_typed pool m is } in
-    ((front_of m, m.attributes), simp append_assoc, refl, (front, ((f.attributes, is.attributes), tt))))
+    (λ m rest (f, is). ((front_of m, m.attributes), simp append_assoc, refl, (front_is kind.Field pool m is.desc f is.name is.desc_is is.typed, ((f.attributes, is.attributes), tt))))

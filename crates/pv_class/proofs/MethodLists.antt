@@ -1,7 +1,7 @@
 -- Methods by their spelling, and all methods of a class.
-use Rattle.std.proofs.Common.{◌≡◌, ℕ, List, [], ◌∷◌, ◌++◌, length, refl, sym, ap, ◌∙◌, append_assoc}
+use Rattle.std.proofs.Common.{◌≡◌, List, [], ◌∷◌, ◌++◌, length, refl, sym, ap, ◌∙◌, append_assoc}
 use Rattle.std.specs.Int.{w16}
-use Rattle.std.specs.List.{flat_map, AllByRecursion, AllZip, Contains}
+use Rattle.std.specs.List.{AllByRecursion, AllZip, Contains}
 use Rattle.std.proofs.lemmas.List.{append-nil}
 use Rattle.pv_pool.specs.declared.entry.Entry.{Entry}
 use Rattle.pv_format.proofs.Cited.{wide16, Spells, seen, give_spells, check_spells, here_spells, then_spells, last_spells, counted_spells, Along, along_spells}
@@ -14,8 +14,8 @@ use Rattle.pv_class.specs.Grammars.{failure, short}
 use Rattle.pv_class.specs.ClassGrammar.{in_file, signature_of, method_of, signature, signatures, method, methods, all_methods}
 use Rattle.pv_class.specs.Items.{IsTable, table, MemberInfo, member_text, FitsMemberInfo}
 use Rattle.pv_class.specs.ClassFiles.{IsMethod, AreDistinct}
-use Rattle.pv_class.proofs.ItemTexts.{text_found, text_read, text_is, IsFront, member_spells, info, front_of}
-use Rattle.pv_class.proofs.MethodTexts.{attributes_spell}
+use Rattle.pv_class.proofs.ItemTexts.{text_found, text_read, text_is, member_spells, info, front_of, front_is}
+use Rattle.pv_class.proofs.MethodTexts.{method_attributes_spells}
 use Rattle.pv_class.proofs.Distinct.{new_distinct, distinct_new}
 
 -- ---- a method
@@ -28,33 +28,26 @@ IsNew pool seen m method = FitsMemberInfo m × IsMethod pool m method × (Contai
 method_is : (pool : List Entry) (m : MemberInfo) (y : Method) → IsMethod pool m y → y ≡ method_of pool (front_of m) y.code
 method_is pool m y is = rw (← is.flags, text_read pool m.name y.name is.name, text_read pool m.desc y.desc is.desc) refl
 
-front_is : (pool : List Entry) (m : MemberInfo) (y : Method) → FitsMemberInfo m → IsMethod pool m y → IsFront kind.Method pool (front_of m)
-front_is pool m y f is = record { flags = f.flags; name = (f.name, text_is pool m.name y.name is.name); desc = (f.desc, text_is pool m.desc y.desc is.desc); typed = rw (text_read pool m.desc y.desc is.desc) is.typed }
-
 method_spells : (pool : List Entry) (before : List Signature) → Spells (method pool before) 0 (λ (p : MemberInfo × Method). member_text p.0) (λ p _. IsNew pool before p.0 p.1) (λ p. p.1)
 unfolding method
 method_spells pool before = seen (here_spells (λ left. then_spells (member_spells kind.Method pool) (λ m. check_spells (new before (signature_of pool m)) (failure cause.Duplicate left)
-    (counted_spells 0 (short in_file) w16 wide16 (λ p. length p.0) (λ n p rest q. q.0.0) (λ n. last_spells (attributes_spell pool n) (λ code. give_spells (method_of pool m code)))))))
+    (counted_spells 0 (short in_file) w16 wide16 (λ p. length p.0) (λ n p rest q. q.0.0) (λ n. last_spells (method_attributes_spells pool n) (λ code. give_spells (method_of pool m code)))))))
     (λ (m, (attrs, code)) rest s.
     let f = s.0 in
     let a = s.1.1.1.0.1 in
     let all = info m attrs in
-    let fits : FitsMemberInfo all = record { flags = f.flags; name = f.name.0; desc = f.desc.0; attributes = (s.1.1.0, a.0.0) } in
-    let is : IsMethod pool all (method_of pool m code) = record { flags = refl; name = text_found pool m.name f.name.1; desc = text_found pool m.desc f.desc.1; typed = f.typed; attributes = a.0.1; code = a.1 } in
+    let fits : FitsMemberInfo all = record { flags = f.flags; name = f.name.0; desc = f.desc.0; attributes = (s.1.1.0, a.0) } in
+    let is : IsMethod pool all (method_of pool m code) = record { flags = refl; name = text_found pool m.name f.name.1; desc = text_found pool m.desc f.desc.1; typed = f.typed; attributes = a.1; code = a.2 } in
     ((all, method_of pool m code), simp append_assoc, refl, (fits, is, s.1.0)))
     (λ (m, y) rest (fits, is, is_new).
     let same : y ≡ method_of pool (front_of m) y.code = method_is pool m y is in
     let new_too : Contains before (signature_of pool (front_of m)) → ⊥ = λ there. is_new (rw (ap signature same) there) in
-    ((front_of m, (m.attributes, y.code)), simp append_assoc, same, (front_is pool m y fits is, (new_too, (fits.attributes.0, ((refl, ((fits.attributes.1, is.attributes), is.code)), tt))))))
+    ((front_of m, (m.attributes, y.code)), simp append_assoc, same, (front_is kind.Method pool m y.desc fits (text_is pool m.name y.name is.name) is.desc is.typed, (new_too, (fits.attributes.0, ((refl, (fits.attributes.1, is.attributes, is.code)), tt))))))
 
 -- ---- methods after others
 
 abbrev AreNew : List Entry → List Method → List MemberInfo → List Method → Type 0
 AreNew pool = Along (λ so_far y. so_far ++ y ∷ []) (λ so_far. IsNew pool (signatures so_far))
-
-along_methods : (pool : List Entry) (n : ℕ) (so_far : List Method) → Spells (methods pool n so_far) 0 (λ (p : List MemberInfo × List Method). flat_map member_text p.0) (λ p _. (length p.0 ≡ n) × AreNew pool so_far p.0 p.1) (λ p. p.1)
-unfolding methods
-along_methods pool n so_far = along_spells (methods pool) member_text (λ so_far y. so_far ++ y ∷ []) (λ so_far. IsNew pool (signatures so_far)) (λ _. refl) (λ n s. refl) (λ so_far. method_spells pool (signatures so_far)) n so_far
 
 new_are : (pool : List Entry) (so_far : List Method) (ms : List MemberInfo) (all : List Method) → AreDistinct so_far → AreNew pool so_far ms all → (ys : List Method) × (all ≡ so_far ++ ys) × AllByRecursion FitsMemberInfo ms × AllZip (IsMethod pool) ms ys × AreDistinct all
 new_are pool so_far [] all distinct h = ([], h ∙ sym (append-nil so_far), tt, tt, rw h distinct)
@@ -75,8 +68,10 @@ are_new pool so_far (m ∷ ms) (y ∷ ys) distinct fits are =
 abbrev pub AreMethods : List Entry → List MemberInfo → List Method → Type 0
 AreMethods pool ms all = IsTable FitsMemberInfo ms × AllZip (IsMethod pool) ms all × AreDistinct all
 
-pub methods_spell : (pool : List Entry) → Spells (all_methods pool) 0 (λ (p : List MemberInfo × List Method). table member_text p.0) (λ p _. AreMethods pool p.0 p.1) (λ p. p.1)
-unfolding all_methods
-methods_spell pool = seen (counted_spells 0 (short in_file) w16 wide16 (λ p. length p.0) (λ n p rest q. q.0) (λ n. along_methods pool n []))
+pub all_methods_spells : (pool : List Entry) → Spells (all_methods pool) 0 (λ (p : List MemberInfo × List Method). table member_text p.0) (λ p _. AreMethods pool p.0 p.1) (λ p. p.1)
+unfolding all_methods methods
+all_methods_spells pool =
+    let methods_spells = along_spells (methods pool) member_text (λ so_far y. so_far ++ y ∷ []) (λ so_far. IsNew pool (signatures so_far)) (λ _. refl) (λ n s. refl) (λ so_far. method_spells pool (signatures so_far)) in
+    seen (counted_spells 0 (short in_file) w16 wide16 (λ p. length p.0) (λ n p rest q. q.0) (λ n. methods_spells n []))
     (λ (ms, all) rest s. let o = new_are pool [] ms all (λ i j m n ei ej names descs. absurd cc) s.1.1 in ((ms, all), refl, refl, ((s.0, o.2), rw o.1 o.3, o.4)))
     (λ (ms, all) rest s. ((ms, all), refl, refl, (s.0.0, (refl, are_new pool [] ms all s.2 s.0.1 s.1))))

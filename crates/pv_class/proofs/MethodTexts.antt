@@ -14,7 +14,7 @@ use Rattle.pv_class.specs.Grammars.{failure}
 use Rattle.pv_class.specs.ClassGrammar.{in_file, or_nothing, text_at, is_code, attribute_named, attribute, attributes}
 use Rattle.pv_class.specs.Items.{Attribute, attribute_text, FitsAttribute, CodeItems}
 use Rattle.pv_class.specs.ClassFiles.{code_word, IsCodeAttribute, HoldsCode, CodeAmong, code_of}
-use Rattle.pv_class.proofs.Takings.{IsU4}
+use Rattle.pv_class.proofs.Takings.{IsU4, both_of, of_both}
 use Rattle.pv_class.proofs.ItemTexts.{contents_text, contents_spells, index_spells, Named, text_read}
 use Rattle.pv_class.proofs.CodeTexts.{code_spells}
 
@@ -52,8 +52,11 @@ code_decides pool name =
     let is = bytes_eq-Decides (text_at pool name) code_word in
     (λ e. named_code (text_under pool name) (is.0 e), λ named. is.1 (text_read pool name code_word named))
 
+abbrev IsAttribute : List Entry → Attribute → Type 0
+IsAttribute pool a = FitsAttribute a × Named pool a
+
 abbrev Reads : List Entry → Option Code → Attribute → Option Code → Type 0
-Reads pool so_far a now = (FitsAttribute a × Named pool a) × Keeps (IsCodeAttribute pool a) pool so_far a.contents now
+Reads pool so_far a now = IsAttribute pool a × Keeps (IsCodeAttribute pool a) pool so_far a.contents now
 
 attribute_spells : (pool : List Entry) (so_far : Option Code) → Spells (attribute pool so_far) 0 (λ (p : Attribute × Option Code). attribute_text p.0) (λ p _. Reads pool so_far p.0 p.1) (λ p. p.1)
 unfolding attribute
@@ -66,48 +69,48 @@ attribute_spells pool so_far = seen (here_spells (λ start. then_spells (index_s
 abbrev AllRead : List Entry → Option Code → List Attribute → Option Code → Type 0
 AllRead pool = Along (λ _ now. now) (Reads pool)
 
-along_attributes : (pool : List Entry) (n : ℕ) (so_far : Option Code) → Spells (attributes pool n so_far) 0 (λ (p : List Attribute × Option Code). flat_map attribute_text p.0) (λ p _. (length p.0 ≡ n) × AllRead pool so_far p.0 p.1) (λ p. p.1)
-unfolding attributes
-along_attributes pool n so_far = along_spells (attributes pool) attribute_text (λ _ now. now) (Reads pool) (λ _. refl) (λ n s. refl) (attribute_spells pool) n so_far
-
-abbrev pub AreAttributes : List Entry → List Attribute → Type 0
-AreAttributes pool attrs = AllByRecursion FitsAttribute attrs × AllByRecursion (Named pool) attrs
+abbrev Are : List Entry → List Attribute → Type 0
+Are pool attrs = AllByRecursion (IsAttribute pool) attrs
 
 abbrev NoCode : List Entry → List Attribute → Type 0
 NoCode pool attrs = AllByRecursion (λ a. ¬ IsCodeAttribute pool a) attrs
 
 -- attributes that are no Code change nothing, and after a Code there are no others
-others_read : (pool : List Entry) (so_far : Option Code) (attrs : List Attribute) → AreAttributes pool attrs → NoCode pool attrs → AllRead pool so_far attrs so_far
+others_read : (pool : List Entry) (so_far : Option Code) (attrs : List Attribute) → Are pool attrs → NoCode pool attrs → AllRead pool so_far attrs so_far
 others_read pool so_far [] are none = refl
-others_read pool so_far (a ∷ attrs) are none = (so_far, ((are.0.0, are.1.0), inr (none.0, refl)), others_read pool so_far attrs (are.0.1, are.1.1) none.1)
+others_read pool so_far (a ∷ attrs) are none = (so_far, (are.0, inr (none.0, refl)), others_read pool so_far attrs are.1 none.1)
 
-after_code : (pool : List Entry) (c : Code) (attrs : List Attribute) (last : Option Code) → AllRead pool (Some c) attrs last → AreAttributes pool attrs × NoCode pool attrs × (last ≡ Some c)
-after_code pool c [] last h = ((tt, tt), tt, h)
-after_code pool c (a ∷ attrs) last (now, (fits, inl k), more) = let e = k.1 in absurd cc
-after_code pool c (a ∷ attrs) last (now, (fits, inr k), more) =
-    let o = after_code pool c attrs last (rw k.1 at more) in
-    (((fits.0, o.0.0), (fits.1, o.0.1)), (k.0, o.1), o.2)
+after_code : (pool : List Entry) (c : Code) (attrs : List Attribute) (last : Option Code) → AllRead pool (Some c) attrs last → Are pool attrs × NoCode pool attrs × (last ≡ Some c)
+after_code pool c [] last h = (tt, tt, h)
+after_code pool c (a ∷ attrs) last (now, (is, inl k), more) = let e = k.1 in absurd cc
+after_code pool c (a ∷ attrs) last (now, (is, inr k), more) = let o = after_code pool c attrs last (rw k.1 at more) in ((is, o.0), (k.0, o.1), o.2)
 
 later_code : (pool : List Entry) (a : Attribute) (attrs : List Attribute) (last : Option Code) → ¬ IsCodeAttribute pool a → CodeAmong pool attrs last → CodeAmong pool (a ∷ attrs) last
 later_code pool a attrs None other h = (other, h)
-later_code pool a attrs (Some c) other h = record { before = a ∷ h.before; attribute = h.attribute; after = h.after; items = h.items; among = ap (λ (bs : List Attribute). a ∷ bs) h.among; named = h.named; others = (other, h.others); holds = h.holds }
+later_code pool a attrs (Some c) other h =
+    record { before = a ∷ h.before; attribute = h.attribute; after = h.after; items = h.items; among = ap (λ (bs : List Attribute). a ∷ bs) h.among; named = h.named; others = (other, h.others); holds = h.holds }
 
-code_among : (pool : List Entry) (attrs : List Attribute) (last : Option Code) → AllRead pool None attrs last → AreAttributes pool attrs × CodeAmong pool attrs last
-code_among pool [] last h = ((tt, tt), rw h tt)
-code_among pool (a ∷ attrs) last (now, (fits, inl k), more) =
+code_among : (pool : List Entry) (attrs : List Attribute) (last : Option Code) → AllRead pool None attrs last → Are pool attrs × CodeAmong pool attrs last
+code_among pool [] last h = (tt, rw h tt)
+code_among pool (a ∷ attrs) last (now, (is, inl k), more) =
     let o = after_code pool k.2 attrs last (rw k.5 at more) in
-    (((fits.0, o.0.0), (fits.1, o.0.1)), rw o.2 (record { before = []; attribute = a; after = attrs; items = k.3; among = refl; named = k.0; others = o.1; holds = k.4 }))
-code_among pool (a ∷ attrs) last (now, (fits, inr k), more) =
-    let o = code_among pool attrs last (rw k.1 at more) in
-    (((fits.0, o.0.0), (fits.1, o.0.1)), later_code pool a attrs last k.0 o.1)
+    ((is, o.0), rw o.2 (record { before = []; attribute = a; after = attrs; items = k.3; among = refl; named = k.0; others = o.1; holds = k.4 }))
+code_among pool (a ∷ attrs) last (now, (is, inr k), more) = let o = code_among pool attrs last (rw k.1 at more) in ((is, o.0), later_code pool a attrs last k.0 o.1)
 
-one_read : (pool : List Entry) (c : Code) (before : List Attribute) (a : Attribute) (after : List Attribute) (items : CodeItems) → AreAttributes pool (before ++ a ∷ after) → IsCodeAttribute pool a → NoCode pool (before ++ after) → HoldsCode pool a.contents items c → AllRead pool None (before ++ a ∷ after) (Some c)
-one_read pool c [] a after items are is others held = (Some c, ((are.0.0, are.1.0), inl (is, refl, c, items, held, refl)), others_read pool (Some c) after (are.0.1, are.1.1) others)
-one_read pool c (b ∷ before) a after items are is others held = (None, ((are.0.0, are.1.0), inr (others.0, refl)), one_read pool c before a after items (are.0.1, are.1.1) is others.1 held)
+one_read : (pool : List Entry) (c : Code) (before : List Attribute) (a : Attribute) (after : List Attribute) (items : CodeItems) → Are pool (before ++ a ∷ after) → IsCodeAttribute pool a → NoCode pool (before ++ after) → HoldsCode pool a.contents items c → AllRead pool None (before ++ a ∷ after) (Some c)
+one_read pool c [] a after items are is others held = (Some c, (are.0, inl (is, refl, c, items, held, refl)), others_read pool (Some c) after are.1 others)
+one_read pool c (b ∷ before) a after items are is others held = (None, (are.0, inr (others.0, refl)), one_read pool c before a after items are.1 is others.1 held)
 
-among_read : (pool : List Entry) (attrs : List Attribute) (last : Option Code) → AreAttributes pool attrs → CodeAmong pool attrs last → AllRead pool None attrs last
+among_read : (pool : List Entry) (attrs : List Attribute) (last : Option Code) → Are pool attrs → CodeAmong pool attrs last → AllRead pool None attrs last
 among_read pool attrs None are h = others_read pool None attrs are h
 among_read pool attrs (Some c) are h = rw h.among (one_read pool c h.before h.attribute h.after h.items (rw h.among at are) h.named h.others h.holds)
 
-pub attributes_spell : (pool : List Entry) (n : ℕ) → Spells (attributes pool n None) 0 (λ (p : List Attribute × Option Code). flat_map attribute_text p.0) (λ p _. (length p.0 ≡ n) × (AreAttributes pool p.0 × CodeAmong pool p.0 p.1)) (λ p. p.1)
-attributes_spell pool n = seen (along_attributes pool n None) (λ (attrs, c) rest s. ((attrs, c), refl, refl, (s.0, code_among pool attrs c s.1))) (λ (attrs, c) rest s. ((attrs, c), refl, refl, (s.0, among_read pool attrs c s.1.0 s.1.1)))
+pub method_attributes_spells : (pool : List Entry) (n : ℕ) → Spells (attributes pool n None) 0 (λ (p : List Attribute × Option Code). flat_map attribute_text p.0)
+    (λ p _. (length p.0 ≡ n) × (AllByRecursion FitsAttribute p.0 × AllByRecursion (Named pool) p.0 × CodeAmong pool p.0 p.1)) (λ p. p.1)
+unfolding attributes
+method_attributes_spells pool n = seen (along_spells (attributes pool) attribute_text (λ _ now. now) (Reads pool) (λ _. refl) (λ n s. refl) (attribute_spells pool) n None)
+    (λ (attrs, c) rest s.
+    let o = code_among pool attrs c s.1 in
+    let both = both_of FitsAttribute (Named pool) attrs o.0 in
+    ((attrs, c), refl, refl, (s.0, (both.0, both.1, o.1))))
+    (λ (attrs, c) rest s. ((attrs, c), refl, refl, (s.0, among_read pool attrs c (of_both FitsAttribute (Named pool) attrs s.1.0 s.1.1) s.1.2)))

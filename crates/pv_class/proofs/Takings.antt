@@ -26,11 +26,11 @@ pub sized_spells : {B J : Type 0} {k : ℕ → Grammar B} {more : J → List ℕ
     → ((n : ℕ) → Spells (k n) room.after more (Q n) (all n)) → Spells (bind (u4 room) k) room.after (λ j. items.u4 (count j) ++ more j) (λ j rest. IsU4 (count j) × Q (count j) j rest) (λ j. all (count j) j)
 sized_spells room count is f = counted_spells room.after (short room) w32 wide32 count is f
 
-both_of : {A : Type 0} (F H : A → Type 0) (xs : List A) → AllByRecursion (λ a. F a × H a) xs → AllByRecursion F xs × AllByRecursion H xs
+pub both_of : {A : Type 0} (F H : A → Type 0) (xs : List A) → AllByRecursion (λ a. F a × H a) xs → AllByRecursion F xs × AllByRecursion H xs
 both_of F H [] h = (tt, tt)
 both_of F H (x ∷ xs) h = let o = both_of F H xs h.1 in ((h.0.0, o.0), (h.0.1, o.1))
 
-of_both : {A : Type 0} (F H : A → Type 0) (xs : List A) → AllByRecursion F xs → AllByRecursion H xs → AllByRecursion (λ a. F a × H a) xs
+pub of_both : {A : Type 0} (F H : A → Type 0) (xs : List A) → AllByRecursion F xs → AllByRecursion H xs → AllByRecursion (λ a. F a × H a) xs
 of_both F H [] f h = tt
 of_both F H (x ∷ xs) f h = ((f.0, h.0), of_both F H xs f.1 h.1)
 

@@ -2,7 +2,7 @@
 use Rattle.std.proofs.Common.{◌≡◌, ℕ, zero, suc, ◌≤◌, List, [], ◌∷◌, ◌++◌, length, refl, sym, ap, subst, ◌∙◌, append_assoc, arith}
 use Rattle.std.specs.List.{flat_map, AllByRecursion}
 use Rattle.std.specs.Int.{Width, to_be_bytes}
-use Rattle.std.proofs.lemmas.List.{length-append, append-nil}
+use Rattle.std.proofs.lemmas.List.{length-append, append-nil, nil_from_length}
 use Rattle.pv_format.specs.Numbers.{FitsNumber}
 use Rattle.pv_format.specs.Grammars.{Test, Grammar, give, here, check, bind, Takes, number, run, times, table}
 use Rattle.pv_format.proofs.Bytes.{IsBytes, bytes_after, IsWide}
@@ -86,34 +86,30 @@ last_spells {text = text} f r = seen (then_spells f r) (λ (i, _) rest s. (i, ap
 -- a number that counts what follows it
 pub counted_spells : {F B J : Type 0} {k : ℕ → Grammar F B} {more : J → List ℕ} {Q : ℕ → J → List ℕ → Type 0} {all : ℕ → J → B} (after : ℕ) (short : ℕ → F) (w : Width) → IsWide w → (count : J → ℕ) → ((n : ℕ) (j : J) (rest : List ℕ) → Q n j rest → count j ≡ n)
     → ((n : ℕ) → Spells (k n) after more (Q n) (all n)) → Spells (bind (number after short w) k) after (λ j. to_be_bytes w (count j) ++ more j) (λ j rest. FitsNumber w (count j) × Q (count j) j rest) (λ j. all (count j) j)
-counted_spells {J = J} {more = more} {Q = Q} {all = all} after short w wide count is r =
-    let Seen : List ℕ → J → ℕ → Type 0 = λ rest j n. FitsNumber w n → Q n j rest → (i : J) × (to_be_bytes w n ++ more j ≡ to_be_bytes w (count i) ++ more i) × (all n j ≡ all (count i) i) × (FitsNumber w (count i) × Q (count i) i rest) in
-    seen (then_spells (number_spells after short w wide) r) (λ (n, j) rest s. subst (Seen rest j) (is n j rest s.1) (λ fits q. (j, refl, refl, (fits, q))) s.0 s.1) (λ j rest s. ((count j, j), refl, refl, s))
+counted_spells {more = more} {all = all} after short w wide count is r = seen (then_spells (number_spells after short w wide) r)
+    (λ (n, j) rest s. let e = is n j rest s.1 in (j, ap (λ (m : ℕ). to_be_bytes w m ++ more j) (sym e), ap (λ (m : ℕ). all m j) (sym e), rw (← e) at s))
+    (λ j rest s. ((count j, j), refl, refl, s))
 
 -- ---- n of them
 
-abbrev Has : {I : Type 0} → ℕ → (I → Type 0) → List I → Type 0
-Has n P is = (length is ≡ n) × AllByRecursion P is
+first_of : {I : Type 0} (is : List I) (n : ℕ) → length is ≡ suc n → (i : I) × (more : List I) × (is ≡ i ∷ more)
+first_of [] n e = absurd (omega arith)
+first_of (i ∷ is) n e = (i, is, refl)
 
-none_left : {I : Type 0} (text : I → List ℕ) (P : I → Type 0) (is : List I) → Has 0 P is → flat_map text is ≡ []
-none_left text P [] h = refl
-none_left text P (i ∷ is) h = absurd (omega (arith, h.0))
-
-one_less : {I : Type 0} (text : I → List ℕ) (P : I → Type 0) (n : ℕ) (is : List I) → Has (suc n) P is → (p : I × List I) × (flat_map text is ≡ text p.0 ++ flat_map text p.1) × P p.0 × Has n P p.1
-one_less text P n [] h = absurd (omega (arith, h.0))
-one_less text P n (i ∷ is) h = ((i, is), refl, h.1.0, (omega (arith, h.0), h.1.1))
-
-pub times_spells : {F I : Type 0} {g : Grammar F (Unit {0})} {after : ℕ} {text : I → List ℕ} {P : I → Type 0} → Spells g after text (λ i _. P i) (λ _. tt) → (n : ℕ) → Spells (times n g) after (flat_map text) (λ is _. Has n P is) (λ _. tt)
+pub times_spells : {F I : Type 0} {g : Grammar F (Unit {0})} {after : ℕ} (text : I → List ℕ) {P : I → Type 0} → Spells g after text (λ i _. P i) (λ _. tt) → (n : ℕ) → Spells (times n g) after (flat_map text) (λ is _. (length is ≡ n) × AllByRecursion P is) (λ _. tt)
 unfolding times
-times_spells {text = text} {P = P} f zero = seen (give_spells tt) (λ _ rest s. ([], refl, refl, (refl, tt))) (λ is rest s. (tt, none_left text P is s, refl, tt))
-times_spells {text = text} {P = P} f (suc n) = seen (then_spells f (λ _. times_spells f n))
+times_spells text f zero = seen (give_spells tt) (λ _ rest s. ([], refl, refl, (refl, tt))) (λ is rest s. (tt, ap (flat_map text) (nil_from_length is s.0), refl, tt))
+times_spells text f (suc n) = seen (then_spells f (λ _. times_spells text f n))
     (λ (i, is) rest s. (i ∷ is, refl, refl, (ap suc s.1.0, (s.0, s.1.1))))
-    (λ is rest s. let o = one_less text P n is s in (o.0, o.1, refl, (o.2, o.3)))
+    (λ is rest s.
+    let o = first_of is n s.0 in
+    let h = rw o.2 at s in
+    ((o.0, o.1), ap (flat_map text) o.2, refl, (h.1.0, (omega (arith, h.0), h.1.1))))
 
 -- a table of items, which reads as their number
 pub table_spells : {F I : Type 0} {g : Grammar F (Unit {0})} {text : I → List ℕ} {P : I → Type 0} (after : ℕ) (short : ℕ → F) (w : Width) → IsWide w → Spells g after text (λ i _. P i) (λ _. tt)
     → Spells (table after short w g) after (λ is. to_be_bytes w (length is) ++ flat_map text is) (λ is _. FitsNumber w (length is) × AllByRecursion P is) length
-table_spells after short w wide f = seen (counted_spells after short w wide length (λ n is rest q. q.0.0) (λ n. last_spells (times_spells f n) (λ _. give_spells n)))
+table_spells {text = text} after short w wide f = seen (counted_spells after short w wide length (λ n is rest q. q.0.0) (λ n. last_spells (times_spells text f n) (λ _. give_spells n)))
     (λ is rest s. (is, refl, refl, (s.0, s.1.0.1)))
     (λ is rest s. (is, refl, refl, (s.0, ((refl, s.1), tt))))
 
@@ -124,21 +120,12 @@ abbrev pub Along : {S A I : Type 0} → (S → A → S) → (S → I → A → T
 Along next R s [] last = last ≡ s
 Along {A = A} next R s (i ∷ is) last = (x : A) × R s i x × Along next R (next s x) is last
 
-abbrev Leads : {S A I : Type 0} → (S → A → S) → (S → I → A → Type 0) → ℕ → S → List I → S → Type 0
-Leads next R n s is last = (length is ≡ n) × Along next R s is last
-
-no_more : {S A I : Type 0} (next : S → A → S) (R : S → I → A → Type 0) (text : I → List ℕ) (s : S) (is : List I) (last : S) → Leads next R 0 s is last → (flat_map text is ≡ []) × (last ≡ s)
-no_more next R text s [] last h = (refl, h.1)
-no_more next R text s (i ∷ is) last h = absurd (omega (arith, h.0))
-
-goes_on : {S A I : Type 0} (next : S → A → S) (R : S → I → A → Type 0) (text : I → List ℕ) (n : ℕ) (s : S) (is : List I) (last : S) → Leads next R (suc n) s is last
-    → (i : I) × (x : A) × (more : List I) × (flat_map text is ≡ text i ++ flat_map text more) × R s i x × Leads next R n (next s x) more last
-goes_on next R text n s [] last h = absurd (omega (arith, h.0))
-goes_on next R text n s (i ∷ is) last h = (i, h.1.0, is, refl, h.1.1, (omega (arith, h.0), h.1.2))
-
 pub along_spells : {F S A I : Type 0} {after : ℕ} {step : S → Grammar F A} (loop : ℕ → S → Grammar F S) (text : I → List ℕ) (next : S → A → S) (R : S → I → A → Type 0) → ((s : S) → loop 0 s ≡ give s) → ((n : ℕ) (s : S) → loop (suc n) s ≡ bind (step s) (λ x. loop n (next s x)))
-    → ((s : S) → Spells (step s) after (λ (p : I × A). text p.0) (λ p _. R s p.0 p.1) (λ p. p.1)) → (n : ℕ) (s : S) → Spells (loop n s) after (λ (p : List I × S). flat_map text p.0) (λ p _. Leads next R n s p.0 p.1) (λ p. p.1)
-along_spells loop text next R none more f zero s = rw (none s) (seen (give_spells s) (λ _ rest h. (([], s), refl, refl, (refl, refl))) (λ (is, last) rest h. let o = no_more next R text s is last h in (tt, o.0, o.1, tt)))
+    → ((s : S) → Spells (step s) after (λ (p : I × A). text p.0) (λ p _. R s p.0 p.1) (λ p. p.1)) → (n : ℕ) (s : S) → Spells (loop n s) after (λ (p : List I × S). flat_map text p.0) (λ p _. (length p.0 ≡ n) × Along next R s p.0 p.1) (λ p. p.1)
+along_spells loop text next R none more f zero s = rw (none s) (seen (give_spells s) (λ _ rest h. (([], s), refl, refl, (refl, refl))) (λ (is, last) rest h. let e = nil_from_length is h.0 in (tt, ap (flat_map text) e, rw e at h.1, tt)))
 along_spells loop text next R none more f (suc n) s = rw (more n s) (seen (then_spells {P = λ p. R s p.0 p.1} (f s) (λ x. along_spells loop text next R none more f n (next s x)))
     (λ ((i, x), (is, last)) rest h. ((i ∷ is, last), refl, refl, (ap suc h.1.0, (x, h.0, h.1.1))))
-    (λ (is, last) rest h. let o = goes_on next R text n s is last h in (((o.0, o.1), (o.2, last)), o.3, refl, (o.4, o.5))))
+    (λ (is, last) rest h.
+    let o = first_of is n h.0 in
+    let a = rw o.2 at h.1 in
+    (((o.0, a.0), (o.1, last)), ap (flat_map text) o.2, refl, (a.1, (omega (arith, h.0, ap length o.2), a.2)))))

@@ -5,7 +5,7 @@ use Rattle.std.specs.Bool.{Decides}
 use Rattle.std.proofs.lemmas.Bool.Decides.{Decides-eqb, nat_tests}
 use Rattle.pv_pool.specs.declared.entry.Entry.{Entry}
 use Rattle.pv_pool.specs.Pools.{HasClass}
-use Rattle.pv_format.proofs.Cited.{Spells, seen, give_spells, check_spells, here_spells, then_spells, last_spells}
+use Rattle.pv_format.proofs.Cited.{Spells, seen, give_spells, check_spells, here_spells, then_spells, last_spells, made_spells}
 use Rattle.pv_class.specs.declared.file.Method.{Method}
 use Rattle.pv_class.specs.declared.fault.Cause.TheVariants as cause
 use Rattle.pv_format.specs.Grammars.{holds}
@@ -55,9 +55,9 @@ pub record IsTail (pool : List Entry) (i : Items) (all : List Method) : Type 0 w
   pub methods : AreMethods pool i.methods all
   pub attributes : IsTable FitsAttribute i.attributes × AllByRecursion (Named pool) i.attributes
 
-front_spells : (pool : List Entry) → Spells (class_front pool) 0 (λ (x : ℕ × (ℕ × ℕ)). u2 x.0 ++ (u2 x.1.0 ++ u2 x.1.1)) (λ x _. IsU2 x.0 × (IsIndex (class pool) x.1.0 × (IsIndex (class_or_none pool) x.1.1 × Unit {0}))) (λ _. tt)
+front_spells : (pool : List Entry) → Spells (class_front pool) 0 (λ (x : ℕ × (ℕ × ℕ)). u2 x.0 ++ (u2 x.1.0 ++ u2 x.1.1)) (λ x _. IsU2 x.0 × (IsIndex (class pool) x.1.0 × IsIndex (class_or_none pool) x.1.1)) (λ _. tt)
 unfolding class_front
-front_spells pool = then_spells (u2_spells in_file) (λ flags. then_spells (index_spells in_file (class pool)) (λ this. last_spells (index_spells in_file (class_or_none pool)) (λ super. give_spells tt)))
+front_spells pool = then_spells (u2_spells in_file) (λ flags. then_spells (index_spells in_file (class pool)) (λ this. made_spells (λ _. tt) (index_spells in_file (class_or_none pool))))
 
 -- nothing stands after the attributes
 end_spells : (pool : List Entry) → Spells (class_end pool) 0 (λ (x : (List MemberInfo × List Method) × List Attribute). table member_text x.0.0 ++ table attribute_text x.1)

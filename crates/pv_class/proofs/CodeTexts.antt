@@ -7,7 +7,7 @@ use Rattle.std.specs.Bool.{Decides}
 use Rattle.std.proofs.lemmas.List.{length-append}
 use Rattle.std.specs.Int.{w16}
 use Rattle.pv_pool.specs.declared.entry.Entry.{Entry}
-use Rattle.pv_format.proofs.Cited.{wide16, Spells, seen, give_spells, check_spells, here_spells, then_spells, last_spells, table_spells}
+use Rattle.pv_format.proofs.Cited.{wide16, Spells, seen, give_spells, check_spells, here_spells, then_spells, last_spells, made_spells, table_spells}
 use Rattle.pv_class.specs.declared.room.Room.{Room}
 use Rattle.pv_class.specs.declared.fault.Cause.TheVariants as cause
 use Rattle.pv_format.specs.Grammars.{holds, here, Takes}
@@ -34,9 +34,9 @@ IsFront x = IsU2 x.0 × IsU2 x.1.0 × (0 < length x.1.1) × (length x.1.1 < 6553
 
 front_spells : (room : Room) (start : ℕ) → Spells (code_front room start) room.after front_text (λ x _. IsFront x) (λ x. (x.0, x.1.0, x.1.1))
 unfolding code_front
-front_spells room start = seen (then_spells (u2_spells room) (λ stack. then_spells (u2_spells room) (λ locals. sized_spells room length (λ n bytes rest q. q.1.0) (λ n. check_spells (holds (leb 1 n && leb n 65535)) (failure cause.Code start) (last_spells (bytes_spells room n) (λ bytes. give_spells (stack, locals, bytes)))))))
+front_spells room start = seen (then_spells (u2_spells room) (λ stack. then_spells (u2_spells room) (λ locals. sized_spells room length (λ n bytes rest q. q.1) (λ n. check_spells (holds (leb 1 n && leb n 65535)) (failure cause.Code start) (made_spells (λ bytes. (stack, locals, bytes)) (bytes_spells room n))))))
     (λ x rest s. (x, refl, refl, assumption ((size_decides (length x.1.1)).0 s.1.1.1.0)))
-    (λ x rest s. (x, refl, refl, (s.0, (s.1, (omega (arith, s.3), ((size_decides (length x.1.1)).1 (s.2, s.3), (refl, tt)))))))
+    (λ x rest s. (x, refl, refl, (s.0, (s.1, (omega (arith, s.3), ((size_decides (length x.1.1)).1 (s.2, s.3), refl))))))
 
 -- ---- the contents
 

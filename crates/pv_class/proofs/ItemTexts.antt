@@ -4,7 +4,7 @@ use Rattle.std.specs.List.{AllByRecursion}
 use Rattle.pv_pool.specs.declared.entry.Entry.{Entry}
 use Rattle.pv_pool.specs.Pools.{HasText, HasClass}
 use Rattle.pv_pool.specs.Readers.{text_under}
-use Rattle.pv_format.proofs.Cited.{Spells, seen, give_spells, check_spells, here_spells, then_spells, last_spells}
+use Rattle.pv_format.proofs.Cited.{Spells, seen, give_spells, check_spells, here_spells, then_spells, last_spells, made_spells}
 use Rattle.pv_class.specs.declared.room.Room.{Room}
 use Rattle.pv_class.specs.declared.member.MemberHead as front
 use Rattle.pv_class.specs.declared.member.MemberKind.{MemberKind}
@@ -47,9 +47,9 @@ contents_text c = u4 (length c) ++ c
 
 pub contents_spells : (room : Room) → Spells (contents room) room.after contents_text (λ c _. IsU4 (length c)) (λ _. tt)
 unfolding contents
-contents_spells room = seen (sized_spells room length (λ n c rest q. q.0) (λ size. last_spells (bytes_spells room size) (λ _. give_spells tt)))
+contents_spells room = seen (sized_spells room length (λ n c rest q. q) (λ size. made_spells (λ _. tt) (bytes_spells room size)))
     (λ c rest s. (c, refl, refl, s.0))
-    (λ c rest s. (c, refl, refl, (s, (refl, tt))))
+    (λ c rest s. (c, refl, refl, (s, refl)))
 
 -- an attribute whose name is the index of a Utf8
 abbrev pub Named : List Entry → Attribute → Type 0
@@ -66,11 +66,11 @@ attributes_spells room pool = tables_spells room FitsAttribute (Named pool) (ski
 
 pub interface_spells : (room : Room) (pool : List Entry) → Spells (interface room pool) room.after u2 (λ i _. IsU2 i × HasClass pool i) (λ _. tt)
 unfolding interface
-interface_spells room pool = seen (last_spells (index_spells room (class pool)) (λ _. give_spells tt)) (λ i rest s. (i, refl, refl, s.0)) (λ i rest s. (i, refl, refl, (s, tt)))
+interface_spells room pool = made_spells (λ _. tt) (index_spells room (class pool))
 
 pub handler_spells : (room : Room) → Spells (handler room) room.after handler_text (λ h _. FitsHandler h) (λ _. tt)
 unfolding handler
-handler_spells room = seen (then_spells (u2_spells room) (λ _. then_spells (u2_spells room) (λ _. then_spells (u2_spells room) (λ _. last_spells (u2_spells room) (λ _. give_spells tt)))))
+handler_spells room = seen (then_spells (u2_spells room) (λ _. then_spells (u2_spells room) (λ _. then_spells (u2_spells room) (λ _. made_spells (λ _. tt) (u2_spells room)))))
     (λ (a, (b, (c, d))) rest s. (record { start = a; end = b; target = c; catch = d }, refl, refl, assumption))
     (λ h rest s. ((h.start, (h.end, (h.target, h.catch))), refl, refl, assumption))
 
@@ -105,7 +105,7 @@ front_is k pool m desc f name e is = record { flags = f.flags; name = (f.name, n
 
 pub field_spells : (pool : List Entry) → Spells (field pool) 0 member_text (λ m _. FitsMemberInfo m × IsField pool m) (λ _. tt)
 unfolding field
-field_spells pool = seen (then_spells (member_spells kind.Field pool) (λ _. last_spells (attributes_spells in_file pool) (λ _. give_spells tt)))
-    (λ (m, attrs) rest (f, (a, _)).
+field_spells pool = seen (then_spells (member_spells kind.Field pool) (λ _. made_spells (λ _. tt) (attributes_spells in_file pool)))
+    (λ (m, attrs) rest (f, a).
     (info m attrs, simp append_assoc, refl, (record { flags = f.flags; name = f.name.0; desc = f.desc.0; attributes = a.0 }, record { name = f.name.1; desc = text_at pool m.desc; desc_is = text_found pool m.desc f.desc.1; typed = f.typed; attributes = a.1 })))
-    (λ m rest (f, is). ((front_of m, m.attributes), simp append_assoc, refl, (front_is kind.Field pool m is.desc f is.name is.desc_is is.typed, ((f.attributes, is.attributes), tt))))
+    (λ m rest (f, is). ((front_of m, m.attributes), simp append_assoc, refl, (front_is kind.Field pool m is.desc f is.name is.desc_is is.typed, (f.attributes, is.attributes))))

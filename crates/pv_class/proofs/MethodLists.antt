@@ -4,7 +4,7 @@ use Rattle.std.specs.Int.{w16}
 use Rattle.std.specs.List.{AllByRecursion, AllZip, Contains}
 use Rattle.std.proofs.lemmas.List.{append-nil}
 use Rattle.pv_pool.specs.declared.entry.Entry.{Entry}
-use Rattle.pv_format.proofs.Cited.{wide16, Spells, seen, give_spells, check_spells, here_spells, then_spells, last_spells, counted_spells, Along, along_spells}
+use Rattle.pv_format.proofs.Cited.{wide16, Spells, seen, check_spells, here_spells, then_spells, made_spells, counted_spells, Along, along_spells}
 use Rattle.pv_class.specs.declared.member.MemberKind.TheVariants as kind
 use Rattle.pv_class.specs.declared.file.Method.{Method}
 use Rattle.pv_class.specs.declared.signature.Signature.{Signature}
@@ -31,10 +31,10 @@ method_is pool m y is = rw (← is.flags, text_read pool m.name y.name is.name, 
 method_spells : (pool : List Entry) (before : List Signature) → Spells (method pool before) 0 (λ (p : MemberInfo × Method). member_text p.0) (λ p _. IsNew pool before p.0 p.1) (λ p. p.1)
 unfolding method
 method_spells pool before = seen (here_spells (λ left. then_spells (member_spells kind.Method pool) (λ m. check_spells (new before (signature_of pool m)) (failure cause.Duplicate left)
-    (counted_spells 0 (short in_file) w16 wide16 (λ p. length p.0) (λ n p rest q. q.0.0) (λ n. last_spells (method_attributes_spells pool n) (λ code. give_spells (method_of pool m code)))))))
+    (counted_spells 0 (short in_file) w16 wide16 (λ p. length p.0) (λ n p rest q. q.0) (λ n. made_spells (λ code. method_of pool m code) (method_attributes_spells pool n))))))
     (λ (m, (attrs, code)) rest s.
     let f = s.0 in
-    let a = s.1.1.1.0.1 in
+    let a = s.1.1.1.1 in
     let all = info m attrs in
     let fits : FitsMemberInfo all = record { flags = f.flags; name = f.name.0; desc = f.desc.0; attributes = (s.1.1.0, a.0) } in
     let is : IsMethod pool all (method_of pool m code) = record { flags = refl; name = text_found pool m.name f.name.1; desc = text_found pool m.desc f.desc.1; typed = f.typed; attributes = a.1; code = a.2 } in
@@ -42,7 +42,7 @@ method_spells pool before = seen (here_spells (λ left. then_spells (member_spel
     (λ (m, y) rest (fits, is, is_new).
     let same : y ≡ method_of pool (front_of m) y.code = method_is pool m y is in
     let new_too : Contains before (signature_of pool (front_of m)) → ⊥ = λ there. is_new (rw (ap signature same) there) in
-    ((front_of m, (m.attributes, y.code)), simp append_assoc, same, (front_is kind.Method pool m y.desc fits (text_is pool m.name y.name is.name) is.desc is.typed, (new_too, (fits.attributes.0, ((refl, (fits.attributes.1, is.attributes, is.code)), tt))))))
+    ((front_of m, (m.attributes, y.code)), simp append_assoc, same, (front_is kind.Method pool m y.desc fits (text_is pool m.name y.name is.name) is.desc is.typed, (new_too, (fits.attributes.0, (refl, (fits.attributes.1, is.attributes, is.code)))))))
 
 -- ---- methods after others
 

@@ -5,7 +5,7 @@ use Rattle.std.specs.List.{flat_map, AllByRecursion}
 use Rattle.std.proofs.lemmas.Slice.Eq.{bytes_eq-Decides}
 use Rattle.pv_pool.specs.declared.entry.Entry.{Entry}
 use Rattle.pv_pool.specs.Readers.{text_under}
-use Rattle.pv_format.proofs.Cited.{Spells, seen, give_spells, check_spells, here_spells, then_spells, last_spells, Along, along_spells}
+use Rattle.pv_format.proofs.Cited.{Spells, seen, check_spells, here_spells, then_spells, made_spells, Along, along_spells}
 use Rattle.pv_class.specs.declared.file.Code.{Code}
 use Rattle.pv_class.specs.declared.fault.Cause.TheVariants as cause
 use Rattle.pv_format.specs.Grammars.{holds}
@@ -30,17 +30,17 @@ none_said (Some c) e = absurd cc
 
 named_spells : {IsIt : Type 0} (pool : List Entry) (so_far : Option Code) (start : ℕ) (b : Bool) → Decides b IsIt
     → Spells (attribute_named pool so_far start b) 0 (λ (p : List ℕ × Option Code). contents_text p.0) (λ p _. IsU4 (length p.0) × Keeps IsIt pool so_far p.0 p.1) (λ p. p.1)
-named_spells pool so_far start true is = seen (check_spells (holds (is_none so_far)) (failure cause.Code start) (last_spells (code_spells pool start) (λ c. give_spells (Some c))))
-    (λ items rest s. ((_, Some (code_of items)), refl, refl, (s.1.0.1, inl (is.0 refl, none_said so_far s.0, code_of items, items, record { spelled = refl; fits = s.1.0.0.0; names = s.1.0.0.1; held = refl }, refl))))
+named_spells pool so_far start true is = seen (check_spells (holds (is_none so_far)) (failure cause.Code start) (made_spells (λ c. Some c) (code_spells pool start)))
+    (λ items rest s. ((_, Some (code_of items)), refl, refl, (s.1.1, inl (is.0 refl, none_said so_far s.0, code_of items, items, record { spelled = refl; fits = s.1.0.0; names = s.1.0.1; held = refl }, refl))))
     (λ (contents, now) rest s. elim s.1 [
-      | inl k ↦ let h = k.4 in (k.3, ap contents_text h.spelled, k.5 ∙ ap (λ (c : Code). Some c) h.held, (ap is_none k.1, (((h.fits, h.names), subst (λ (u : List ℕ). IsU4 (length u)) h.spelled s.0), tt)))
+      | inl k ↦ let h = k.4 in (k.3, ap contents_text h.spelled, k.5 ∙ ap (λ (c : Code). Some c) h.held, (ap is_none k.1, ((h.fits, h.names), subst (λ (u : List ℕ). IsU4 (length u)) h.spelled s.0)))
       | inr k ↦ absurd (k.0 (is.0 refl))
     ])
-named_spells pool so_far start false is = seen (last_spells (contents_spells in_file) (λ _. give_spells so_far))
-    (λ contents rest s. ((contents, so_far), refl, refl, (s.0, inr (λ p. true≢false (sym (is.1 p)), refl))))
+named_spells pool so_far start false is = seen (made_spells (λ _. so_far) (contents_spells in_file))
+    (λ contents rest s. ((contents, so_far), refl, refl, (s, inr (λ p. true≢false (sym (is.1 p)), refl))))
     (λ (contents, now) rest s. elim s.1 [
       | inl k ↦ absurd (true≢false (sym (is.1 k.0)))
-      | inr k ↦ (contents, refl, k.1, (s.0, tt))
+      | inr k ↦ (contents, refl, k.1, s.0)
     ])
 
 named_code : (o : Option (List ℕ)) → or_nothing o ≡ code_word → o ≡ Some code_word

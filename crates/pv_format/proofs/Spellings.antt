@@ -55,9 +55,7 @@ check_spells c e f = record {
 pub here_spells : {F A I : Type 0} {g : ℕ → Grammar F A} {after : ℕ} {text : I → List ℕ} {Fits : ℕ → I → List ℕ → Type 0} {held : I → A} → ((left : ℕ) → Spells (g left) after text (Fits left) held) → Spells (here g) after text (λ i rest. Fits (length (text i ++ rest)) i rest) held
 unfolding Takes
 here_spells {Fits = Fits} f = record {
-  takes = λ bytes x rest fits h.
-      let p = (f (length bytes)).takes bytes x rest fits h in
-      (p.0, p.1, p.2, subst (λ (u : List ℕ). Fits (length u) p.0 rest) p.1 p.3);
+  takes = λ bytes x rest fits h. let p = (f (length bytes)).takes bytes x rest fits h in (p.0, p.1, p.2, subst (λ (u : List ℕ). Fits (length u) p.0 rest) p.1 p.3);
   again = λ i rest s le. (f _).again i rest s le;
 }
 
@@ -82,6 +80,10 @@ then_spells {g = g} {k = k} {text = text} {held = held} {more = more} {all = all
 pub last_spells : {F A B I : Type 0} {g : Grammar F A} {k : A → Grammar F B} {after : ℕ} {text : I → List ℕ} {P : I → Type 0} {held : I → A} {Q : A → List ℕ → Type 0} {all : A → B}
     → Spells g after text (λ i _. P i) held → ((x : A) → Spells (k x) after (λ (_ : Unit {0}). []) (λ _ rest. Q x rest) (λ _. all x)) → Spells (bind g k) after text (λ i rest. P i × Q (held i) rest) (λ i. all (held i))
 last_spells {text = text} f r = seen (then_spells f r) (λ (i, _) rest s. (i, append-nil (text i), refl, s)) (λ i rest s. ((i, tt), sym (append-nil (text i)), refl, s))
+
+-- an item of which something is made
+pub made_spells : {F A B I : Type 0} {g : Grammar F A} {after : ℕ} {text : I → List ℕ} {P : I → Type 0} {held : I → A} (make : A → B) → Spells g after text (λ i _. P i) held → Spells (bind g (λ x. give (make x))) after text (λ i _. P i) (λ i. make (held i))
+made_spells make f = seen (last_spells f (λ x. give_spells (make x))) (λ i rest s. (i, refl, refl, s.0)) (λ i rest s. (i, refl, refl, (s, tt)))
 
 -- a number that counts what follows it
 pub counted_spells : {F B J : Type 0} {k : ℕ → Grammar F B} {more : J → List ℕ} {Q : ℕ → J → List ℕ → Type 0} {all : ℕ → J → B} (after : ℕ) (short : ℕ → F) (w : Width) → IsWide w → (count : J → ℕ) → ((n : ℕ) (j : J) (rest : List ℕ) → Q n j rest → count j ≡ n)
@@ -109,9 +111,9 @@ times_spells text f (suc n) = seen (then_spells f (λ _. times_spells text f n))
 -- a table of items, which reads as their number
 pub table_spells : {F I : Type 0} {g : Grammar F (Unit {0})} {text : I → List ℕ} {P : I → Type 0} (after : ℕ) (short : ℕ → F) (w : Width) → IsWide w → Spells g after text (λ i _. P i) (λ _. tt)
     → Spells (table after short w g) after (λ is. to_be_bytes w (length is) ++ flat_map text is) (λ is _. FitsNumber w (length is) × AllByRecursion P is) length
-table_spells {text = text} after short w wide f = seen (counted_spells after short w wide length (λ n is rest q. q.0.0) (λ n. last_spells (times_spells text f n) (λ _. give_spells n)))
-    (λ is rest s. (is, refl, refl, (s.0, s.1.0.1)))
-    (λ is rest s. (is, refl, refl, (s.0, ((refl, s.1), tt))))
+table_spells {text = text} after short w wide f = seen (counted_spells after short w wide length (λ n is rest q. q.0) (λ n. made_spells (λ _. n) (times_spells text f n)))
+    (λ is rest s. (is, refl, refl, (s.0, s.1.1)))
+    (λ is rest s. (is, refl, refl, (s.0, (refl, s.1))))
 
 -- ---- n items in a state
 

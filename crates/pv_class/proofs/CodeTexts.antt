@@ -34,7 +34,8 @@ IsFront x = IsU2 x.0 × IsU2 x.1.0 × (0 < length x.1.1) × (length x.1.1 < 6553
 
 front_spells : (room : Room) (start : ℕ) → Spells (code_front room start) room.after front_text (λ x _. IsFront x) (λ x. (x.0, x.1.0, x.1.1))
 unfolding code_front
-front_spells room start = seen (then_spells (u2_spells room) (λ stack. then_spells (u2_spells room) (λ locals. sized_spells room length (λ n bytes rest q. q.1) (λ n. check_spells (holds (leb 1 n && leb n 65535)) (failure cause.Code start) (made_spells (λ bytes. (stack, locals, bytes)) (bytes_spells room n))))))
+front_spells room start = seen (then_spells (u2_spells room) (λ stack. then_spells (u2_spells room) (λ locals. sized_spells room length (λ n bytes rest q. q.1)
+    (λ n. check_spells (holds (leb 1 n && leb n 65535)) (failure cause.Code start) (made_spells (λ bytes. (stack, locals, bytes)) (bytes_spells room n))))))
     (λ x rest s. (x, refl, refl, assumption ((size_decides (length x.1.1)).0 s.1.1.1.0)))
     (λ x rest s. (x, refl, refl, (s.0, (s.1, (omega (arith, s.3), ((size_decides (length x.1.1)).1 (s.2, s.3), refl))))))
 
@@ -47,7 +48,8 @@ contents_spells : (pool : List Entry) (room : Room) (start size left : ℕ) → 
 unfolding code_contents
 contents_spells pool room start size left =
     let handlers = table_spells room.after (short room) w16 wide16 (handler_spells room) in
-    seen (then_spells (front_spells room start) (λ front. then_spells handlers (λ n. last_spells (attributes_spells room pool) (λ _. here_spells (λ end. check_spells (holds (eqb (end + size) left)) (failure cause.Code start) (give_spells (record { max_stack = front.0; max_locals = front.1; bytes = front.2; handlers = n })))))))
+    seen (then_spells (front_spells room start) (λ front. then_spells handlers (λ n. last_spells (attributes_spells room pool) (λ _.
+    here_spells (λ end. check_spells (holds (eqb (end + size) left)) (failure cause.Code start) (give_spells (record { max_stack = front.0; max_locals = front.1; bytes = front.2; handlers = n })))))))
     (λ ((stack, (locals, bytes)), (handlers, attrs)) rest s.
     let c : CodeItems = record { max_stack = stack; max_locals = locals; code = bytes; handlers = handlers; attributes = attrs } in
     (c, simp append_assoc, refl, assumption ((Decides-eqb (length rest + size) left).0 s.1.1.1.0)))

@@ -20,8 +20,8 @@ pairs_distinct ms pairs i j m n ei ej names descs =
     let same : signature m ≡ signature n = same_signature (signature m) (signature n) names descs in
     let at : get_or ms i m ≡ m = get_or_from_slice_get ms i m m ei in
     let at' : get_or ms j m ≡ n = get_or_from_slice_get ms j n m ej in
-    let below : i < j → ⊥ = λ lt. pairs i j m lt (slice_get_within ms j n ej) (ap signature at ∙ same ∙ sym (ap signature at')) in
-    let above : j < i → ⊥ = λ lt. pairs j i m lt (slice_get_within ms i m ei) (ap signature at' ∙ sym same ∙ sym (ap signature at)) in
+    let below : i < j → ⊥ = λ lt. pairs i j m lt (slice_get_within ms j n ej) (rw (at, at') same) in
+    let above : j < i → ⊥ = λ lt. pairs j i m lt (slice_get_within ms i m ei) (rw (at, at') (sym same)) in
     omega arith
 
 distinct_pairs : (ms : List Method) → AreDistinct ms → AllPairs Differ ms
@@ -43,6 +43,5 @@ distinct_new ms y later distinct there =
     let all = ms ++ y ∷ later in
     let (k, lt, same) = rw signatures_map at there in
     let within : k < length ms = rw length-map at lt in
-    let one : get_or all k y ≡ get_or ms k y = get_or_append_left ms (y ∷ later) y k within in
-    let other : get_or all (length ms) y ≡ y = get_or-append_seam ms y later y in
-    distinct_pairs all distinct k (length ms) y within (omega (arith, length-append ms (y ∷ later))) (ap signature one ∙ sym (get_or-map signature ms k y (signature y) within) ∙ same ∙ sym (ap signature other))
+    let one : signature (get_or ms k y) ≡ signature y = sym (get_or-map signature ms k y (signature y) within) ∙ same in
+    distinct_pairs all distinct k (length ms) y within (omega (arith, length-append ms (y ∷ later))) (rw (get_or_append_left ms (y ∷ later) y k within, get_or-append_seam) one)

@@ -1,7 +1,7 @@
 -- Methods by their spelling, and all methods of a class.
 use Rattle.std.proofs.Common.{◌≡◌, List, [], ◌∷◌, ◌++◌, length, refl, sym, ap, ◌∙◌, append_assoc}
 use Rattle.std.specs.Int.{w16}
-use Rattle.std.specs.List.{AllByRecursion, AllZip, Contains}
+use Rattle.std.specs.List.{AllByRecursion, AllZip, Contains, push}
 use Rattle.std.proofs.lemmas.List.{append-nil}
 use Rattle.pv_pool.specs.declared.entry.Entry.{Entry}
 use Rattle.pv_format.proofs.Cited.{wide16, Spells, seen, check_spells, here_spells, then_spells, made_spells, counted_spells, Along, along_spells}
@@ -47,7 +47,7 @@ method_spells pool before = seen (here_spells (λ left. then_spells (member_spel
 -- ---- methods after others
 
 abbrev AreNew : List Entry → List Method → List MemberInfo → List Method → Type 0
-AreNew pool = Along (λ so_far y. so_far ++ y ∷ []) (λ so_far. IsNew pool (signatures so_far))
+AreNew pool = Along push (λ so_far. IsNew pool (signatures so_far))
 
 new_are : (pool : List Entry) (so_far : List Method) (ms : List MemberInfo) (all : List Method) → AreDistinct so_far → AreNew pool so_far ms all → (ys : List Method) × (all ≡ so_far ++ ys) × AllByRecursion FitsMemberInfo ms × AllZip (IsMethod pool) ms ys × AreDistinct all
 new_are pool so_far [] all distinct h = ([], h ∙ sym (append-nil so_far), tt, tt, rw h distinct)
@@ -71,7 +71,7 @@ AreMethods pool ms all = IsTable FitsMemberInfo ms × AllZip (IsMethod pool) ms 
 pub all_methods_spells : (pool : List Entry) → Spells (all_methods pool) 0 (λ (p : List MemberInfo × List Method). table member_text p.0) (λ p _. AreMethods pool p.0 p.1) (λ p. p.1)
 unfolding all_methods methods
 all_methods_spells pool =
-    let methods_spells = along_spells (methods pool) member_text (λ so_far y. so_far ++ y ∷ []) (λ so_far. IsNew pool (signatures so_far)) (λ _. refl) (λ n s. refl) (λ so_far. method_spells pool (signatures so_far)) in
+    let methods_spells = along_spells (methods pool) member_text push (λ so_far. IsNew pool (signatures so_far)) (λ _. refl) (λ n s. refl) (λ so_far. method_spells pool (signatures so_far)) in
     seen (counted_spells 0 (short in_file) w16 wide16 (λ p. length p.0) (λ n p rest q. q.0) (λ n. methods_spells n []))
     (λ (ms, all) rest s. let o = new_are pool [] ms all (λ i j m n ei ej names descs. absurd cc) s.1.1 in ((ms, all), refl, refl, ((s.0, o.2), rw o.1 o.3, o.4)))
     (λ (ms, all) rest s. ((ms, all), refl, refl, (s.0.0, (refl, are_new pool [] ms all s.2 s.0.1 s.1))))

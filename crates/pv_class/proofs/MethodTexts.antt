@@ -97,7 +97,8 @@ code_among pool (a ∷ attrs) last (now, (is, inl k), more) =
     ((is, o.0), rw o.2 (record { before = []; attribute = a; after = attrs; items = k.3; among = refl; named = k.0; others = o.1; holds = k.4 }))
 code_among pool (a ∷ attrs) last (now, (is, inr k), more) = let o = code_among pool attrs last (rw k.1 at more) in ((is, o.0), later_code pool a attrs last k.0 o.1)
 
-one_read : (pool : List Entry) (c : Code) (before : List Attribute) (a : Attribute) (after : List Attribute) (items : CodeItems) → Are pool (before ++ a ∷ after) → IsCodeAttribute pool a → NoCode pool (before ++ after) → HoldsCode pool a.contents items c → AllRead pool None (before ++ a ∷ after) (Some c)
+one_read : (pool : List Entry) (c : Code) (before : List Attribute) (a : Attribute) (after : List Attribute) (items : CodeItems)
+    → Are pool (before ++ a ∷ after) → IsCodeAttribute pool a → NoCode pool (before ++ after) → HoldsCode pool a.contents items c → AllRead pool None (before ++ a ∷ after) (Some c)
 one_read pool c [] a after items are is others held = (Some c, (are.0, inl (is, refl, c, items, held, refl)), others_read pool (Some c) after are.1 others)
 one_read pool c (b ∷ before) a after items are is others held = (None, (are.0, inr (others.0, refl)), one_read pool c before a after items are.1 is others.1 held)
 

@@ -1,4 +1,4 @@
--- The items that a grammar takes, each with the text that spells it, what it must meet and what is read of it.
+-- The items that a grammar takes: which text spells an item, what it must meet to fit, and what is read of it.
 use Rattle.std.proofs.Common.{◌≡◌, ℕ, zero, suc, ◌≤◌, List, [], ◌∷◌, ◌++◌, length, refl, sym, ap, subst, ◌∙◌, append_assoc, arith}
 use Rattle.std.specs.List.{flat_map, AllByRecursion}
 use Rattle.std.specs.Int.{Width, to_be_bytes}
@@ -8,7 +8,7 @@ use Rattle.pv_format.specs.Grammars.{Test, Grammar, give, here, check, bind, Tak
 use Rattle.pv_format.proofs.Bytes.{IsBytes, bytes_after, IsWide}
 use Rattle.pv_format.proofs.GrammarTexts.{IsTexts, then_takes, takes_then, number_texts, run_texts}
 
--- what it takes spells an item, and an item that is spelled it takes; what an item must meet may depend on the bytes after it
+-- it takes the text of each item that fits, where at least `after` bytes come after, and nothing else; whether an item fits may depend on the bytes after it
 pub record Spells {F A I : Type 0} (g : Grammar F A) (after : ℕ) (text : I → List ℕ) (Fits : I → List ℕ → Type 0) (held : I → A) : Type 0 where
   pub takes : (bytes : List ℕ) (x : A) (rest : List ℕ) → IsBytes bytes → Takes g bytes x rest → (i : I) × (bytes ≡ text i ++ rest) × (x ≡ held i) × Fits i rest
   pub again : (i : I) (rest : List ℕ) → Fits i rest → after ≤ length rest → Takes g (text i ++ rest) (held i) rest
@@ -76,7 +76,7 @@ then_spells {g = g} {k = k} {text = text} {held = held} {more = more} {all = all
       rw append_assoc (takes_then g k (text p.0 ++ mid) (held p.0) mid (all (held p.0) p.1) rest first ((r (held p.0)).again p.1 rest s.1 le));
 }
 
--- what follows has no bytes
+-- an item, after which something follows that has no bytes
 pub last_spells : {F A B I : Type 0} {g : Grammar F A} {k : A → Grammar F B} {after : ℕ} {text : I → List ℕ} {P : I → Type 0} {held : I → A} {Q : A → List ℕ → Type 0} {all : A → B}
     → Spells g after text (λ i _. P i) held → ((x : A) → Spells (k x) after (λ (_ : Unit {0}). []) (λ _ rest. Q x rest) (λ _. all x)) → Spells (bind g k) after text (λ i rest. P i × Q (held i) rest) (λ i. all (held i))
 last_spells {text = text} f r = seen (then_spells f r) (λ (i, _) rest s. (i, append-nil (text i), refl, s)) (λ i rest s. ((i, tt), sym (append-nil (text i)), refl, s))
@@ -117,11 +117,12 @@ table_spells {text = text} after short w wide f = seen (counted_spells after sho
 
 -- ---- n items in a state
 
--- each leads from a state to the next
+-- each by what is read of it leads from a state to the next
 abbrev pub Along : {S A I : Type 0} → (S → A → S) → (S → I → A → Type 0) → S → List I → S → Type 0
 Along next R s [] last = last ≡ s
 Along {A = A} next R s (i ∷ is) last = (x : A) × R s i x × Along next R (next s x) is last
 
+-- a loop that reads n items, each in the state that those before it lead to
 pub along_spells : {F S A I : Type 0} {after : ℕ} {step : S → Grammar F A} (loop : ℕ → S → Grammar F S) (text : I → List ℕ) (next : S → A → S) (R : S → I → A → Type 0) → ((s : S) → loop 0 s ≡ give s) → ((n : ℕ) (s : S) → loop (suc n) s ≡ bind (step s) (λ x. loop n (next s x)))
     → ((s : S) → Spells (step s) after (λ (p : I × A). text p.0) (λ p _. R s p.0 p.1) (λ p. p.1)) → (n : ℕ) (s : S) → Spells (loop n s) after (λ (p : List I × S). flat_map text p.0) (λ p _. (length p.0 ≡ n) × Along next R s p.0 p.1) (λ p. p.1)
 along_spells loop text next R none more f zero s = rw (none s) (seen (give_spells s) (λ _ rest h. (([], s), refl, refl, (refl, refl))) (λ (is, last) rest h. let e = nil_from_length is h.0 in (tt, ap (flat_map text) e, rw e at h.1, tt)))

@@ -7,4 +7,5 @@ pub mod Bytes
 pub mod GrammarTexts
 pub mod ManyReads
 pub mod MoreTexts
+pub mod Spellings
 pub mod FreeGrammars

@@ -6,7 +6,8 @@ use Rattle.std.proofs.lemmas.List.{length-append, append-nil, nil_from_length}
 use Rattle.pv_format.specs.Numbers.{FitsNumber}
 use Rattle.pv_format.specs.Grammars.{Test, Grammar, give, here, check, bind, Takes, number, run, times, table}
 use Rattle.pv_format.proofs.Bytes.{IsBytes, bytes_after, IsWide}
-use Rattle.pv_format.proofs.GrammarTexts.{IsTexts, then_takes, takes_then, number_texts, run_texts}
+use Rattle.pv_format.proofs.GrammarTexts.{IsTexts, number_texts, run_texts}
+use Rattle.pv_format.proofs.GrammarReadings.{then_takes, takes_then}
 
 -- it takes the text of each item that fits, where at least `after` bytes come after, and nothing else; whether an item fits may depend on the bytes after it
 pub record Spells {F A I : Type 0} (g : Grammar F A) (after : ℕ) (text : I → List ℕ) (Fits : I → List ℕ → Type 0) (held : I → A) : Type 0 where

@@ -9,8 +9,8 @@ use Rattle.pv_class.specs.declared.class.TheConstants.{LONGEST_FILE}
 use Rattle.pv_class.specs.declared.file.ClassFile.{ClassFile}
 use Rattle.pv_format.specs.Grammars.{Takes}
 use Rattle.pv_class.specs.ClassGrammar.{head, tail}
-use Rattle.pv_class.specs.ClassFiles.{Describes, IsClass}
-use Rattle.pv_class.proofs.ClassTexts.{head_text, IsVersion, head_spells, tail_text, IsTail, tail_spells}
+use Rattle.pv_class.specs.ClassFiles.{IsClass}
+use Rattle.pv_class.proofs.ClassTexts.{head_text, head_spells, tail_text, IsTail, tail_spells}
 
 -- the head, the pool and what stands after it are taken
 pub record TakesAll (bytes : List ℕ) (file : ClassFile) : Type 0 where
@@ -30,12 +30,10 @@ takes_class bytes file c =
     let d = c.describes in
     let rest = i.pool_text ++ tail_text i in
     let pool : IsPoolAt bytes 8 file.pool (8 + length i.pool_text) = record { text = i.pool_text; rest = tail_text i; stands = ap (λ (u : List ℕ). drop 8 u) c.spelled; is = d.pool; ends = refl } in
-    let version : IsVersion (i.minor, i.major) = assumption in
-    let is : IsTail file.pool i file.methods = assumption in
-    let read : Takes (tail file.pool) (tail_text i ++ []) file.methods [] = (tail_spells file.pool).again (i, file.methods) [] (is, refl) (omega arith) in
+    let read : Takes (tail file.pool) (tail_text i ++ []) file.methods [] = (tail_spells file.pool).again (i, file.methods) [] (assumption (d, refl)) (omega arith) in
     record {
       rest = rest;
-      head_is = rw c.spelled (head_spells.again (i.minor, i.major) rest version (omega arith));
+      head_is = rw c.spelled (head_spells.again (i.minor, i.major) rest (assumption d) (omega arith));
       after = 8 + length i.pool_text;
       pool_is = pool;
       tail_is = rw (after_pool bytes 8 file.pool (8 + length i.pool_text) pool, ← append-nil (tail_text i)) read;
@@ -52,5 +50,4 @@ class_taken bytes file fits small t =
     let is : IsTail file.pool q.0.0 file.methods = subst (IsTail file.pool q.0.0) (sym q.2) q.3.0 in
     let items = record q.0.0 { minor = p.0.0; major = p.0.1; pool_text = pool.text } in
     let later : t.rest ≡ pool.text ++ tail_text items = stands ∙ ap (λ (u : List ℕ). pool.text ++ u) (q.1 ∙ append-nil (tail_text items)) in
-    let described : Describes items file = assumption (is, p.3) in
-    record { items = items; spelled = p.1 ∙ ap (λ (u : List ℕ). head_text p.0 ++ u) later; small = small; describes = described }
+    record { items = items; spelled = p.1 ∙ ap (λ (u : List ℕ). head_text p.0 ++ u) later; small = small; describes = assumption (is, p.3) }

@@ -39,8 +39,8 @@ IsIndex kind i = IsU2 i × (kind i).Holds
 pub index_spells : (room : Room) (kind : ℕ → Test) → Spells (index room kind) room.after u2 (λ i _. IsIndex kind i) (λ i. i)
 unfolding index
 index_spells room kind = seen (here_spells (λ left. last_spells (u2_spells room) (λ i. check_spells (kind i) (failure cause.Reference left) (give_spells i))))
-    (λ i rest s. (i, refl, refl, (s.0, s.1.0)))
-    (λ i rest s. (i, refl, refl, (s.0, (s.1, tt))))
+    (λ i rest (fits, is). (i, refl, refl, (fits, is.0)))
+    (λ i rest (fits, is). (i, refl, refl, (fits, (is, tt))))
 
 abbrev pub contents_text : List ℕ → List ℕ
 contents_text c = u4 (length c) ++ c
@@ -58,8 +58,8 @@ Named pool a = HasText pool a.name
 pub skipped_spells : (room : Room) (pool : List Entry) → Spells (skipped room pool) room.after attribute_text (λ a _. FitsAttribute a × Named pool a) (λ _. tt)
 unfolding skipped
 skipped_spells room pool = seen (then_spells (index_spells room (utf8 pool)) (λ _. contents_spells room))
-    (λ (name, c) rest s. (record { name = name; contents = c }, refl, refl, (record { name = s.0.0; contents = s.1 }, s.0.1)))
-    (λ a rest s. ((a.name, a.contents), refl, refl, ((s.0.name, s.1), s.0.contents)))
+    (λ (name, c) rest ((fits, named), few). (record { name = name; contents = c }, refl, refl, (record { name = fits; contents = few }, named)))
+    (λ a rest (fits, named). ((a.name, a.contents), refl, refl, ((fits.name, named), fits.contents)))
 
 pub attributes_spells : (room : Room) (pool : List Entry) → Spells (grammar.table room (skipped room pool)) room.after (table attribute_text) (λ attrs _. IsTable FitsAttribute attrs × AllByRecursion (Named pool) attrs) length
 attributes_spells room pool = tables_spells room FitsAttribute (Named pool) (skipped_spells room pool)

@@ -32,13 +32,10 @@ method_spells : (pool : List Entry) (before : List Signature) → Spells (method
 unfolding method
 method_spells pool before = seen (here_spells (λ left. then_spells (member_spells kind.Method pool) (λ m. check_spells (new before (signature_of pool m)) (failure cause.Duplicate left)
     (counted_spells 0 (short in_file) w16 wide16 (λ p. length p.0) (λ n p rest q. q.0) (λ n. made_spells (λ code. method_of pool m code) (method_attributes_spells pool n))))))
-    (λ (m, (attrs, code)) rest s.
-    let f = s.0 in
-    let a = s.1.1.1.1 in
-    let all = info m attrs in
-    let fits : FitsMemberInfo all = record { flags = f.flags; name = f.name.0; desc = f.desc.0; attributes = (s.1.1.0, a.0) } in
-    let is : IsMethod pool all (method_of pool m code) = record { flags = refl; name = text_found pool m.name f.name.1; desc = text_found pool m.desc f.desc.1; typed = f.typed; attributes = a.1; code = a.2 } in
-    ((all, method_of pool m code), simp append_assoc, refl, (fits, is, s.1.0)))
+    (λ (m, (attrs, code)) rest (f, (is_new, (few, (_, (fit, named, among))))).
+    let fits : FitsMemberInfo (info m attrs) = record { flags = f.flags; name = f.name.0; desc = f.desc.0; attributes = (few, fit) } in
+    let is : IsMethod pool (info m attrs) (method_of pool m code) = record { flags = refl; name = text_found pool m.name f.name.1; desc = text_found pool m.desc f.desc.1; typed = f.typed; attributes = named; code = among } in
+    ((info m attrs, method_of pool m code), simp append_assoc, refl, (fits, is, is_new)))
     (λ (m, y) rest (fits, is, is_new).
     let same : y ≡ method_of pool (front_of m) y.code = method_is pool m y is in
     let new_too : Contains before (signature_of pool (front_of m)) → ⊥ = λ there. is_new (rw (ap signature same) there) in
@@ -73,5 +70,5 @@ unfolding all_methods methods
 all_methods_spells pool =
     let methods_spells = along_spells (methods pool) member_text push (λ so_far. IsNew pool (signatures so_far)) (λ _. refl) (λ n s. refl) (λ so_far. method_spells pool (signatures so_far)) in
     seen (counted_spells 0 (short in_file) w16 wide16 (λ p. length p.0) (λ n p rest q. q.0) (λ n. methods_spells n []))
-    (λ (ms, all) rest s. let o = new_are pool [] ms all (λ i j m n ei ej names descs. absurd cc) s.1.1 in ((ms, all), refl, refl, ((s.0, o.2), rw o.1 o.3, o.4)))
-    (λ (ms, all) rest s. ((ms, all), refl, refl, (s.0.0, (refl, are_new pool [] ms all s.2 s.0.1 s.1))))
+    (λ (ms, all) rest (few, (_, new)). let o = new_are pool [] ms all (λ i j m n ei ej names descs. absurd cc) new in ((ms, all), refl, refl, ((few, o.2), rw o.1 o.3, o.4)))
+    (λ (ms, all) rest ((few, fit), are, distinct). ((ms, all), refl, refl, (few, (refl, are_new pool [] ms all distinct fit are))))

@@ -12,7 +12,7 @@ use Rattle.pv_format.specs.Grammars.{holds}
 use Rattle.pv_class.specs.Checks.{utf8}
 use Rattle.pv_class.specs.Grammars.{failure}
 use Rattle.pv_class.specs.ClassGrammar.{in_file, or_nothing, text_at, is_code, attribute_named, attribute, attributes}
-use Rattle.pv_class.specs.Items.{Attribute, attribute_text, FitsAttribute, CodeItems}
+use Rattle.pv_class.specs.Items.{Attribute, attribute_text, FitsAttribute, CodeItems, code_text}
 use Rattle.pv_class.specs.ClassFiles.{code_word, IsCodeAttribute, HoldsCode, CodeAmong, code_of}
 use Rattle.pv_class.proofs.Takings.{IsU4, both_of, of_both}
 use Rattle.pv_class.proofs.ItemTexts.{contents_text, contents_spells, index_spells, Named, text_read}
@@ -21,7 +21,7 @@ use Rattle.pv_class.proofs.CodeTexts.{code_spells}
 -- ---- an attribute
 
 -- after an attribute with these contents, which is a Code or not, the method has this code
-abbrev pub Keeps : Type 0 → List Entry → Option Code → List ℕ → Option Code → Type 0
+abbrev Keeps : Type 0 → List Entry → Option Code → List ℕ → Option Code → Type 0
 Keeps IsIt pool so_far contents now = (IsIt × (so_far ≡ None) × (c : Code) × (items : CodeItems) × HoldsCode pool contents items c × (now ≡ Some c)) ⊎ ((¬ IsIt) × (now ≡ so_far))
 
 none_said : (o : Option Code) → is_none o ≡ true → o ≡ None
@@ -31,16 +31,16 @@ none_said (Some c) e = absurd cc
 named_spells : {IsIt : Type 0} (pool : List Entry) (so_far : Option Code) (start : ℕ) (b : Bool) → Decides b IsIt
     → Spells (attribute_named pool so_far start b) 0 (λ (p : List ℕ × Option Code). contents_text p.0) (λ p _. IsU4 (length p.0) × Keeps IsIt pool so_far p.0 p.1) (λ p. p.1)
 named_spells pool so_far start true is = seen (check_spells (holds (is_none so_far)) (failure cause.Code start) (made_spells (λ c. Some c) (code_spells pool start)))
-    (λ items rest s. ((_, Some (code_of items)), refl, refl, (s.1.1, inl (is.0 refl, none_said so_far s.0, code_of items, items, record { spelled = refl; fits = s.1.0.0; names = s.1.0.1; held = refl }, refl))))
-    (λ (contents, now) rest s. elim s.1 [
-      | inl k ↦ let h = k.4 in (k.3, ap contents_text h.spelled, k.5 ∙ ap (λ (c : Code). Some c) h.held, (ap is_none k.1, ((h.fits, h.names), subst (λ (u : List ℕ). IsU4 (length u)) h.spelled s.0)))
-      | inr k ↦ absurd (k.0 (is.0 refl))
+    (λ items rest (none, ((fits, named), few)). ((code_text items, Some (code_of items)), refl, refl, (few, inl (is.0 refl, none_said so_far none, code_of items, items, record { spelled = refl; fits = fits; names = named; held = refl }, refl))))
+    (λ (contents, now) rest (few, keeps). elim keeps [
+      | inl (it, none, c, items, h, some) ↦ (items, ap contents_text h.spelled, some ∙ ap (λ (c : Code). Some c) h.held, (ap is_none none, ((h.fits, h.names), subst (λ (u : List ℕ). IsU4 (length u)) h.spelled few)))
+      | inr (other, same) ↦ absurd (other (is.0 refl))
     ])
 named_spells pool so_far start false is = seen (made_spells (λ _. so_far) (contents_spells in_file))
-    (λ contents rest s. ((contents, so_far), refl, refl, (s, inr (λ p. true≢false (sym (is.1 p)), refl))))
-    (λ (contents, now) rest s. elim s.1 [
-      | inl k ↦ absurd (true≢false (sym (is.1 k.0)))
-      | inr k ↦ (contents, refl, k.1, s.0)
+    (λ contents rest few. ((contents, so_far), refl, refl, (few, inr (λ it. true≢false (sym (is.1 it)), refl))))
+    (λ (contents, now) rest (few, keeps). elim keeps [
+      | inl (it, none, c, items, h, some) ↦ absurd (true≢false (sym (is.1 it)))
+      | inr (other, same) ↦ (contents, refl, same, few)
     ])
 
 named_code : (o : Option (List ℕ)) → or_nothing o ≡ code_word → o ≡ Some code_word
@@ -61,8 +61,8 @@ Reads pool so_far a now = IsAttribute pool a × Keeps (IsCodeAttribute pool a) p
 attribute_spells : (pool : List Entry) (so_far : Option Code) → Spells (attribute pool so_far) 0 (λ (p : Attribute × Option Code). attribute_text p.0) (λ p _. Reads pool so_far p.0 p.1) (λ p. p.1)
 unfolding attribute
 attribute_spells pool so_far = seen (here_spells (λ start. then_spells (index_spells in_file (utf8 pool)) (λ name. named_spells pool so_far start (is_code pool name) (code_decides pool name))))
-    (λ (name, (contents, now)) rest s. ((record { name = name; contents = contents }, now), refl, refl, ((record { name = s.0.0; contents = s.1.0 }, s.0.1), s.1.1)))
-    (λ (a, now) rest s. ((a.name, (a.contents, now)), refl, refl, ((s.0.0.name, s.0.1), (s.0.0.contents, s.1))))
+    (λ (name, (contents, now)) rest ((fits, named), (few, keeps)). ((record { name = name; contents = contents }, now), refl, refl, ((record { name = fits; contents = few }, named), keeps)))
+    (λ (a, now) rest ((fits, named), keeps). ((a.name, (a.contents, now)), refl, refl, ((fits.name, named), (fits.contents, keeps))))
 
 -- ---- attributes
 
@@ -82,8 +82,8 @@ others_read pool so_far (a ∷ attrs) are none = (so_far, (are.0, inr (none.0, r
 
 after_code : (pool : List Entry) (c : Code) (attrs : List Attribute) (last : Option Code) → AllRead pool (Some c) attrs last → Are pool attrs × NoCode pool attrs × (last ≡ Some c)
 after_code pool c [] last h = (tt, tt, h)
-after_code pool c (a ∷ attrs) last (now, (is, inl k), more) = let e = k.1 in absurd cc
-after_code pool c (a ∷ attrs) last (now, (is, inr k), more) = let o = after_code pool c attrs last (rw k.1 at more) in ((is, o.0), (k.0, o.1), o.2)
+after_code pool c (a ∷ attrs) last (now, (is, inl (named, none, d, items, holds, some)), more) = absurd cc
+after_code pool c (a ∷ attrs) last (now, (is, inr (other, same)), more) = let o = after_code pool c attrs last (rw same at more) in ((is, o.0), (other, o.1), o.2)
 
 later_code : (pool : List Entry) (a : Attribute) (attrs : List Attribute) (last : Option Code) → ¬ IsCodeAttribute pool a → CodeAmong pool attrs last → CodeAmong pool (a ∷ attrs) last
 later_code pool a attrs None other h = (other, h)
@@ -92,10 +92,10 @@ later_code pool a attrs (Some c) other h =
 
 code_among : (pool : List Entry) (attrs : List Attribute) (last : Option Code) → AllRead pool None attrs last → Are pool attrs × CodeAmong pool attrs last
 code_among pool [] last h = (tt, rw h tt)
-code_among pool (a ∷ attrs) last (now, (is, inl k), more) =
-    let o = after_code pool k.2 attrs last (rw k.5 at more) in
-    ((is, o.0), rw o.2 (record { before = []; attribute = a; after = attrs; items = k.3; among = refl; named = k.0; others = o.1; holds = k.4 }))
-code_among pool (a ∷ attrs) last (now, (is, inr k), more) = let o = code_among pool attrs last (rw k.1 at more) in ((is, o.0), later_code pool a attrs last k.0 o.1)
+code_among pool (a ∷ attrs) last (now, (is, inl (named, none, c, items, holds, some)), more) =
+    let o = after_code pool c attrs last (rw some at more) in
+    ((is, o.0), rw o.2 (record { before = []; attribute = a; after = attrs; items = items; among = refl; named = named; others = o.1; holds = holds }))
+code_among pool (a ∷ attrs) last (now, (is, inr (other, same)), more) = let o = code_among pool attrs last (rw same at more) in ((is, o.0), later_code pool a attrs last other o.1)
 
 one_read : (pool : List Entry) (c : Code) (before : List Attribute) (a : Attribute) (after : List Attribute) (items : CodeItems)
     → Are pool (before ++ a ∷ after) → IsCodeAttribute pool a → NoCode pool (before ++ after) → HoldsCode pool a.contents items c → AllRead pool None (before ++ a ∷ after) (Some c)
@@ -110,8 +110,8 @@ pub method_attributes_spells : (pool : List Entry) (n : ℕ) → Spells (attribu
     (λ p _. (length p.0 ≡ n) × (AllByRecursion FitsAttribute p.0 × AllByRecursion (Named pool) p.0 × CodeAmong pool p.0 p.1)) (λ p. p.1)
 unfolding attributes
 method_attributes_spells pool n = seen (along_spells (attributes pool) attribute_text (λ _ now. now) (Reads pool) (λ _. refl) (λ n s. refl) (attribute_spells pool) n None)
-    (λ (attrs, c) rest s.
-    let o = code_among pool attrs c s.1 in
+    (λ (attrs, c) rest (few, read).
+    let o = code_among pool attrs c read in
     let both = both_of FitsAttribute (Named pool) attrs o.0 in
-    ((attrs, c), refl, refl, (s.0, (both.0, both.1, o.1))))
-    (λ (attrs, c) rest s. ((attrs, c), refl, refl, (s.0, among_read pool attrs c (of_both FitsAttribute (Named pool) attrs s.1.0 s.1.1) s.1.2)))
+    ((attrs, c), refl, refl, (few, (both.0, both.1, o.1))))
+    (λ (attrs, c) rest (few, (fit, named, among)). ((attrs, c), refl, refl, (few, among_read pool attrs c (of_both FitsAttribute (Named pool) attrs fit named) among)))

@@ -37,5 +37,5 @@ of_both F H (x ∷ xs) f h = ((f.0, h.0), of_both F H xs f.1 h.1)
 -- a table of items, which fit and of which more holds
 pub tables_spells : {I : Type 0} {g : Grammar (Unit {0})} {text : I → List ℕ} (room : Room) (F H : I → Type 0) → Spells g room.after text (λ i _. F i × H i) (λ _. tt) → Spells (table room g) room.after (items.table text) (λ is _. items.IsTable F is × AllByRecursion H is) length
 tables_spells room F H f = seen (table_spells {P = λ i. F i × H i} room.after (short room) w16 wide16 f)
-    (λ is rest s. let o = both_of F H is s.1 in (is, refl, refl, ((s.0, o.0), o.1)))
-    (λ is rest s. (is, refl, refl, (s.0.0, of_both F H is s.0.1 s.1)))
+    (λ is rest (few, are). let o = both_of F H is are in (is, refl, refl, ((few, o.0), o.1)))
+    (λ is rest ((few, fit), more). (is, refl, refl, (few, of_both F H is fit more)))

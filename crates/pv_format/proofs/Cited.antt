@@ -13,3 +13,5 @@ pub use Rattle.pv_format.proofs.GrammarStops.{stops_first, stops_then, then_stop
 pub use Rattle.pv_format.proofs.MoreTexts.{Made, made_texts, Either, either_texts, Kept, many_texts}
 pub use Rattle.pv_format.proofs.FreeGrammars.{IsBytes-append, Completed, complete, cut_stops, bind_free, many_free, either_free}
 pub use Rattle.pv_format.proofs.ManyReads.{ReadsOn, many_begins, many_more, many_fails, many_ends, ok_some, ok_none}
+unfoldable pub use Rattle.pv_format.proofs.GrammarItems.{IsPlain, TakesItems}
+pub use Rattle.pv_format.proofs.GrammarItems.{all_of, takes_items, items_take, items_cut, CutItem, stops_cut}

@@ -9,3 +9,4 @@ pub mod GrammarStops
 pub mod ManyReads
 pub mod MoreTexts
 pub mod FreeGrammars
+pub mod GrammarItems

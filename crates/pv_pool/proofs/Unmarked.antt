@@ -1,8 +1,7 @@
 -- No Utf8 text has the byte 0xFF, so that no member that a pool names has a receiver symbol.
-use Rattle.std.proofs.Common.{◌≡◌, ◌≢◌, ℕ, ◌<◌, List, [], ◌∷◌, ◌++◌, Option, Some, None, refl, sym, ap, subst, ◌∙◌, arith}
+use Rattle.std.proofs.Common.{◌≡◌, ◌≢◌, ℕ, ◌<◌, List, [], ◌∷◌, Option, Some, None, refl, sym, ap, subst, arith}
 use Rattle.std.specs.List.{flat_map, AllByRecursion}
 use Rattle.std.proofs.lemmas.List.Concat.{flat_map-cons}
-use Rattle.std.proofs.lemmas.List.Elements.{filter_map-append}
 use Rattle.pv_value.specs.declared.receiver.TheConstants.{MARK}
 use Rattle.pv_value.proofs.Cited.{receivers_apart}
 use Rattle.pv_format.proofs.Cited.{all-append}
@@ -11,11 +10,10 @@ use Rattle.pv_pool.specs.declared.entry.Entry.TheVariants.{Utf8}
 use Rattle.pv_pool.specs.declared.constant.Member.{Member}
 use Rattle.pv_pool.specs.Texts.{IsGroup, IsText}
 use Rattle.pv_pool.specs.Entries.{tag_of, IsEntry}
-use Rattle.pv_pool.specs.Pools.{cells, indices, entry_under}
-use Rattle.pv_pool.specs.Slots.{entries_of}
+use Rattle.pv_pool.specs.Pools.{indices, entry_under}
 use Rattle.pv_pool.specs.Readers.{◌>>=◌, text_of, name_and_type_of, parts_of, text_under, class_name_under, named_under, member_under}
 use Rattle.pv_pool.specs.Laws.{NamesApart}
-use Rattle.pv_pool.proofs.Layouts.{entries_of-cells}
+use Rattle.pv_pool.proofs.Layouts.{entries_again}
 use Rattle.pv_pool.proofs.Members.{in_slots}
 
 -- ---- texts
@@ -42,12 +40,6 @@ in_text : (text : List ℕ) → IsText text → IsUnmarked text
 in_text text h = subst IsUnmarked (sym h.spelled) (in_groups h.groups h.each)
 
 -- ---- entries
-
-entries_again : (pool : List Entry) → entries_of (flat_map cells pool) ≡ pool
-entries_again [] = refl
-entries_again (e ∷ pool) =
-    ap entries_of (flat_map-cons cells e pool) ∙ filter_map-append (λ slot. slot) (cells e) (flat_map cells pool) ∙ ap (λ (u : List Entry). u ++ entries_of (flat_map cells pool)) (entries_of-cells e)
-    ∙ ap (λ (u : List Entry). e ∷ u) (entries_again pool)
 
 -- what holds of each entry of a pool holds of the one under an index
 in_pool : (P : Entry → Type 0) (pool : List Entry) (i : ℕ) (e : Entry) → AllByRecursion P pool → entry_under pool i ≡ Some e → P e

@@ -13,3 +13,5 @@ pub use Rattle.pv_format.proofs.MoreTexts.{Made, made_texts, Either, either_text
 pub use Rattle.pv_format.proofs.Spellings.{Spells, seen, number_spells, run_spells, give_spells, check_spells, here_spells, then_spells, last_spells, made_spells, counted_spells, table_spells, Along, along_spells}
 pub use Rattle.pv_format.proofs.FreeGrammars.{IsBytes-append, Completed, complete, cut_stops, bind_free, many_free, either_free}
 pub use Rattle.pv_format.proofs.ManyReads.{ReadsOn, many_begins, many_more, many_fails, many_ends, ok_some, ok_none}
+unfoldable pub use Rattle.pv_format.proofs.GrammarItems.{IsPlain, TakesItems}
+pub use Rattle.pv_format.proofs.GrammarItems.{all_of, takes_items, items_take, items_cut, CutItem, stops_cut}

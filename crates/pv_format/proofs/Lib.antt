@@ -9,3 +9,4 @@ pub mod ManyReads
 pub mod MoreTexts
 pub mod Spellings
 pub mod FreeGrammars
+pub mod GrammarItems

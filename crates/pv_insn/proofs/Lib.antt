@@ -3,10 +3,9 @@ pub mod Numbers
 pub mod Switches
 pub mod Operands
 pub mod Nexts
+pub mod Each
 pub mod Walks
-pub mod Zips
-pub mod Linking
-pub mod Placing
+pub mod Places
 pub mod Resolving
 pub mod Answering
 pub mod Computed

@@ -4,21 +4,17 @@ use Rattle.std.specs.List.{AllZip, AllByRecursion}
 use Rattle.std.specs.Result.{result_ok}
 use Rattle.std.proofs.lemmas.List.{append-nil, at_drop_more, at_drop_all}
 use Rattle.pv_format.proofs.Cited.{ok_some}
-use Rattle.pv_insn.specs.Targets.{before, each}
+use Rattle.pv_insn.specs.Targets.{with_front, before, each}
 
 -- ---- as a loop finds it
 
-abbrev pub with_front : {A B : Type 0} → List B → Result (List B) A → Result (List B) A
-with_front front (Ok ys) = Ok (front ++ ys)
-with_front front (Err astray) = Err astray
+pub regroup : {A E : Type 0} (front more : List A) (others : Result (List A) E) → with_front front (with_front more others) ≡ with_front (front ++ more) others
+regroup front more (Ok others) = ap Ok (sym (append_assoc front more others))
+regroup front more (Err e) = refl
 
-regroup : {A B : Type 0} (front : List B) (x : A) (y : B) (others : Result (List B) A) → with_front (front ++ y ∷ []) others ≡ with_front front (before x (Some y) others)
-regroup front x y (Ok ys) = ap Ok (append_assoc front (y ∷ []) ys)
-regroup front x y (Err astray) = refl
-
-pub none_before : {A B : Type 0} (others : Result (List B) A) → with_front [] others ≡ others
-none_before (Ok ys) = refl
-none_before (Err astray) = refl
+pub none_before : {A E : Type 0} (others : Result (List A) E) → with_front [] others ≡ others
+none_before (Ok others) = refl
+none_before (Err e) = refl
 
 -- what the elements so far gave, and what those that are left give, is all
 abbrev pub EachSoFar : {A B : Type 0} → (A → Option B) → List A → ℕ → List B → Type 0
@@ -26,7 +22,7 @@ EachSoFar f xs i front = with_front front (each f (drop i xs)) ≡ each f xs
 
 pub each_on : {A B : Type 0} (f : A → Option B) (xs : List A) (i : ℕ) (front : List B) (d : A) (y : B) → i < length xs → f (get_or xs i d) ≡ Some y → EachSoFar f xs i front → EachSoFar f xs (i + 1) (front ++ y ∷ [])
 unfolding each
-each_on f xs i front d y lt gives s = regroup front (get_or xs i d) y (each f (drop (i + 1) xs)) ∙ rw (← gives) (ap (with_front front) (sym (at_drop_more (each f) xs i d lt))) ∙ s
+each_on f xs i front d y lt gives s = sym (regroup front (y ∷ []) (each f (drop (i + 1) xs))) ∙ ap (λ o. with_front front (before (get_or xs i d) o (each f (drop (i + 1) xs)))) (sym gives) ∙ ap (with_front front) (sym (at_drop_more (each f) xs i d lt)) ∙ s
 
 pub each_ends : {A B : Type 0} (f : A → Option B) (xs : List A) (i : ℕ) (front : List B) (d : A) → i < length xs → f (get_or xs i d) ≡ None → EachSoFar f xs i front → each f xs ≡ Err (get_or xs i d)
 unfolding each

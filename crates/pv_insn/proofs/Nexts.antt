@@ -18,14 +18,14 @@ use Rattle.pv_insn.specs.Codes.{Ascends, IsOrdered}
 use Rattle.pv_insn.specs.Faults.{Begins, IsCut}
 use Rattle.pv_insn.specs.Reading.{answer, piece}
 use Rattle.pv_insn.specs.Stops.{ascends_after, is_ordered, in_order, next, BeginsWhole, StopsAt}
-use Rattle.pv_insn.proofs.Switches.{less, is_less}
+use Rattle.pv_insn.proofs.Switches.{less}
 use Rattle.pv_insn.proofs.Operands.{piece_texts, piece_free}
 
 -- ---- ascending keys
 
 ascending : (c : RawCase) (cases : List RawCase) → Decides (ascends_after (Some c.key) cases) (Ascends (c ∷ cases))
 ascending c [] = (λ e. tt, λ h. refl)
-ascending c (d ∷ cases) = Decides-and (int_lt c.key d.key) (ascends_after (Some d.key) cases) (less c.key d.key, is_less c.key d.key) (ascending d cases)
+ascending c (d ∷ cases) = Decides-and (int_lt c.key d.key) (ascends_after (Some d.key) cases) (less c.key d.key) (ascending d cases)
 
 ordered : (r : Raw) → Decides (is_ordered r) (IsOrdered r)
 ordered (raw.Lookup default []) = (λ e. tt, λ h. refl)

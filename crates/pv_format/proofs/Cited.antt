@@ -10,6 +10,6 @@ pub use Rattle.pv_format.proofs.GrammarReadings.{read_takes, takes_read, read_st
 pub use Rattle.pv_format.proofs.Bytes.{IsBytes, IsBytes-left, IsBytes-right, bytes_after, Then, Done, Number, Run, IsWide, wide8, wide16, wide32, wide64}
 pub use Rattle.pv_format.proofs.GrammarTexts.{then_takes, takes_then, IsTexts, same_texts, then_texts, check_texts, here_texts, give_texts, number_texts, run_texts, Follow, follow_texts, with_number, with_run, itself, HasLength, joined, ended, One, Many, times_texts, Table, table_texts}
 pub use Rattle.pv_format.proofs.GrammarStops.{stops_first, stops_then, then_stops}
-pub use Rattle.pv_format.proofs.MoreTexts.{Made, made_texts, Either, either_texts, Kept, many_texts}
+pub use Rattle.pv_format.proofs.MoreTexts.{Made, made_texts}
 pub use Rattle.pv_format.proofs.FreeGrammars.{IsBytes-append, Completed, complete, cut_stops, bind_free, many_free, either_free}
-pub use Rattle.pv_format.proofs.ManyReads.{ReadsOn, many_begins, many_more, many_fails, many_ends, ok_some, ok_none}
+pub use Rattle.pv_format.proofs.Results.{ok_some, ok_none}

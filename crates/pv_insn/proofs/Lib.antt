@@ -1,4 +1,4 @@
-pub mod SwitchReads
+pub mod Items
 pub mod Numbers
 pub mod Switches
 pub mod Operands

@@ -12,4 +12,4 @@ pub use Rattle.pv_format.proofs.GrammarTexts.{then_takes, takes_then, IsTexts, s
 pub use Rattle.pv_format.proofs.GrammarStops.{stops_first, stops_then, then_stops}
 pub use Rattle.pv_format.proofs.MoreTexts.{Made, made_texts}
 pub use Rattle.pv_format.proofs.FreeGrammars.{IsBytes-append, Completed, complete, cut_stops, bind_free, many_free, either_free}
-pub use Rattle.pv_format.proofs.Results.{ok_some, ok_none}
+pub use Rattle.pv_format.proofs.ManyReads.{ItemsSoFar, items_begin, items_more, items_cut, items_end, ok_some, ok_none}

@@ -6,6 +6,6 @@ pub mod GrammarReadings
 pub mod Bytes
 pub mod GrammarTexts
 pub mod GrammarStops
-pub mod Results
+pub mod ManyReads
 pub mod MoreTexts
 pub mod FreeGrammars

@@ -1,6 +1,6 @@
 use Rattle.std.proofs.Common.{sym, ap}
 use Rattle.pv_insn.specs.Reading.{listed}
-use Rattle.pv_insn.proofs.Items.{items_begin, items_more, items_cut, items_end}
+use Rattle.pv_format.proofs.Cited.{items_begin, items_more, items_cut, items_end}
 use Rattle.pv_insn.proofs.reading.items_at.Goals as goal
 
 pub loop-init : goal.loop-init

@@ -1,4 +1,4 @@
-use Rattle.pv_insn.proofs.Items.{ItemsSoFar}
+use Rattle.pv_format.proofs.Cited.{ItemsSoFar}
 use Rattle.pv_insn.proofs.reading.items_at.Given as goal
 
 abbrev pub invariant-loop : goal.invariant-loop

@@ -8,10 +8,6 @@ pub mod Walks
 pub mod Places
 pub mod Resolving
 pub mod Answering
-pub mod Computed
 pub mod Examples
-pub mod Sizes
-pub mod Within
-pub mod Formed
-pub mod SmallCodes
+pub mod Laws
 pub mod Cited

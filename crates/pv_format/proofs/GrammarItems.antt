@@ -43,20 +43,20 @@ items_take short g ts x rest plain h = absurd h
 
 -- ---- where it is cut
 
-pub items_cut : {F A : Type 0} (short : ℕ → F) (g : Grammar F A) (before : List (List ℕ)) (next : List ℕ) (after : List (List ℕ)) (x : A) (rest : List ℕ) → IsPlain short g → TakesItems g (before ++ next ∷ after) x → length rest < length next
+pub items_stop : {F A : Type 0} (short : ℕ → F) (g : Grammar F A) (before : List (List ℕ)) (next : List ℕ) (after : List (List ℕ)) (x : A) (rest : List ℕ) → IsPlain short g → TakesItems g (before ++ next ∷ after) x → length rest < length next
     → Stops g (all_of before ++ rest) (short (length rest))
 unfolding IsPlain Stops TakesItems
-items_cut short (give y) [] next after x rest plain (none, is) lt = absurd (cc)
-items_cut short (give y) (b ∷ before) next after x rest plain (none, is) lt = absurd (cc)
-items_cut {F = F} short (item size later s f) [] next after x rest plain (t, others, parts, long, h) lt =
+items_stop short (give y) [] next after x rest plain (none, is) lt = absurd (cc)
+items_stop short (give y) (b ∷ before) next after x rest plain (none, is) lt = absurd (cc)
+items_stop {F = F} short (item size later s f) [] next after x rest plain (t, others, parts, long, h) lt =
     let same : next ≡ t = cc in
     inl (omega (arith, long, ap length same, lt), ap (λ (u : ℕ → F). u (length rest)) (sym plain.1))
-items_cut short (item size later s f) (b ∷ before) next after x rest plain (t, others, parts, long, h) lt =
+items_stop short (item size later s f) (b ∷ before) next after x rest plain (t, others, parts, long, h) lt =
     let same : t ≡ b = cc in
     let more : others ≡ before ++ next ∷ after = cc in
     let taken = subst (λ (u : List ℕ). TakesItems (f u) (before ++ next ∷ after) x) same (subst (λ (us : List (List ℕ)). TakesItems (f t) us x) more h) in
-    inr (b, all_of before ++ rest, append_assoc b (all_of before) rest, ap length (sym same) ∙ long, omega (arith, plain.0), items_cut short (f b) before next after x rest (plain.2 b) taken lt)
-items_cut short g before next after x rest plain h lt = absurd h
+    inr (b, all_of before ++ rest, append_assoc b (all_of before) rest, ap length (sym same) ∙ long, omega (arith, plain.0), items_stop short (f b) before next after x rest (plain.2 b) taken lt)
+items_stop short g before next after x rest plain h lt = absurd h
 
 -- some items, and then fewer bytes than the next item has
 abbrev pub CutItem : {F A : Type 0} → (ℕ → F) → Grammar F A → List ℕ → F → Type 0

@@ -6,11 +6,14 @@ use Rattle.pv_format.specs.Grammars.{give, bind}
 use Rattle.pv_format.specs.GrammarReading.{read}
 use Rattle.pv_format.specs.FreeGrammars.{either, many, then_all, take_all}
 use Rattle.pv_format.proofs.Cited.{read_then, read_fails, read_give, ok_some, ok_none}
-use Rattle.pv_insn.specs.declared.fault.Stop.{Stop}
-use Rattle.pv_insn.specs.declared.fault.Stop.TheVariants as stop
+use Rattle.pv_format.specs.declared.stopped.Stopped.{Stopped}
+use Rattle.pv_format.specs.declared.stopped.Stopped.TheVariants.{Failed, Memory}
+use Rattle.pv_format.specs.Stopping.{Fails}
+use Rattle.pv_insn.specs.declared.fault.Failure.{Failure}
+use Rattle.pv_insn.specs.declared.fault.Failure.TheVariants as failure
 use Rattle.pv_insn.specs.declared.raw.Raw.{Raw}
 use Rattle.pv_insn.specs.Pieces.{Piece, instruction, ill}
-use Rattle.pv_insn.specs.Reading.{Reads, answer, Fails, listed}
+use Rattle.pv_insn.specs.Reading.{Reads, answer, listed}
 
 made : {A B : Type 0} (g : Reads A) (make : A → B) (bytes : List ℕ) (o : Option (A × List ℕ)) → result_ok (read g bytes) ≡ o → result_ok (read (bind g (λ x. give (make x))) bytes) ≡ option_map (λ x. (make x.0, x.1)) o
 made g make bytes (Some (x, rest)) e = ap result_ok (read_then g (λ y. give (make y)) bytes x rest (ok_some (read g bytes) (x, rest) e) ∙ read_give (make x) rest)
@@ -26,20 +29,20 @@ take_many {A = A} g (suc n) bytes = go (read g bytes) refl (take_many g n) where
 
 -- ---- a switch after its numbers
 
-abbrev pub switched : {A : Type 0} → (A → Raw) → Result (A × List ℕ) Stop → Result (Raw × List ℕ) Stop
+abbrev pub switched : {A : Type 0} → (A → Raw) → Result (A × List ℕ) Failure → Result (Raw × List ℕ) Failure
 switched make (Ok (x, rest)) = Ok (make x, rest)
 switched make (Err e) = Err e
 
-pub switch_fails : {A : Type 0} (make : A → Raw) (e : Stop) (x : Result (A × List ℕ) Stop) (y : Result (Raw × List ℕ) Stop) → y ≡ switched make x → Fails e x → Fails e y
-switch_fails make stop.Memory x y is h = tt
-switch_fails make e x y is h = is ∙ ap (switched make) h
+pub switch_fails : {A : Type 0} (make : A → Raw) (e : Stopped Failure) (x : Result (A × List ℕ) Failure) (y : Result (Raw × List ℕ) Failure) → y ≡ switched make x → Fails e x → Fails e y
+switch_fails make Memory x y is h = tt
+switch_fails make (Failed e) x y is h = is ∙ ap (switched make) h
 
 module _ {A : Type 0} (g : Reads A) (n : ℕ) (make : List A → Raw) (b : Bool) (bytes : List ℕ) where
   abbrev switch : Reads Piece
   switch = either b (give ill) (bind (many n g) (λ xs. give (instruction (make xs))))
 
   -- a test that fails a switch, or a list and what is made of it
-  pub switch_ill : b ≡ true → answer (read switch bytes) ≡ Err stop.Switch
+  pub switch_ill : b ≡ true → answer (read switch bytes) ≡ Err failure.Switch
   switch_ill e = ap (λ c. answer (read (either c (give ill) (bind (many n g) (λ xs. give (instruction (make xs))))) bytes)) e ∙ ap answer (read_give ill bytes)
 
   pub switch_is : b ≡ false → answer (read switch bytes) ≡ switched make (listed (take_all (λ u. result_ok (read g u)) n bytes))

@@ -8,8 +8,8 @@ use Rattle.std.proofs.lemmas.List.{append-nil}
 use Rattle.pv_format.specs.Grammars.{Takes}
 use Rattle.pv_format.specs.GrammarReading.{read}
 use Rattle.pv_format.proofs.Cited.{IsBytes, IsBytes-append, read_takes, takes_read, read_stops, complete, cut_stops}
-use Rattle.pv_insn.specs.declared.fault.Stop.{Stop}
-use Rattle.pv_insn.specs.declared.fault.Stop.TheVariants as stop
+use Rattle.pv_insn.specs.declared.fault.Failure.{Failure}
+use Rattle.pv_insn.specs.declared.fault.Failure.TheVariants as failure
 use Rattle.pv_insn.specs.declared.raw.Raw.{Raw}
 use Rattle.pv_insn.specs.declared.raw.Raw.TheVariants as raw
 use Rattle.pv_insn.specs.declared.raw.RawCase.{RawCase}
@@ -47,13 +47,13 @@ is_cut at bytes fits some e =
     record { piece = c.item; text = t.0; more = c.more; parts = sym (append-nil t.0) ∙ sym t.1; stands = t.2; some = some; others = o.1 }
 
 -- an instruction begins there, or this is why there is none
-abbrev pub IsNext : ℕ → List ℕ → Result (Raw × List ℕ) Stop → Type 0
+abbrev pub IsNext : ℕ → List ℕ → Result (Raw × List ℕ) Failure → Type 0
 IsNext at bytes (Ok (r, rest)) = BeginsWhole at bytes r rest
 IsNext at bytes (Err e) = StopsAt at bytes e
 
 is_next : (at : ℕ) (bytes : List ℕ) → IsBytes bytes → bytes ≢ [] → (result : Result (Piece × List ℕ) (Unit {0})) → read (piece at) bytes ≡ result → IsNext at bytes (in_order (answer result))
 is_next at bytes fits some (Ok (instruction r, rest)) e = by_test (is_ordered r) refl where
-  by_test : (b : Bool) → is_ordered r ≡ b → IsNext at bytes (cond b (Ok (r, rest)) (Err stop.Switch))
+  by_test : (b : Bool) → is_ordered r ≡ b → IsNext at bytes (cond b (Ok (r, rest)) (Err failure.Switch))
   by_test true o = let b = (piece_texts at).takes bytes (instruction r) rest fits (read_takes (piece at) bytes (instruction r) rest e) in record { text = b.0; parts = b.1; spells = b.2; ordered = (ordered r).0 o }
   by_test false o = inr (record { switch = r; begins = begins at bytes (instruction r) rest fits e; unordered = λ h. let yes = (ordered r).1 h in absurd (cc (yes, o)) })
 is_next at bytes fits some (Ok (unknown, rest)) e = begins at bytes unknown rest fits e
@@ -83,9 +83,8 @@ cut_read at bytes c = go (read (piece at) bytes) refl where
 unordered_false : (r : Raw) → (IsOrdered r → ⊥) → is_ordered r ≡ false
 unordered_false r none = let d = ordered r in elim (cases_Bool (is_ordered r)) [ inl e ↦ absurd (none (d.0 e)) | inr e ↦ e ]
 
-pub stop_read : (at : ℕ) (bytes : List ℕ) (e : Stop) → StopsAt at bytes e → next at bytes ≡ Err e
-stop_read at bytes stop.Opcode b = piece_read at unknown b.text b.rest bytes b.stands b.parts
-stop_read at bytes stop.Truncated c = ap (λ o. in_order (answer o)) (cut_read at bytes c)
-stop_read at bytes stop.Switch (inl b) = piece_read at ill b.text b.rest bytes b.stands b.parts
-stop_read at bytes stop.Switch (inr u) = let b = u.begins in piece_read at (instruction u.switch) b.text b.rest bytes b.stands b.parts ∙ rw (unordered_false u.switch u.unordered) refl
-stop_read at bytes stop.Memory h = absurd h
+pub stop_read : (at : ℕ) (bytes : List ℕ) (e : Failure) → StopsAt at bytes e → next at bytes ≡ Err e
+stop_read at bytes failure.Opcode b = piece_read at unknown b.text b.rest bytes b.stands b.parts
+stop_read at bytes failure.Truncated c = ap (λ o. in_order (answer o)) (cut_read at bytes c)
+stop_read at bytes failure.Switch (inl b) = piece_read at ill b.text b.rest bytes b.stands b.parts
+stop_read at bytes failure.Switch (inr u) = let b = u.begins in piece_read at (instruction u.switch) b.text b.rest bytes b.stands b.parts ∙ rw (unordered_false u.switch u.unordered) refl

@@ -11,7 +11,8 @@ use Rattle.pv_format.specs.Grammars.{give, bind, run}
 use Rattle.pv_format.specs.FreeGrammars.{many}
 use Rattle.pv_format.proofs.Cited.{IsTexts, same_texts, then_texts, give_texts, number_texts, made_texts, run_texts, IsWide, wide32, all-append}
 use Rattle.pv_insn.specs.Pieces.{IsUnsigned, IsSigned, signed, IsAligned}
-use Rattle.pv_insn.specs.Reading.{Reads, cut, number, integer, padding}
+use Rattle.pv_format.specs.ByteReading.{cut, number}
+use Rattle.pv_insn.specs.Reading.{Reads, integer, padding}
 
 pub unsigned_texts : (w : Width) → IsWide w → IsTexts (number w) 0 (λ t n. IsUnsigned w n t)
 unsigned_texts w wide = same_texts (number_texts 0 cut w wide) (λ t n s. (s.1, s.0)) (λ t n s. (s.1, s.0))

@@ -49,5 +49,6 @@ class_taken bytes file fits small t =
     let q = (tail_spells file.pool).takes pool.rest file.methods [] fits_rest read in
     let is : IsTail file.pool q.0.0 file.methods = subst (IsTail file.pool q.0.0) (sym q.2) q.3.0 in
     let items = record q.0.0 { minor = p.0.0; major = p.0.1; pool_text = pool.text } in
-    let later : t.rest ≡ pool.text ++ tail_text items = stands ∙ ap (λ (u : List ℕ). pool.text ++ u) (q.1 ∙ append-nil (tail_text items)) in
-    record { items = items; spelled = p.1 ∙ ap (λ (u : List ℕ). head_text p.0 ++ u) later; small = small; describes = assumption (is, p.3) }
+    let spelled : bytes ≡ head_text p.0 ++ (pool.text ++ pool.rest) = p.1 ∙ ap (λ (u : List ℕ). head_text p.0 ++ u) stands in
+    let ends : pool.rest ≡ tail_text items = rw append-nil at q.1 in
+    record { items = items; spelled = rw (← ends) spelled; small = small; describes = assumption (is, p.3) }

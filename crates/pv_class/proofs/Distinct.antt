@@ -1,88 +1,47 @@
--- Each method is new after those before it where no two are the same.
-use Rattle.std.proofs.Common.{◌≡◌, ◌⊎◌, inl, inr, ℕ, zero, suc, ◌<◌, List, [], ◌∷◌, ◌++◌, length, get_or, Some, refl, sym, ap, subst, ◌∙◌, append_assoc, arith, slice_get}
-use Rattle.std.specs.List.{Contains}
-use Rattle.std.proofs.lemmas.List.{append-nil}
-use Rattle.std.proofs.lemmas.Option.{slice_get_within}
+-- No two methods are the same where each is new after those before it.
+use Rattle.std.proofs.Common.{◌≡◌, ℕ, ◌<◌, List, [], ◌∷◌, ◌++◌, length, map, get_or, refl, sym, ap, ◌∙◌, arith}
+use Rattle.std.specs.List.{Contains, AllPairs}
+use Rattle.std.proofs.lemmas.List.{length-append, length-map, get_or-map, get_or_append_left}
+use Rattle.std.proofs.lemmas.List.Quantifiers.{all_pairs_push}
+use Rattle.std.proofs.lemmas.Option.{slice_get_within, get_or_from_slice_get, slice_get-get_or}
+use Rattle.std.proofs.Math.Seq.{get_or-append_seam}
 use Rattle.pv_class.specs.declared.file.Method.{Method}
 use Rattle.pv_class.specs.declared.signature.Signature.{Signature}
 use Rattle.pv_class.specs.ClassGrammar.{signature, signatures}
 use Rattle.pv_class.specs.ClassFiles.{AreDistinct}
 use Rattle.pv_class.specs.CheckLaws.{same_signature}
 
--- each of the methods is new after these
-abbrev pub Fresh : List Method → List Method → Type 0
-Fresh so_far [] = Unit {0}
-Fresh so_far (m ∷ ms) = (Contains (signatures so_far) (signature m) → ⊥) × Fresh (so_far ++ m ∷ []) ms
+abbrev Differ : Method → Method → Type 0
+Differ m n = ¬ (signature m ≡ signature n)
 
--- ---- places in a list
+-- no two have the same signature, by pairs
+pairs_distinct : (ms : List Method) → AllPairs Differ ms → AreDistinct ms
+pairs_distinct ms pairs i j m n ei ej names descs =
+    let same : signature m ≡ signature n = same_signature (signature m) (signature n) names descs in
+    let at : get_or ms i m ≡ m = get_or_from_slice_get ms i m m ei in
+    let at' : get_or ms j m ≡ n = get_or_from_slice_get ms j n m ej in
+    let below : i < j → ⊥ = λ lt. pairs i j m lt (slice_get_within ms j n ej) (rw (at, at') same) in
+    let above : j < i → ⊥ = λ lt. pairs j i m lt (slice_get_within ms i m ei) (rw (at, at') (sym same)) in
+    omega arith
 
-at_or_last : {A : Type 0} (xs : List A) (y : A) (i : ℕ) (x : A) → slice_get (xs ++ y ∷ []) i ≡ Some x → (slice_get xs i ≡ Some x) ⊎ ((i ≡ length xs) × (x ≡ y))
-at_or_last [] y zero x e = inr (refl, cc)
-at_or_last [] y (suc i) x e = absurd cc
-at_or_last (z ∷ xs) y zero x e = inl e
-at_or_last (z ∷ xs) y (suc i) x e = one_on (at_or_last xs y i x e)
-  where
-    one_on : (slice_get xs i ≡ Some x) ⊎ ((i ≡ length xs) × (x ≡ y)) → (slice_get xs i ≡ Some x) ⊎ ((suc i ≡ suc (length xs)) × (x ≡ y))
-    one_on (inl h) = inl h
-    one_on (inr h) = inr (ap suc h.0, h.1)
+distinct_pairs : (ms : List Method) → AreDistinct ms → AllPairs Differ ms
+distinct_pairs ms distinct i j d lt within same =
+    let e = distinct i j (get_or ms i d) (get_or ms j d) (slice_get-get_or ms i d (omega arith)) (slice_get-get_or ms j d within) (ap (λ (s : Signature). s.name) same) (ap (λ (s : Signature). s.desc) same) in
+    absurd (omega arith)
 
-at_left : {A : Type 0} (xs ys : List A) (i : ℕ) (x : A) → slice_get xs i ≡ Some x → slice_get (xs ++ ys) i ≡ Some x
-at_left [] ys i x e = absurd cc
-at_left (z ∷ xs) ys zero x e = e
-at_left (z ∷ xs) ys (suc i) x e = at_left xs ys i x e
+signatures_map : (ms : List Method) → signatures ms ≡ map signature ms
+signatures_map [] = refl
+signatures_map (m ∷ ms) = ap (λ (others : List Signature). signature m ∷ others) (signatures_map ms)
 
-at_length : {A : Type 0} (xs : List A) (y : A) (ys : List A) → slice_get (xs ++ y ∷ ys) (length xs) ≡ Some y
-at_length [] y ys = refl
-at_length (x ∷ xs) y ys = at_length xs y ys
+pub new_distinct : (ms : List Method) (y : Method) → AreDistinct ms → ¬ Contains (signatures ms) (signature y) → AreDistinct (ms ++ y ∷ [])
+new_distinct ms y distinct new =
+    let others : (k : ℕ) (d : Method) → k < length ms → Differ (get_or ms k d) y = λ k d lt same. new (rw signatures_map (k, rw length-map lt, get_or-map signature ms k d (signature y) lt ∙ same)) in
+    pairs_distinct (ms ++ y ∷ []) (all_pairs_push Differ ms y (distinct_pairs ms distinct) others)
 
--- ---- signatures in a list
-
-has_signature : (xs : List Method) (i : ℕ) (x : Method) (s : Signature) → slice_get xs i ≡ Some x → signature x ≡ s → Contains (signatures xs) s
-has_signature [] i x s e same = absurd cc
-has_signature (z ∷ xs) zero x s e same = let is : z ≡ x = cc in (0, omega arith, ap signature is ∙ same)
-has_signature (z ∷ xs) (suc i) x s e same = let h = has_signature xs i x s e same in (suc h.0, let lt = h.1 in omega arith, h.2)
-
-abbrev IsThere : List Method → Signature → Type 0
-IsThere xs s = (i : ℕ) × (x : Method) × (slice_get xs i ≡ Some x) × (signature x ≡ s)
-
-there_at : (xs : List Method) (s : Signature) (k : ℕ) → k < length (signatures xs) → get_or (signatures xs) k s ≡ s → IsThere xs s
-there_at [] s k lt e = absurd (omega arith)
-there_at (x ∷ xs) s zero lt e = (0, x, refl, e)
-there_at (x ∷ xs) s (suc k) lt e = let h = there_at xs s k (omega arith) e in (suc h.0, h.1, h.2, h.3)
-
--- ---- the two ways
-
-one_more : (xs : List Method) (y : Method) → AreDistinct xs → (Contains (signatures xs) (signature y) → ⊥) → AreDistinct (xs ++ y ∷ [])
-one_more xs y distinct new i j m n ei ej names descs = by_places (at_or_last xs y i m ei) (at_or_last xs y j n ej)
-  where
-    same : signature m ≡ signature n
-    same = same_signature (signature m) (signature n) names descs
-
-    by_places : (slice_get xs i ≡ Some m) ⊎ ((i ≡ length xs) × (m ≡ y)) → (slice_get xs j ≡ Some n) ⊎ ((j ≡ length xs) × (n ≡ y)) → i ≡ j
-    by_places (inl a) (inl b) = distinct i j m n a b names descs
-    by_places (inl a) (inr b) = absurd (new (has_signature xs i m (signature y) a (same ∙ ap signature b.1)))
-    by_places (inr a) (inl b) = absurd (new (has_signature xs j n (signature y) b (sym same ∙ ap signature a.1)))
-    by_places (inr a) (inr b) = a.0 ∙ sym b.0
-
-fresh_after : (so_far ms : List Method) → AreDistinct so_far → Fresh so_far ms → AreDistinct (so_far ++ ms)
-fresh_after so_far [] distinct fresh = subst AreDistinct (sym (append-nil so_far)) distinct
-fresh_after so_far (m ∷ ms) distinct fresh = subst AreDistinct (append_assoc so_far (m ∷ []) ms) (fresh_after (so_far ++ m ∷ []) ms (one_more so_far m distinct fresh.0) fresh.1)
-
-distinct_after : (so_far ms : List Method) → AreDistinct (so_far ++ ms) → Fresh so_far ms
-distinct_after so_far [] distinct = tt
-distinct_after so_far (m ∷ ms) distinct = (
-  λ there.
-      let h = there_at so_far (signature m) there.0 there.1 there.2 in
-      let name = ap (λ (s : Signature). s.name) h.3 in
-      let desc = ap (λ (s : Signature). s.desc) h.3 in
-      let same = distinct h.0 (length so_far) h.1 m (at_left so_far (m ∷ ms) h.0 h.1 h.2) (at_length so_far m ms) name desc in
-      let within = slice_get_within so_far h.0 h.1 h.2 in
-      absurd (omega arith),
-  distinct_after (so_far ++ m ∷ []) ms (subst AreDistinct (sym (append_assoc so_far (m ∷ []) ms)) distinct),
-)
-
-pub fresh_distinct : (ms : List Method) → Fresh [] ms → AreDistinct ms
-fresh_distinct ms fresh = fresh_after [] ms (λ i j m n ei ej names descs. absurd cc) fresh
-
-pub distinct_fresh : (ms : List Method) → AreDistinct ms → Fresh [] ms
-distinct_fresh ms distinct = distinct_after [] ms distinct
+pub distinct_new : (ms : List Method) (y : Method) (later : List Method) → AreDistinct (ms ++ y ∷ later) → ¬ Contains (signatures ms) (signature y)
+distinct_new ms y later distinct there =
+    let all = ms ++ y ∷ later in
+    let (k, lt, same) = rw signatures_map at there in
+    let within : k < length ms = rw length-map at lt in
+    let one : signature (get_or ms k y) ≡ signature y = sym (get_or-map signature ms k y (signature y) within) ∙ same in
+    distinct_pairs all distinct k (length ms) y within (omega (arith, length-append ms (y ∷ later))) (rw (get_or_append_left ms (y ∷ later) y k within, get_or-append_seam) one)

@@ -18,13 +18,14 @@ use Rattle.pv_class.specs.declared.fault.Cause.{Cause}
 use Rattle.pv_class.specs.declared.fault.Failure.{Failure}
 use Rattle.pv_class.specs.declared.fault.ClassFault.{ClassFault}
 use Rattle.pv_class.specs.declared.fault.ClassFault.TheVariants as fault
-use Rattle.pv_class.specs.declared.fault.Stop.{Stop}
-use Rattle.pv_class.specs.declared.fault.Stop.TheVariants.{Failed, Memory}
+use Rattle.pv_format.specs.declared.stopped.Stopped.{Stopped}
+use Rattle.pv_format.specs.declared.stopped.Stopped.TheVariants.{Failed, Memory}
+use Rattle.pv_format.specs.Stopping.{Fails}
 use Rattle.pv_class.specs.ClassGrammar.{head, tail}
 use Rattle.pv_class.specs.ClassFaults.{fault_at, fault_of, IsOfPool, HasHead, IsBad, too_long, in_head, in_pool, in_tail}
 use Rattle.pv_class.specs.ClassFiles.{IsClass}
 use Rattle.pv_class.specs.Answers.{IsAnswer, UnlessMemory, Answers, Tells}
-use Rattle.pv_class.specs.Reading.{Fails, fault_in, of_pool}
+use Rattle.pv_class.specs.Reading.{fault_in, of_pool}
 use Rattle.pv_class.proofs.ClassAgrees.{takes_class, class_taken}
 
 abbrev pub HeadRead : List ℕ → Type 0
@@ -117,7 +118,7 @@ has_head : (bytes : List ℕ) → HeadRead bytes → HasHead bytes
 has_head bytes h = (h.0, read_takes head bytes tt h.0 h.1)
 
 module _ (bytes : List ℕ) (fits : IsBytes bytes) (le : length bytes ≤ LONGEST_FILE) where
-  pub head_fails : (s : Stop) → Fails s (read head bytes) → Answered bytes (Err (fault_in (length bytes) s))
+  pub head_fails : (s : Stopped Failure) → Fails s (read head bytes) → Answered bytes (Err (fault_in (length bytes) s))
   head_fails (Failed e) h = answered bytes (Err (fault_of bytes e)) fits (in_head le e (read_stops head bytes e h) refl)
   head_fails Memory h = memory bytes
 
@@ -125,7 +126,7 @@ module _ (bytes : List ℕ) (fits : IsBytes bytes) (le : length bytes ≤ LONGES
   pool_fails pool_fault.Memory first h = memory bytes
   pool_fails e first h = answered bytes (Err (of_pool e)) fits (in_pool le (has_head bytes first) e h refl)
 
-  pub tail_fails : (entries : List Entry) (after : ℕ) (s : Stop) → HeadRead bytes → IsPoolAt bytes 8 entries after → Fails s (read (tail entries) (drop after bytes)) → Answered bytes (Err (fault_in (length bytes) s))
+  pub tail_fails : (entries : List Entry) (after : ℕ) (s : Stopped Failure) → HeadRead bytes → IsPoolAt bytes 8 entries after → Fails s (read (tail entries) (drop after bytes)) → Answered bytes (Err (fault_in (length bytes) s))
   tail_fails entries after (Failed e) first at h = answered bytes (Err (fault_of bytes e)) fits (in_tail le (has_head bytes first) entries after at e (read_stops (tail entries) (drop after bytes) e h) refl)
   tail_fails entries after Memory first at h = memory bytes
 

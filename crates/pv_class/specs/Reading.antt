@@ -1,5 +1,5 @@
 -- What the readers of a class file answer.
-use Rattle.std.specs.Prelude.{◌≡◌, ℕ, ◌-◌, Bool, true, List, [], ◌∷◌, ◌++◌, Result, Ok, Err}
+use Rattle.std.specs.Prelude.{◌≡◌, ℕ, ◌-◌, Bool, true, List, [], ◌∷◌, ◌++◌}
 use Rattle.pv_pool.specs.declared.entry.Entry.{Entry}
 use Rattle.pv_pool.specs.declared.fault.PoolFault.{PoolFault}
 use Rattle.pv_pool.specs.declared.fault.PoolFault.TheVariants as pool
@@ -7,8 +7,8 @@ use Rattle.pv_class.specs.declared.fault.PoolWord.TheVariants as word
 use Rattle.pv_class.specs.declared.fault.ClassFault.{ClassFault}
 use Rattle.pv_class.specs.declared.fault.ClassFault.TheVariants as fault
 use Rattle.pv_class.specs.declared.fault.Failure.{Failure}
-use Rattle.pv_class.specs.declared.fault.Stop.{Stop}
-use Rattle.pv_class.specs.declared.fault.Stop.TheVariants.{Failed, Memory}
+use Rattle.pv_format.specs.declared.stopped.Stopped.{Stopped}
+use Rattle.pv_format.specs.declared.stopped.Stopped.TheVariants.{Failed, Memory}
 use Rattle.pv_class.specs.declared.signature.Signature.{Signature}
 use Rattle.pv_class.specs.Checks.{new}
 use Rattle.pv_class.specs.declared.room.Room.{Room}
@@ -24,22 +24,12 @@ entry_of Attributes pool room = skipped room pool
 entry_of Handlers pool room = handler room
 entry_of Interfaces pool room = interface room pool
 
--- reading stops so, unless memory ran out
-abbrev pub Fails : {A : Type 0} → Stop → Result A Failure → Type 0
-Fails (Failed e) result = result ≡ Err e
-Fails Memory result = Unit {0}
-
--- what a function returned, seen by view, is what is read, unless memory ran out
-abbrev pub Gives : {X A : Type 0} → (X → A) → Result X Stop → Result A Failure → Type 0
-Gives view (Ok x) result = result ≡ Ok (view x)
-Gives view (Err s) result = Fails s result
-
 -- a signature is added at the end where it is new
 abbrev pub Puts : List Signature → List Signature → Signature → Bool → Type 0
 Puts old after s is_new = (is_new ≡ (new old s).tells) × (is_new ≡ true → after ≡ old ++ s ∷ [])
 
 -- the fault of a file of this length
-abbrev pub fault_in : ℕ → Stop → ClassFault
+abbrev pub fault_in : ℕ → Stopped Failure → ClassFault
 fault_in len (Failed e) = fault_at e.cause (len - e.left)
 fault_in len Memory = fault.Memory
 

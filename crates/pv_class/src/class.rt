@@ -5,7 +5,8 @@ ghost use Rattle.pv_format.specs.Grammars.{bind};
 ghost use Rattle.pv_class.specs.Grammars.{table};
 ghost use Rattle.pv_class.specs.ClassGrammar.{in_file, interface, field, all_methods, head, class_front, class_end, tail};
 ghost use Rattle.pv_format.specs.GrammarReading.{read};
-ghost use Rattle.pv_class.specs.Reading.{Gives, fault_in, of_pool};
+ghost use Rattle.pv_format.specs.Stopping.{Gives};
+ghost use Rattle.pv_class.specs.Reading.{fault_in, of_pool};
 ghost use Rattle.pv_class.specs.Answers.{Answers, Tells};
 
 use crate::fault::{Cause, ClassFault, PoolWord, Stop};
@@ -31,15 +32,13 @@ const NEWEST: u16 = 69;
 /// Where the constant pool begins, after the magic number and the version.
 const POOL: usize = 8;
 
-impl Stop {
-    /// The fault of a file of `len` bytes.
-    fn in_file(self, len: usize) -> ClassFault
-        ensures { result ≡ fault_in len self }
-    {
-        match self {
-            Stop::Failed(failure) => failure.cause.at(len.saturating_sub(failure.left)),
-            Stop::Memory => ClassFault::Memory,
-        }
+/// The fault of a file of `len` bytes.
+fn in_file(stop: Stop, len: usize) -> ClassFault
+    ensures { result ≡ fault_in len stop }
+{
+    match stop {
+        Stop::Failed(failure) => failure.cause.at(len.saturating_sub(failure.left)),
+        Stop::Memory => ClassFault::Memory,
     }
 }
 
@@ -150,7 +149,7 @@ pub fn read_class(alloc: Global, bytes: &[u8]) -> Result<ClassFile, ClassFault>
         return Err(ClassFault::TooLong(LONGEST_FILE));
     }
     if let Err(stop) = head_at(bytes) {
-        return Err(stop.in_file(bytes.len()));
+        return Err(in_file(stop, bytes.len()));
     }
     let (pool, after) = match read_pool(alloc, bytes, POOL) {
         Ok(read) => read,
@@ -159,6 +158,6 @@ pub fn read_class(alloc: Global, bytes: &[u8]) -> Result<ClassFile, ClassFault>
     let (_, rest) = bytes.split_at(after);
     match tail_at(alloc, &pool, rest) {
         Ok((methods, _)) => Ok(ClassFile { pool, methods }),
-        Err(stop) => Err(stop.in_file(bytes.len())),
+        Err(stop) => Err(in_file(stop, bytes.len())),
     }
 }

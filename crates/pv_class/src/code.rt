@@ -3,7 +3,7 @@
 ghost use Rattle.std.specs.Prelude.{◌≡◌, length};
 ghost use Rattle.pv_class.specs.ClassGrammar.{code_front, code_contents, code};
 ghost use Rattle.pv_format.specs.GrammarReading.{read};
-ghost use Rattle.pv_class.specs.Reading.{Gives};
+ghost use Rattle.pv_format.specs.Stopping.{Gives};
 
 use crate::fault::{Cause, Stop};
 use crate::file::{Bytes, Code};

@@ -3,8 +3,7 @@
 ghost use Rattle.std.specs.Prelude.{◌≡◌};
 ghost use Rattle.pv_class.specs.ClassFaults.{fault_at};
 
-use pv_value::Memory;
-use std::alloc::{AllocError, AllocFailed};
+use pv_format::Stopped;
 use thiserror::Error;
 
 /// What is wrong with a constant pool.
@@ -94,41 +93,4 @@ pub(crate) struct Failure {
 }
 
 /// Why reading stops.
-#[derive(Clone, Copy)]
-pub(crate) enum Stop {
-    Failed(Failure),
-    Memory,
-}
-
-impl From<AllocError> for Stop {
-    ghost use Rattle.std.specs.Prelude.{◌≡◌};
-    ghost use Rattle.pv_class.specs.declared.fault.Stop.TheVariants as stop;
-
-    ghost from_gives = { λ _ e. e ≡ stop.Memory };
-
-    fn from(_e: AllocError) -> Stop {
-        Stop::Memory
-    }
-}
-
-impl<T: Drop> From<AllocFailed<T>> for Stop {
-    ghost use Rattle.std.specs.Prelude.{◌≡◌};
-    ghost use Rattle.pv_class.specs.declared.fault.Stop.TheVariants as stop;
-
-    ghost from_gives = { λ _ e. e ≡ stop.Memory };
-
-    fn from(_e: AllocFailed<T>) -> Stop {
-        Stop::Memory
-    }
-}
-
-impl From<Memory> for Stop {
-    ghost use Rattle.std.specs.Prelude.{◌≡◌};
-    ghost use Rattle.pv_class.specs.declared.fault.Stop.TheVariants as stop;
-
-    ghost from_gives = { λ _ e. e ≡ stop.Memory };
-
-    fn from(_e: Memory) -> Stop {
-        Stop::Memory
-    }
-}
+pub(crate) type Stop = Stopped<Failure>;

@@ -8,13 +8,12 @@ ghost use Rattle.pv_class.specs.Grammars.{u2, u4, run};
 ghost use Rattle.pv_class.specs.ClassGrammar.{index, contents, in_file};
 ghost use Rattle.pv_class.specs.Deciding.{is_class};
 ghost use Rattle.pv_format.specs.GrammarReading.{read};
-ghost use Rattle.pv_class.specs.Reading.{Gives};
+ghost use Rattle.pv_format.specs.Stopping.{Gives};
 ghost use Rattle.std.specs.Prelude.{◌≡◌};
 ghost use Rattle.pv_pool.specs.Pools.{entry_under};
 
 use crate::fault::{Cause, Stop};
 use crate::room::{IN_FILE, Room, failed};
-use byteorder::{BigEndian, ByteOrder};
 use pv_pool::{Entry, Pool};
 
 /// A number of two bytes, the high one first.
@@ -22,10 +21,10 @@ use pv_pool::{Entry, Pool};
 pub(crate) fn u16_at(room: Room, bytes: &[u8]) -> Result<(u16, &[u8]), Stop>
     ensures { Gives (λ x. (x.0, x.1.now)) result (read (u2 room) bytes.now) }
 {
-    if !room.holds(2, bytes) {
-        return Err(room.short(bytes.len()));
+    match pv_format::u16_at(bytes) {
+        Some((number, rest)) if room.after <= rest.len() => Ok((number, rest)),
+        _ => Err(room.short(bytes.len())),
     }
-    Ok((BigEndian::read_u16(bytes), &bytes[2..]))
 }
 
 /// A number of four bytes, the highest first.
@@ -33,10 +32,10 @@ pub(crate) fn u16_at(room: Room, bytes: &[u8]) -> Result<(u16, &[u8]), Stop>
 pub(crate) fn u32_at(room: Room, bytes: &[u8]) -> Result<(u32, &[u8]), Stop>
     ensures { Gives (λ x. (x.0, x.1.now)) result (read (u4 room) bytes.now) }
 {
-    if !room.holds(4, bytes) {
-        return Err(room.short(bytes.len()));
+    match pv_format::u32_at(bytes) {
+        Some((number, rest)) if room.after <= rest.len() => Ok((number, rest)),
+        _ => Err(room.short(bytes.len())),
     }
-    Ok((BigEndian::read_u32(bytes), &bytes[4..]))
 }
 
 /// A run of `size` bytes.
@@ -44,10 +43,10 @@ pub(crate) fn u32_at(room: Room, bytes: &[u8]) -> Result<(u32, &[u8]), Stop>
 pub(crate) fn run_at(room: Room, size: usize, bytes: &[u8]) -> Result<(&[u8], &[u8]), Stop>
     ensures { Gives (λ x. (x.0.now, x.1.now)) result (read (run room size) bytes.now) }
 {
-    if !room.holds(size, bytes) {
-        return Err(room.short(bytes.len()));
+    match pv_format::run_at(size, bytes) {
+        Some((run, rest)) if room.after <= rest.len() => Ok((run, rest)),
+        _ => Err(room.short(bytes.len())),
     }
-    Ok(bytes.split_at(size))
 }
 
 /// Whether a Class stands under an index.

@@ -4,7 +4,7 @@ ghost use Rattle.std.specs.Prelude.{◌≡◌, IfOk};
 ghost use Rattle.pv_class.specs.Deciding.{is_field_type, is_method_type};
 ghost use Rattle.pv_class.specs.ClassGrammar.{text_at, typed, member};
 ghost use Rattle.pv_format.specs.GrammarReading.{read};
-ghost use Rattle.pv_class.specs.Reading.{Gives};
+ghost use Rattle.pv_format.specs.Stopping.{Gives};
 
 use crate::fault::{Cause, Stop};
 use crate::items::{text_index_at, u16_at};

@@ -4,7 +4,7 @@ ghost use Rattle.std.specs.Prelude.{◌≡◌, ◌++◌, ◌∷◌, [], IfOk, No
 ghost use Rattle.pv_format.specs.Grammars.{times};
 ghost use Rattle.pv_class.specs.ClassGrammar.{field, is_code, attribute, attributes, method, methods, method_of, signature, signature_of};
 ghost use Rattle.pv_format.specs.GrammarReading.{read};
-ghost use Rattle.pv_class.specs.Reading.{Gives};
+ghost use Rattle.pv_format.specs.Stopping.{Gives};
 
 use crate::code::code_at;
 use crate::fault::{Cause, Stop};

@@ -1,6 +1,7 @@
 //! Where the items of a class file may stand.
 
-ghost use Rattle.std.specs.Prelude.{◌≡◌, ◌+◌, ◌≤◌, ◌↔◌, IsTrue, length};
+ghost use Rattle.std.specs.Prelude.{◌≡◌};
+ghost use Rattle.pv_format.specs.declared.stopped.Stopped.TheVariants.{Failed};
 ghost use Rattle.pv_class.specs.Grammars.{failure, short};
 ghost use Rattle.pv_class.specs.ClassGrammar.{in_code};
 
@@ -36,16 +37,9 @@ impl Room {
         }
     }
 
-    /// Whether an item of `size` bytes fits at the front of the bytes.
-    pub(crate) fn holds(self, size: usize, bytes: &[u8]) -> bool
-        ensures { IsTrue result ↔ (size + self.after ≤ length bytes.now) }
-    {
-        size <= bytes.len() && self.after <= bytes.len() - size
-    }
-
     /// How an item fails that doesn't fit, where `left` bytes are left.
     pub(crate) fn short(self, left: usize) -> Stop
-        ensures { result ≡ Stop.Failed (short self left) }
+        ensures { result ≡ Failed (short self left) }
     {
         match self.code {
             None => failed(Cause::Truncated, left),
@@ -56,7 +50,7 @@ impl Room {
 
 /// A failure where `left` bytes are left.
 pub(crate) fn failed(cause: Cause, left: usize) -> Stop
-    ensures { result ≡ Stop.Failed (failure cause left) }
+    ensures { result ≡ Failed (failure cause left) }
 {
     Stop::Failed(Failure { cause, left })
 }

@@ -5,7 +5,8 @@ ghost use Rattle.pv_format.specs.Grammars.{times};
 ghost use Rattle.pv_class.specs.Grammars.{table};
 ghost use Rattle.pv_class.specs.ClassGrammar.{skipped, handler, interface};
 ghost use Rattle.pv_format.specs.GrammarReading.{read};
-ghost use Rattle.pv_class.specs.Reading.{Gives, entry_of};
+ghost use Rattle.pv_format.specs.Stopping.{Gives};
+ghost use Rattle.pv_class.specs.Reading.{entry_of};
 
 use crate::fault::Stop;
 use crate::items::{class_index_at, contents_at, text_index_at, u16_at};

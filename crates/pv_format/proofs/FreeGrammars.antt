@@ -8,11 +8,11 @@ use Rattle.pv_format.proofs.GrammarReadings.{takes_read}
 
 -- ---- zeros
 
-zeros : ℕ → List ℕ
+pub zeros : ℕ → List ℕ
 zeros zero = []
 zeros (suc n) = 0 ∷ zeros n
 
-zeros_long : (n : ℕ) → length (zeros n) ≡ n
+pub zeros_long : (n : ℕ) → length (zeros n) ≡ n
 unfolding zeros
 zeros_long zero = refl
 zeros_long (suc n) = ap suc (zeros_long n)
@@ -22,7 +22,7 @@ IsBytes-append [] rest h k i = k i
 IsBytes-append (b ∷ t) rest h k zero = h zero
 IsBytes-append (b ∷ t) rest h k (suc i) = IsBytes-append t rest (λ j. h (suc j)) k i
 
-zeros_bytes : (n : ℕ) → IsBytes (zeros n)
+pub zeros_bytes : (n : ℕ) → IsBytes (zeros n)
 unfolding zeros
 zeros_bytes zero i = omega arith
 zeros_bytes (suc n) zero = omega arith

@@ -1,16 +1,12 @@
 -- What is read is what the grammar takes, and the fault is that by which it stops.
-use Rattle.std.proofs.Common.{◌≡◌, ◌↔◌, ◌⊎◌, ℕ, ◌+◌, ◌<◌, ◌≤◌, Bool, true, false, ltb, List, ◌++◌, length, take, drop, Result, Ok, Err, inl, inr, refl, sym, ap, ◌∙◌, true≢false, arith}
-use Rattle.std.proofs.lemmas.Bool.{cases_lt, lt-ltb, le-ltb}
+use Rattle.std.proofs.Common.{◌≡◌, ◌↔◌, ◌⊎◌, ℕ, ◌+◌, ◌<◌, ◌≤◌, Bool, true, false, cond, ltb, List, ◌++◌, length, take, drop, Result, Ok, Err, inl, inr, refl, sym, ap, subst, ◌∙◌, true≢false, arith}
+use Rattle.std.proofs.lemmas.Bool.{cases_lt, lt-ltb, le-ltb, false_from_ne_true}
 use Rattle.std.proofs.lemmas.List.{take_at, drop_at, take-append-drop, length-take-le, length-drop, length-append}
-use Rattle.pv_format.specs.Grammars.{Test, Grammar, give, here, item, check, Takes, Stops}
+use Rattle.pv_format.specs.Grammars.{Test, Grammar, give, here, item, check, bind, Takes, Stops}
 use Rattle.pv_format.specs.GrammarReading.{read, IsRead}
+use Rattle.pv_format.proofs.GrammarParts.{read_then, read_fails}
 
-by_test : (c : Test) → (c.Holds × (c.tells ≡ true)) ⊎ ((c.Holds → ⊥) × (c.tells ≡ false))
-by_test c = by c.tells refl
-  where
-    by : (b : Bool) → c.tells ≡ b → (c.Holds × (c.tells ≡ true)) ⊎ ((c.Holds → ⊥) × (c.tells ≡ false))
-    by true e = inl (c.law.0 e, e)
-    by false e = inr (λ p. true≢false (sym (c.law.1 p) ∙ e), e)
+-- ---- an item, and a check
 
 -- an item that fits, and one that doesn't
 fitting : {F A : Type 0} (size after : ℕ) (short : ℕ → F) (f : List ℕ → Grammar F A) (front more : List ℕ) → length front ≡ size → after ≤ length more → read (item size after short f) (front ++ more) ≡ read (f front) more
@@ -24,95 +20,103 @@ not_fitting : {F A : Type 0} (size after : ℕ) (short : ℕ → F) (f : List �
 unfolding read
 not_fitting size after short f bytes lt = rw (lt-ltb (length bytes) (size + after) lt) refl
 
--- bytes of which an item fits at the front
-record Split (size after : ℕ) (bytes : List ℕ) : Type 0 where
-  front : List ℕ
-  more : List ℕ
-  parts : bytes ≡ front ++ more
-  long : length front ≡ size
-  later : after ≤ length more
+-- what is read after an item, or after a check that passes, is read of both
+after_item : {F A : Type 0} (size after : ℕ) (short : ℕ → F) (f : List ℕ → Grammar F A) (front more : List ℕ) (r : Result (A × List ℕ) F) → length front ≡ size → after ≤ length more → IsRead (f front) more r → IsRead (item size after short f) (front ++ more) r
+unfolding Takes Stops
+after_item size after short f front more (Ok (x, rest)) long later h = (front, more, refl, long, later, h)
+after_item size after short f front more (Err e) long later h = inr (front, more, refl, long, later, h)
 
-split : (size after : ℕ) (bytes : List ℕ) → size + after ≤ length bytes → Split size after bytes
-split size after bytes le = record {
-  front = take size bytes;
-  more = drop size bytes;
-  parts = sym (take-append-drop size bytes);
-  long = length-take-le size bytes (omega arith);
-  later = let e = length-drop size bytes in omega arith;
-}
+after_check : {F A : Type 0} (c : Test) (e : F) (g : Grammar F A) (bytes : List ℕ) (r : Result (A × List ℕ) F) → c.Holds → IsRead g bytes r → IsRead (check c e g) bytes r
+unfolding Takes Stops
+after_check c e g bytes (Ok (x, rest)) holds h = (holds, h)
+after_check c e g bytes (Err s) holds h = inr (holds, h)
 
-read_check : {F A : Type 0} (c : Test) (s : F) (g : Grammar F A) (bytes : List ℕ) → c.tells ≡ true → read (check c s g) bytes ≡ read g bytes
-unfolding read
-read_check c s g bytes e = rw e refl
+-- ---- what is read is what there is to answer
 
-read_uncheck : {F A : Type 0} (c : Test) (s : F) (g : Grammar F A) (bytes : List ℕ) → c.tells ≡ false → read (check c s g) bytes ≡ Err s
-unfolding read
-read_uncheck c s g bytes e = rw e refl
-
-pub read_takes : {F A : Type 0} (g : Grammar F A) (bytes : List ℕ) (x : A) (rest : List ℕ) → read g bytes ≡ Ok (x, rest) → Takes g bytes x rest
-unfolding read Takes
-read_takes {A = A} (give y) bytes x rest e =
-    let same : (y, bytes) ≡ (x, rest) = cc in
-    (sym (ap (λ (p : A × List ℕ). p.0) same), sym (ap (λ (p : A × List ℕ). p.1) same))
-read_takes (here f) bytes x rest e = read_takes (f (length bytes)) bytes x rest e
-read_takes (item size after short f) bytes x rest e =
-    elim (cases_lt (length bytes) (size + after)) [
-      | inl lt ↦ absurd (let no = not_fitting size after short f bytes lt in cc (e, no))
-      | inr le ↦
-          let s = split size after bytes le in
-          let read = sym (fitting size after short f s.front s.more s.long s.later) ∙ ap (read (item size after short f)) (sym s.parts) ∙ e in
-          (s.front, s.more, s.parts, s.long, s.later, read_takes (f s.front) s.more x rest read)
-    ]
-read_takes (check c s g) bytes x rest e =
-    elim (by_test c) [
-      | inl p ↦ (p.0, read_takes g bytes x rest (sym (read_check c s g bytes p.1) ∙ e))
-      | inr p ↦ absurd (let no = read_uncheck c s g bytes p.1 in cc (e, no))
-    ]
-
-pub takes_read : {F A : Type 0} (g : Grammar F A) (bytes : List ℕ) (x : A) (rest : List ℕ) → Takes g bytes x rest → read g bytes ≡ Ok (x, rest)
-unfolding read Takes
-takes_read (give y) bytes x rest (e, f) = ap Ok (cc (e, f))
-takes_read (here f) bytes x rest h = takes_read (f (length bytes)) bytes x rest h
-takes_read (item size after short f) bytes x rest (front, more, parts, long, later, h) = ap (read (item size after short f)) parts ∙ fitting size after short f front more long later ∙ takes_read (f front) more x rest h
-takes_read (check c s g) bytes x rest (p, h) = read_check c s g bytes (c.law.1 p) ∙ takes_read g bytes x rest h
-
-pub read_stops : {F A : Type 0} (g : Grammar F A) (bytes : List ℕ) (e : F) → read g bytes ≡ Err e → Stops g bytes e
-unfolding read Stops
-read_stops (give y) bytes e h = absurd cc
-read_stops (here f) bytes e h = read_stops (f (length bytes)) bytes e h
-read_stops (item size after short f) bytes e h =
-    elim (cases_lt (length bytes) (size + after)) [
-      | inl lt ↦ let no = not_fitting size after short f bytes lt in inl (lt, cc (h, no))
-      | inr le ↦
-          let s = split size after bytes le in
-          let read = sym (fitting size after short f s.front s.more s.long s.later) ∙ ap (read (item size after short f)) (sym s.parts) ∙ h in
-          inr (s.front, s.more, s.parts, s.long, s.later, read_stops (f s.front) s.more e read)
-    ]
-read_stops (check c s g) bytes e h =
-    elim (by_test c) [
-      | inl p ↦ inr (p.0, read_stops g bytes e (sym (read_check c s g bytes p.1) ∙ h))
-      | inr p ↦ let no = read_uncheck c s g bytes p.1 in inl (p.0, cc (h, no))
-    ]
-
-pub stops_read : {F A : Type 0} (g : Grammar F A) (bytes : List ℕ) (e : F) → Stops g bytes e → read g bytes ≡ Err e
-unfolding read Stops
-stops_read (give y) bytes e h = absurd h
-stops_read (here f) bytes e h = stops_read (f (length bytes)) bytes e h
-stops_read (item size after short f) bytes e h =
-    elim h [
-      | inl (lt, is) ↦ not_fitting size after short f bytes lt ∙ ap Err (sym is)
-      | inr (front, more, parts, long, later, s) ↦ ap (read (item size after short f)) parts ∙ fitting size after short f front more long later ∙ stops_read (f front) more e s
-    ]
-stops_read (check c s g) bytes e h =
-    elim h [
-      | inl (none, is) ↦ read_uncheck c s g bytes (failed none) ∙ ap Err (sym is)
-      | inr (p, q) ↦ read_check c s g bytes (c.law.1 p) ∙ stops_read g bytes e q
-    ]
+pub is_read : {F A : Type 0} (g : Grammar F A) (bytes : List ℕ) → IsRead g bytes (read g bytes)
+unfolding read Takes Stops
+is_read (give x) bytes = (refl, refl)
+is_read (here f) bytes = is_here (read (f (length bytes)) bytes) (is_read (f (length bytes)) bytes)
   where
-    failed : (c.Holds → ⊥) → c.tells ≡ false
-    failed none = elim (by_test c) [ inl p ↦ absurd (none p.0) | inr p ↦ p.1 ]
+    is_here : (r : Result _ _) → IsRead (f (length bytes)) bytes r → IsRead (here f) bytes r
+    is_here (Ok (x, rest)) h = h
+    is_here (Err e) h = h
+is_read (item size after short f) bytes =
+    elim (cases_lt (length bytes) (size + after)) [
+      | inl lt ↦ subst (IsRead (item size after short f) bytes) (sym (not_fitting size after short f bytes lt)) (inl (lt, refl))
+      | inr le ↦
+          let front = take size bytes in
+          let more = drop size bytes in
+          let later : after ≤ length more = omega (arith, length-drop size bytes) in
+          let long = length-take-le size bytes (omega arith) in
+          let one = after_item size after short f front more (read (f front) more) long later (is_read (f front) more) in
+          let both = subst (IsRead (item size after short f) (front ++ more)) (sym (fitting size after short f front more long later)) one in
+          subst (λ (u : List ℕ). IsRead (item size after short f) u (read (item size after short f) u)) (take-append-drop size bytes) both
+    ]
+is_read (check c e g) bytes = by c.tells refl (is_read g bytes)
+  where
+    by : (b : Bool) → c.tells ≡ b → IsRead g bytes (read g bytes) → IsRead (check c e g) bytes (cond b (read g bytes) (Err e))
+    by true told h = after_check c e g bytes (read g bytes) (c.law.0 told) h
+    by false told h = inl (λ p. true≢false (sym (c.law.1 p) ∙ told), refl)
+
+-- and nothing else is
+pub read_once : {F A : Type 0} (g : Grammar F A) (bytes : List ℕ) (r : Result (A × List ℕ) F) → IsRead g bytes r → read g bytes ≡ r
+unfolding read Takes Stops
+read_once (give y) bytes (Ok (x, rest)) (e, f) = ap Ok (cc (e, f))
+read_once (give y) bytes (Err e) h = absurd h
+read_once (here f) bytes (Ok (x, rest)) h = read_once (f (length bytes)) bytes (Ok (x, rest)) h
+read_once (here f) bytes (Err e) h = read_once (f (length bytes)) bytes (Err e) h
+read_once (item size after short f) bytes (Ok (x, rest)) (front, more, parts, long, later, h) = ap (read (item size after short f)) parts ∙ fitting size after short f front more long later ∙ read_once (f front) more (Ok (x, rest)) h
+read_once (item size after short f) bytes (Err e) (inl (lt, is)) = not_fitting size after short f bytes lt ∙ ap Err (sym is)
+read_once (item size after short f) bytes (Err e) (inr (front, more, parts, long, later, h)) = ap (read (item size after short f)) parts ∙ fitting size after short f front more long later ∙ read_once (f front) more (Err e) h
+read_once (check c s g) bytes (Ok (x, rest)) (p, h) = rw (c.law.1 p) (read_once g bytes (Ok (x, rest)) h)
+read_once (check c s g) bytes (Err e) (inl (none, is)) = rw (false_from_ne_true c.tells (λ told. none (c.law.0 told))) (ap Err (sym is))
+read_once (check c s g) bytes (Err e) (inr (p, h)) = rw (c.law.1 p) (read_once g bytes (Err e) h)
 
 -- Of any bytes the grammar takes a front, or it stops; this is what is read, and nothing else is.
 pub read_law : {F A : Type 0} (g : Grammar F A) (bytes : List ℕ) (r : Result (A × List ℕ) F) → (read g bytes ≡ r) ↔ IsRead g bytes r
-read_law g bytes (Ok (x, rest)) = (read_takes g bytes x rest, takes_read g bytes x rest)
-read_law g bytes (Err e) = (read_stops g bytes e, stops_read g bytes e)
+read_law g bytes r = (λ e. subst (IsRead g bytes) e (is_read g bytes), read_once g bytes r)
+
+pub read_takes : {F A : Type 0} (g : Grammar F A) (bytes : List ℕ) (x : A) (rest : List ℕ) → read g bytes ≡ Ok (x, rest) → Takes g bytes x rest
+read_takes g bytes x rest e = subst (IsRead g bytes) e (is_read g bytes)
+
+pub takes_read : {F A : Type 0} (g : Grammar F A) (bytes : List ℕ) (x : A) (rest : List ℕ) → Takes g bytes x rest → read g bytes ≡ Ok (x, rest)
+takes_read g bytes x rest h = read_once g bytes (Ok (x, rest)) h
+
+pub read_stops : {F A : Type 0} (g : Grammar F A) (bytes : List ℕ) (e : F) → read g bytes ≡ Err e → Stops g bytes e
+read_stops g bytes e h = subst (IsRead g bytes) h (is_read g bytes)
+
+pub stops_read : {F A : Type 0} (g : Grammar F A) (bytes : List ℕ) (e : F) → Stops g bytes e → read g bytes ≡ Err e
+stops_read g bytes e h = read_once g bytes (Err e) h
+
+-- ---- one after the other
+
+pub stops_first : {F A B : Type 0} (g : Grammar F A) (k : A → Grammar F B) (bytes : List ℕ) (e : F) → Stops g bytes e → Stops (bind g k) bytes e
+stops_first g k bytes e h = read_stops (bind g k) bytes e (read_fails g k bytes e (stops_read g bytes e h))
+
+-- what is read of the second after the first was taken is read of both
+pub takes_both : {F A B : Type 0} (g : Grammar F A) (k : A → Grammar F B) (bytes : List ℕ) (x : A) (mid : List ℕ) (r : Result (B × List ℕ) F) → Takes g bytes x mid → IsRead (k x) mid r → IsRead (bind g k) bytes r
+takes_both g k bytes x mid r t h = (read_law (bind g k) bytes r).0 (read_then g k bytes x mid (takes_read g bytes x mid t) ∙ read_once (k x) mid r h)
+
+-- of both, the first stops, or it is taken and the rest is read of the second
+pub both_read : {F A B : Type 0} (g : Grammar F A) (k : A → Grammar F B) (bytes : List ℕ) (r : Result (B × List ℕ) F) → IsRead (bind g k) bytes r → ((e : F) × Stops g bytes e × (r ≡ Err e)) ⊎ ((x : A) × (mid : List ℕ) × Takes g bytes x mid × IsRead (k x) mid r)
+both_read {F = F} {A = A} {B = B} g k bytes r h = by (read g bytes) refl
+  where
+    is : read (bind g k) bytes ≡ r
+    is = read_once (bind g k) bytes r h
+
+    by : (q : Result (A × List ℕ) F) → read g bytes ≡ q → ((e : F) × Stops g bytes e × (r ≡ Err e)) ⊎ ((x : A) × (mid : List ℕ) × Takes g bytes x mid × IsRead (k x) mid r)
+    by (Ok (x, mid)) e = inr (x, mid, read_takes g bytes x mid e, (read_law (k x) mid r).0 (sym (read_then g k bytes x mid e) ∙ is))
+    by (Err e) s = inl (e, read_stops g bytes e s, sym is ∙ read_fails g k bytes e s)
+
+pub takes_then : {F A B : Type 0} (g : Grammar F A) (k : A → Grammar F B) (bytes : List ℕ) (x : A) (mid : List ℕ) (y : B) (rest : List ℕ) → Takes g bytes x mid → Takes (k x) mid y rest → Takes (bind g k) bytes y rest
+takes_then g k bytes x mid y rest t h = takes_both g k bytes x mid (Ok (y, rest)) t h
+
+pub stops_then : {F A B : Type 0} (g : Grammar F A) (k : A → Grammar F B) (bytes : List ℕ) (x : A) (rest : List ℕ) (e : F) → Takes g bytes x rest → Stops (k x) rest e → Stops (bind g k) bytes e
+stops_then g k bytes x rest e t h = takes_both g k bytes x rest (Err e) t h
+
+pub then_takes : {F A B : Type 0} (g : Grammar F A) (k : A → Grammar F B) (bytes : List ℕ) (y : B) (rest : List ℕ) → Takes (bind g k) bytes y rest → (x : A) × (mid : List ℕ) × Takes g bytes x mid × Takes (k x) mid y rest
+then_takes g k bytes y rest h = elim (both_read g k bytes (Ok (y, rest)) h) [ inl s ↦ let no = s.2 in absurd (cc (no)) | inr p ↦ p ]
+
+pub then_stops : {F A B : Type 0} (g : Grammar F A) (k : A → Grammar F B) (bytes : List ℕ) (e : F) → Stops (bind g k) bytes e → Stops g bytes e ⊎ ((x : A) × (rest : List ℕ) × Takes g bytes x rest × Stops (k x) rest e)
+then_stops g k bytes e h = elim (both_read g k bytes (Err e) h) [ inl s ↦ let same : s.0 ≡ e = let is = s.2 in cc in inl (subst (Stops g bytes) same s.1) | inr p ↦ inr p ]

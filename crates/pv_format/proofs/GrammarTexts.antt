@@ -4,31 +4,9 @@ use Rattle.std.specs.List.{flat_map, AllByRecursion}
 use Rattle.std.specs.Int.{Width, from_be_bytes, to_be_bytes}
 use Rattle.std.proofs.lemmas.List.{length-append, append-nil}
 use Rattle.pv_format.specs.Numbers.{FitsNumber}
-use Rattle.pv_format.specs.Grammars.{Test, Grammar, give, here, item, check, bind, Takes, number, run, times, table}
+use Rattle.pv_format.specs.Grammars.{Test, Grammar, give, here, check, bind, Takes, number, run, times, table}
 use Rattle.pv_format.proofs.Bytes.{IsBytes, IsBytes-left, bytes_after, Then, Done, Run, Number, IsWide}
-
--- ---- one after the other
-
-pub then_takes : {F A B : Type 0} (g : Grammar F A) (k : A → Grammar F B) (bytes : List ℕ) (y : B) (rest : List ℕ) → Takes (bind g k) bytes y rest → (x : A) × (mid : List ℕ) × Takes g bytes x mid × Takes (k x) mid y rest
-unfolding Takes bind
-then_takes (give x) k bytes y rest h = (x, bytes, (refl, refl), h)
-then_takes (here f) k bytes y rest h = then_takes (f (length bytes)) k bytes y rest h
-then_takes (item size after short f) k bytes y rest h =
-    let o = then_takes (f h.0) k h.1 y rest h.5 in
-    (o.0, o.1, (h.0, h.1, h.2, h.3, h.4, o.2), o.3)
-then_takes (check c s g) k bytes y rest h =
-    let o = then_takes g k bytes y rest h.1 in
-    (o.0, o.1, (h.0, o.2), o.3)
-
-pub takes_then : {F A B : Type 0} (g : Grammar F A) (k : A → Grammar F B) (bytes : List ℕ) (x : A) (mid : List ℕ) (y : B) (rest : List ℕ) → Takes g bytes x mid → Takes (k x) mid y rest → Takes (bind g k) bytes y rest
-unfolding Takes bind
-takes_then {A = A} (give z) k bytes x mid y rest h o =
-    let P : List ℕ → Type 0 = λ m. Takes (k x) m y rest in
-    let Q : A → Type 0 = λ a. Takes (k a) bytes y rest in
-    subst Q h.0 (subst P h.1 o)
-takes_then (here f) k bytes x mid y rest h o = takes_then (f (length bytes)) k bytes x mid y rest h o
-takes_then (item size after short f) k bytes x mid y rest h o = (h.0, h.1, h.2, h.3, h.4, takes_then (f h.0) k h.1 x mid y rest h.5 o)
-takes_then (check c s g) k bytes x mid y rest h o = (h.0, takes_then g k bytes x mid y rest h.1 o)
+use Rattle.pv_format.proofs.GrammarReadings.{then_takes, takes_then}
 
 -- ---- the texts of a grammar
 

@@ -5,7 +5,8 @@ pub mod GrammarParts
 pub mod GrammarReadings
 pub mod Bytes
 pub mod GrammarTexts
-pub mod GrammarStops
 pub mod ManyReads
 pub mod MoreTexts
+pub mod Spellings
 pub mod FreeGrammars
+pub mod GrammarItems

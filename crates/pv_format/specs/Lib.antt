@@ -11,6 +11,8 @@ pub mod Numbers
 pub mod Grammars
 pub mod GrammarReading
 pub mod FreeGrammars
+pub mod ByteReading
+pub mod Stopping
 -- laws: what is spelled is read again, and nothing else is; a format holds them, so each is proved where it is made
 pub mod Options
 pub mod FormatLaws

@@ -16,12 +16,17 @@
 //! (`proofs/GrammarParts`); and the texts of a grammar are those of its parts (`IsTexts` of `proofs/GrammarTexts`). An upper
 //! layer defines its grammar, says in the contract of a reader that it gives what `read` gives, and joins the grammar to
 //! its own spelling of items by `IsTexts`. A grammar that checks nothing (`IsFree` of `specs/FreeGrammars`) only stops where
-//! the bytes end, and then there are more bytes with which it takes them all (`complete` of `proofs/FreeGrammars`).
+//! the bytes end, and then there are more bytes with which it takes them all (`complete` of `proofs/FreeGrammars`). What such
+//! a grammar takes are its items one after the other, and it stops where the bytes end within one (`proofs/GrammarItems`).
 //!
 //! The code cuts texts: `words_of` and `lines_of` read by the formats `parts blank` and `lines`, and `cut_at` cuts once
 //! (`specs/Splits`). Upper layers use these clauses, and cite `proofs/Cited`.
 #![tactic(auto)]
 
+mod front;
 mod split;
+mod stopped;
 
+pub use front::{run_at, u8_at, u16_at, u32_at, u64_at};
 pub use split::{cut_at, lines_of, words_of};
+pub use stopped::Stopped;

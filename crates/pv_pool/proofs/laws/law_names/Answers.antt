@@ -1,4 +1,4 @@
-use Rattle.pv_pool.proofs.Unmarked.{names_apart}
+use Rattle.pv_pool.proofs.Members.{names_apart}
 use Rattle.pv_pool.proofs.laws.law_names.Goals as goal
 
 pub returns : goal.returns

@@ -1,0 +1,39 @@
+//! Lists that own their elements.
+#![tactic(auto)]
+
+use std::marker::Model;
+
+/// A list, seen as its elements in order.
+#[derive(Debug, Drop)]
+pub struct Listed<T> {
+    items: Vec<T>,
+}
+
+impl<T> Model for Listed<T> {
+    ghost use Rattle.std.specs.Prelude.{List};
+
+    ghost Value = { List T };
+
+    ghost view = { λ l. l.items.items };
+}
+
+impl<T> From<Vec<T>> for Listed<T> {
+    ghost use Rattle.std.specs.Prelude.{◌≡◌};
+
+    ghost from_gives = { λ items list. list ≡ items.items };
+
+    fn from(items: Vec<T>) -> Listed<T> {
+        Listed { items }
+    }
+}
+
+impl<T> Listed<T> {
+    ghost use Rattle.std.specs.Prelude.{◌≡◌};
+
+    /// The elements in order.
+    pub fn as_slice(&self) -> &[T]
+        ensures { result.now ≡ self.now }
+    {
+        &self.items
+    }
+}

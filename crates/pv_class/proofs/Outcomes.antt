@@ -31,15 +31,15 @@ use Rattle.pv_class.proofs.ClassAgrees.{takes_class, class_taken}
 abbrev pub HeadRead : List ℕ → Type 0
 HeadRead bytes = (rest : List ℕ) × (read head bytes ≡ Ok (tt, rest))
 
-abbrev Pool : Type 0
-Pool = Result (List Entry × ℕ) PoolFault
+abbrev PoolAnswer : Type 0
+PoolAnswer = Result (List Entry × ℕ) PoolFault
 
 -- what a file is, by what is read after its pool, and by the answer on its pool
 abbrev of_tail : List ℕ → List Entry → Result (List Method × List ℕ) Failure → Result ClassFile ClassFault
 of_tail bytes entries (Ok (ms, rest)) = Ok (record { pool = entries; methods = ms })
 of_tail bytes entries (Err e) = Err (fault_of bytes e)
 
-abbrev after_pool : List ℕ → Pool → Result ClassFile ClassFault
+abbrev after_pool : List ℕ → PoolAnswer → Result ClassFile ClassFault
 after_pool bytes (Ok (entries, after)) = of_tail bytes entries (read (tail entries) (drop after bytes))
 after_pool bytes (Err e) = Err (of_pool e)
 
@@ -47,7 +47,7 @@ after_pool bytes (Err e) = Err (of_pool e)
 data Comes (bytes : List ℕ) (answer : Result ClassFile ClassFault) : Type 0 where
   nowhere : LONGEST_FILE < length bytes → answer ≡ Err (fault.TooLong LONGEST_FILE) → Comes bytes answer
   to_head : length bytes ≤ LONGEST_FILE → (e : Failure) → read head bytes ≡ Err e → answer ≡ Err (fault_of bytes e) → Comes bytes answer
-  to_pool : length bytes ≤ LONGEST_FILE → HeadRead bytes → (p : Pool) → pool.IsAnswer bytes 8 p → answer ≡ after_pool bytes p → Comes bytes answer
+  to_pool : length bytes ≤ LONGEST_FILE → HeadRead bytes → (p : PoolAnswer) → pool.IsAnswer bytes 8 p → answer ≡ after_pool bytes p → Comes bytes answer
 
 head_read : (bytes : List ℕ) → HasHead bytes → HeadRead bytes
 head_read bytes h = (h.0, takes_read head bytes tt h.0 h.1)

@@ -5,7 +5,7 @@ pub use Rattle.pv_format.specs.SplitLaws.{body_again, body_back}
 pub use Rattle.pv_format.proofs.Pairs.{pairs_odd}
 pub use Rattle.pv_format.specs.ChoiceLaws.{choice_some}
 pub use Rattle.pv_format.proofs.Parts.{collected}
-pub use Rattle.pv_format.proofs.GrammarParts.{then_read, then_ok, then_err, read_bind, read_then, read_fails, read_give, read_here, read_check, read_times, steps}
+pub use Rattle.pv_format.proofs.GrammarParts.{then_read, then_ok, then_err, read_bind, read_then, read_fails, read_give, read_here, read_check, read_steps, read_times, steps}
 pub use Rattle.pv_format.proofs.GrammarReadings.{read_takes, takes_read, read_stops, stops_read, read_once, read_law, takes_then, then_takes, stops_first, stops_then, then_stops}
 pub use Rattle.pv_format.proofs.Bytes.{IsBytes, IsBytes-left, IsBytes-right, bytes_after, Then, Done, Number, Run, IsWide, wide8, wide16, wide32, wide64}
 pub use Rattle.pv_format.proofs.GrammarTexts.{IsTexts, same_texts, then_texts, check_texts, here_texts, give_texts, number_texts, run_texts, Follow, follow_texts, with_number, with_run, itself, HasLength, joined, ended, One, Many, times_texts, Table, table_texts}

@@ -49,9 +49,15 @@ pub read_check : {F A : Type 0} (c : Test) (e : F) (g : Grammar F A) (bytes : Li
 unfolding read
 read_check c e g bytes = refl
 
--- after i of n items
+-- after i of n steps, each in the state that those before it made
+pub read_steps : {F S A B : Type 0} (all : ℕ → S → Grammar F B) (one : S → Grammar F A) (next : S → A → S) → ((n : ℕ) (s : S) → all (suc n) s ≡ bind (one s) (λ x. all n (next s x)))
+    → (n i : ℕ) (s : S) (bytes : List ℕ) → i < n → read (all (n - i) s) bytes ≡ then_read (read (one s) bytes) (λ x rest. read (all (n - (i + 1)) (next s x)) rest)
+read_steps {F = F} {B = B} all one next step n i s bytes lt =
+    let e : n - i ≡ suc (n - (i + 1)) = omega arith in
+    ap (λ (m : ℕ). read (all m s) bytes) e ∙ ap (λ (g : Grammar F B). read g bytes) (step (n - (i + 1)) s) ∙ read_bind (one s) (λ x. all (n - (i + 1)) (next s x)) bytes
+
 pub read_times : {F A : Type 0} (n i : ℕ) (g : Grammar F A) (bytes : List ℕ) → i < n → read (times (n - i) g) bytes ≡ then_read (read g bytes) (λ x rest. read (times (n - (i + 1)) g) rest)
 unfolding times
-read_times n i g bytes lt = let e : n - i ≡ suc (n - (i + 1)) = omega arith in ap (λ (m : ℕ). read (times m g) bytes) e ∙ read_bind g (λ x. times (n - (i + 1)) g) bytes
+read_times n i g bytes lt = read_steps (λ n (s : Unit {0}). times n g) (λ s. g) (λ s x. s) (λ n s. refl) n i tt bytes lt
 
 pub ruleset steps = (then_ok, then_err, read_bind, read_give, read_here, read_check, read_times)

@@ -6,7 +6,6 @@ pub mod GrammarReadings
 pub mod Bytes
 pub mod GrammarTexts
 pub mod ManyReads
-pub mod MoreTexts
 pub mod Spellings
 pub mod FreeGrammars
 pub mod GrammarItems

@@ -1,9 +1,9 @@
 //! Class files (JVMS 4).
 //!
-//! This layer stands on `pv_format`, which has grammars of bytes, on `pv_pool`, which reads the
-//! constant pool, and on `pv_value`, which reads descriptors. It reads a class file front to back
-//! (JVMS 4.1, 4.5 to 4.7.3): it keeps the pool and the methods with their Codes, and of all else it
-//! tests what `ClassFiles` asks.
+//! This layer stands on `pv_format`, which has grammars of bytes and readers of single items, on
+//! `pv_pool`, which reads the constant pool, on `pv_list`, which has lists, and on `pv_value`, which
+//! reads descriptors. It reads a class file front to back (JVMS 4.1, 4.5 to 4.7.3): it keeps the pool
+//! and the methods with their Codes, and of all else it tests what `ClassFiles` asks.
 //!
 //! `specs/` holds what this meets, in the terms of the standard:
 //! - a class file by the spelling of its items and what they must be (`Items`, `ClassFiles`);
@@ -11,7 +11,9 @@
 //!   of class files (`Grammars`, `Checks`, `ClassGrammar`), in which each test holds the law that it
 //!   tells its fact (`CheckLaws`).
 //!
-//! The proofs join the spelling to the grammar by the texts that a grammar takes. The layers above
+//! The proofs join the spelling to the grammar by what a grammar spells (`Spells` of `pv_format`), put
+//! together as the grammar is; `takes_class` and `class_taken` of `proofs/ClassAgrees` say that both mean
+//! the same files. The layers above
 //! use the clauses `exact` and `only` of `read_class`: its answer is right, and no other is
 //! (`Answers`). They use that a file has one answer (`answer_once` of `proofs/Outcomes`), and that its
 //! codes are of bytes (`class_bytes` of `proofs/CodeBytes`). `Reading` and `Deciding` are private to

@@ -1,4 +1,8 @@
 //! Lists that own their elements.
+//!
+//! This layer stands on `std` alone. A `Listed` is a vector that upper layers see as the list of its
+//! elements, so that their definitions speak of lists. They use that it is made of a vector (`from`)
+//! and gives its elements in order (`as_slice`).
 #![tactic(auto)]
 
 use std::marker::Model;

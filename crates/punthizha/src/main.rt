@@ -4,12 +4,13 @@
 //! its status as a number.
 #![tactic(auto)]
 
-ghost use Rattle.std.specs.Prelude.{◌≡◌, ◌⊎◌, IfOk, List, ℕ};
+ghost use Rattle.std.specs.Prelude.{◌≡◌, ◌⊎◌, IfOk, List, None, Some, ℕ};
 ghost use Rattle.punthizha.specs.CommandLine.{after_name, bytes_of};
 ghost use Rattle.pv_base.specs.Outside.{Rose};
-ghost use Rattle.pv_top.specs.Words.{AreOn, Fetches, IsCheck, IsNoCommand, IsValidate, bad_words, texts};
+ghost use Rattle.pv_top.specs.Words.{IsCommand, first_of, second_of, texts};
+ghost use Rattle.pv_top.specs.declared.words.Command as commands;
 ghost use Rattle.pv_top.specs.Promise.{EachEquivalent};
-ghost use Rattle.pv_top.specs.Run.{Answered, AskedFor, SaidOf, SaidOfCert, Says};
+ghost use Rattle.pv_top.specs.Run.{Answered, CallsFor};
 
 use pv_base::{Files, HostFiles, HostSink, OpenGate, Sink};
 use pv_top::{Status, run};
@@ -53,11 +54,10 @@ fn run_words<R: AllocGlobal + Threads + Sync, F: Files, K: Sink>(
     files: &mut F,
     out: &mut K,
 ) -> Status
-    ensures equivalent { (a b : List ℕ) → AreOn (after_name words.now) a b → EachEquivalent (F.held files.old) a b (K.sent out.old) (K.sent out.new) }
-    ensures answered { (a b : List ℕ) → IsValidate (after_name words.now) a b → Answered (K.sent out.old) (K.sent out.new) (Rose (F.failures files.old) (F.failures files.new)) result (SaidOf (F.held files.old) a b (K.sent out.old) (K.sent out.new) (Rose (K.failures out.old) (K.failures out.new)) result) }
-    ensures checked { (a b cert : List ℕ) → IsCheck (after_name words.now) a b cert → Answered (K.sent out.old) (K.sent out.new) (Rose (F.failures files.old) (F.failures files.new)) result (SaidOfCert (F.held files.old) a b cert (K.sent out.old) (K.sent out.new) (Rose (K.failures out.old) (K.failures out.new)) result) }
-    ensures asked { (names : List (List ℕ)) → Fetches (after_name words.now) names → AskedFor (F.held files.old) (F.asked files.old) (F.asked files.new) names result }
-    ensures bad_words { IsNoCommand (after_name words.now) → (result ≡ Status.Memory) ⊎ Says (K.sent out.old) (K.sent out.new) bad_words Status.BadWords result (Rose (K.failures out.old) (K.failures out.new)) }
+    ensures equivalent { (c : commands.Command (List ℕ)) → IsCommand (after_name words.now) (Some c) → EachEquivalent (F.held files.old) (first_of c) (second_of c) (K.sent out.old) (K.sent out.new) }
+    ensures answered { (c : commands.Command (List ℕ)) → IsCommand (after_name words.now) (Some c) → Answered (F.held files.old) (Some c) (K.sent out.old) (K.sent out.new) (Rose (F.failures files.old) (F.failures files.new)) (Rose (K.failures out.old) (K.failures out.new)) result }
+    ensures asked { (c : commands.Command (List ℕ)) → IsCommand (after_name words.now) (Some c) → CallsFor (F.held files.old) (Some c) (F.asked files.old) (F.asked files.new) result }
+    ensures bad_words { IsCommand (after_name words.now) None → (result ≡ Status.Memory) ⊎ Answered (F.held files.old) None (K.sent out.old) (K.sent out.new) (Rose (F.failures files.old) (F.failures files.new)) (Rose (K.failures out.old) (K.failures out.new)) result }
 {
     let Ok(borrowed) = borrowed(rt.alloc(), words) else {
         return Status::Memory;

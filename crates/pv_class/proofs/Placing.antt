@@ -1,6 +1,6 @@
 -- The place of a method is the first at which its signature stands.
 use Rattle.std.proofs.Common.{◌≡◌, ℕ, zero, suc, ◌+◌, ◌<◌, ◌≤◌, Bool, true, false, cond, List, [], ◌∷◌, length, Option, Some, None, refl, sym, ap, subst, ◌∙◌, arith}
-use Rattle.std.specs.Prelude.{not, nat_lt, slice_get}
+use Rattle.std.specs.Prelude.{not, nat_lt, slice_get, IfSome}
 use Rattle.std.specs.List.{position, position_or_len}
 use Rattle.std.proofs.lemmas.Bool.{lt-ltb, ltb-true}
 use Rattle.pv_class.specs.declared.file.Method.{Method}
@@ -66,3 +66,8 @@ place_is ms s = by (nat_lt (first ms s) (length (signatures ms))) refl
 -- so it is where a copy of the name and of the descriptor is looked up
 pub place_found : (ms : List Method) (name desc n d : List ℕ) (known : List Signature) (o : Option ℕ) → n ≡ name → d ≡ desc → known ≡ signatures ms → o ≡ position (alike (record { name = n; desc = d })) known → IsPlaceOf ms name desc o
 place_found ms name desc n d known o p q r e = rw (e, r, p, q) (place_is ms (record { name = name; desc = desc }))
+
+-- a place is one of the methods
+pub place_within : (ms : List Method) (name desc : List ℕ) (o : Option ℕ) → IsPlaceOf ms name desc o → IfSome o (λ k. k < length ms)
+place_within ms name desc (Some k) h = within ms k h.0 h.1
+place_within ms name desc None h = tt

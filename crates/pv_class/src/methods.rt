@@ -1,6 +1,6 @@
 //! The methods of a class, with their places by name and descriptor.
 
-ghost use Rattle.std.specs.Prelude.{◌≡◌, IfOk};
+ghost use Rattle.std.specs.Prelude.{◌≡◌, ◌<◌, length, IfOk, IfSome};
 ghost use Rattle.pv_class.specs.ClassGrammar.{signatures};
 ghost use Rattle.pv_class.specs.Places.{IsPlaceOf};
 
@@ -48,7 +48,8 @@ impl Methods {
     /// The place of the method with this name and this descriptor; `None` where there is none. Out of memory is the one
     /// error.
     pub fn place_of(&self, name: &Name, desc: &Name) -> Result<Option<usize>, Memory>
-        ensures { IfOk result (λ found. IsPlaceOf self.now name.now desc.now found) }
+        ensures place { IfOk result (λ found. IsPlaceOf self.now name.now desc.now found) }
+        ensures within { IfOk result (λ found. IfSome found (λ place. place < length self.now)) }
     {
         let signature = Signature {
             name: name.clone()?,

@@ -1,41 +1,41 @@
--- What is said of two files that both have a reading.
-use Rattle.std.proofs.Common.{◌≡◌, ℕ, ◌≤◌, Bool, true, false, List, length, Result, Ok, Err}
-use Rattle.std.specs.Prelude.{IfOk}
-use Rattle.std.specs.Global.{Vec}
-use Rattle.pv_value.specs.declared.memory.Memory.{Memory}
-use Rattle.pv_class.specs.declared.file.ClassFile.{ClassFile}
-use Rattle.pv_class.specs.ClassFiles.{IsClass}
-use Rattle.pv_report.specs.declared.report.Fetched.{Fetched}
-use Rattle.pv_report.specs.declared.report.Judgement.{Judgement}
-use Rattle.pv_report.specs.declared.report.Judgement.TheVariants as judgement
+-- What is said of two files that were fetched.
+use Rattle.std.proofs.Common.{◌≡◌, ℕ, List, Ok, Err, inl, inr, subst, sym}
+use Rattle.std.specs.List.{AllZip, flat_map}
+use Rattle.pv_class.specs.declared.fault.ClassFault.{ClassFault}
+use Rattle.pv_report.specs.declared.pair.Fetched.{Fetched}
+use Rattle.pv_report.specs.declared.pair.Pair.{Pair}
+use Rattle.pv_report.specs.declared.pair.BadClass.{BadClass}
+use Rattle.pv_report.specs.declared.status.Status.{Status}
+use Rattle.pv_report.specs.declared.status.Status.TheVariants as status
+use Rattle.pv_report.specs.declared.verdict.Side.{Side}
+use Rattle.pv_report.specs.declared.verdict.Side.TheVariants as side
 use Rattle.pv_report.specs.declared.verdict.Verdict.{Verdict}
-use Rattle.pv_report.specs.declared.verdict.Verdict.TheVariants.{Equivalent}
 use Rattle.pv_report.specs.Verdicts.{IsVerdict}
-use Rattle.pv_report.specs.Lines.{line_of}
-use Rattle.pv_report.specs.Report.{IsReport, Judged}
-use Rattle.pv_report.proofs.SoFar.{SoFar, all_lines}
-use Rattle.pv_report.specs.Judging.{ReadsFetched, JudgesFetched, AreVerdicts, Compares}
+use Rattle.pv_report.specs.Lines.{bad_class, line_text}
+use Rattle.pv_report.specs.Report.{IsBadPair, IsReport, IsStatusOf, Judged, lines_of}
+use Rattle.pv_report.specs.Judging.{IsBadSide, JudgesFetched, ReadsPair}
 
-report_of : (a b : List ℕ) (one two : ClassFile) (verdicts : List Verdict) (text : List ℕ) → IsClass a one → IsClass b two → AreVerdicts one two one.methods verdicts text → IsReport a b verdicts text
-report_of a b one two verdicts text p q t = record { first = one; second = two; first_is = p; second_is = q; each = t.each; text_is = t.text_is }
+-- one of the two files has no reading
+pub bad_pair : (a b : List ℕ) (s : Side) (f : ClassFault) (text : List ℕ) → IsBadSide a b s f → text ≡ bad_class s f → IsBadPair a b text
+bad_pair a b side.First f text bad e = inl (f, bad, e)
+bad_pair a b side.Second f text bad e = inr (bad.0, (f, bad.1, e))
 
-judged_of : (a b : List ℕ) (one two : ClassFile) (text : List ℕ) (s : Judgement) → IsClass a one → IsClass b two → Compares one two text s → Judged a b text s
-judged_of a b one two text judgement.AllEquivalent p q h = (h.0, report_of a b one two h.0 text p q h.1, h.2)
-judged_of a b one two text judgement.Others p q h = (h.0, report_of a b one two h.0 text p q h.1, h.2)
-judged_of a b one two text judgement.BadClass p q h = absurd h
+pub bad_file : (first second : Fetched) (bad : BadClass) (text : List ℕ) (s : Status) → ReadsPair first second (Err bad) → text ≡ bad_class bad.side bad.fault → s ≡ status.BadClass → JudgesFetched first second text s
+bad_file first second bad text s read e is a b p q = subst (λ (x : Status). Judged a b text x) (sym is) (bad_pair a b bad.side bad.fault text (read a b p q) e)
 
-pub judges : (first second : Fetched) (one two : ClassFile) (r : Result (Vec ℕ × Judgement) Memory) → ReadsFetched first (Ok one) → ReadsFetched second (Ok two) → IfOk r (λ said. Compares one two said.0.items said.1)
-    → IfOk r (λ said. JudgesFetched first second said.0.items said.1)
-judges first second one two (Ok said) p q h = λ a b f s. judged_of a b one two said.0.items said.1 (p a f) (q b s) h
-judges first second one two (Err e) p q h = tt
+judged_by : (a b text : List ℕ) (verdicts : List Verdict) (s : Status) → IsReport a b verdicts text → IsStatusOf verdicts s → Judged a b text s
+judged_by a b text verdicts status.AllEquivalent r is = (verdicts, r, is)
+judged_by a b text verdicts status.Others r is = (verdicts, r, is)
+judged_by a b text verdicts status.BadClass r is = absurd is
+judged_by a b text verdicts status.BadCert r is = absurd is
+judged_by a b text verdicts status.BadWords r is = absurd is
+judged_by a b text verdicts status.ReadFault r is = absurd is
+judged_by a b text verdicts status.WriteFault r is = absurd is
+judged_by a b text verdicts status.Memory r is = absurd is
 
--- the report on the first i methods of a class
-abbrev pub IsReportSoFar : ClassFile → ClassFile → ℕ → List ℕ → Bool → Type 0
-IsReportSoFar first second i text all = SoFar (IsVerdict first second) line_of (λ v. v ≡ Equivalent) first.methods i text all
-
--- on all of them
-pub says_equivalent : (first second : ClassFile) (i : ℕ) (text : List ℕ) (all : Bool) → length first.methods ≤ i → IsReportSoFar first second i text all → all ≡ true → Compares first second text judgement.AllEquivalent
-says_equivalent first second i text all le so e = (so.answers, all_lines (IsVerdict first second) line_of (λ v. v ≡ Equivalent) first.methods i text all le so, so.each e)
-
-pub says_others : (first second : ClassFile) (i : ℕ) (text : List ℕ) (all : Bool) → length first.methods ≤ i → IsReportSoFar first second i text all → all ≡ false → Compares first second text judgement.Others
-says_others first second i text all le so e = (so.answers, all_lines (IsVerdict first second) line_of (λ v. v ≡ Equivalent) first.methods i text all le so, so.some e)
+-- both have one, and these are the verdicts
+pub judges : (first second : Fetched) (pair : Pair) (verdicts : List Verdict) (text : List ℕ) (s : Status) → ReadsPair first second (Ok pair) → AllZip (IsVerdict pair.first pair.second) pair.first.methods verdicts
+    → text ≡ flat_map line_text (lines_of pair.first.methods verdicts) → IsStatusOf verdicts s → JudgesFetched first second text s
+judges first second pair verdicts text s read each e is a b p q =
+    let both = read a b p q in
+    judged_by a b text verdicts s (record { first = pair.first; second = pair.second; first_is = both.0; second_is = both.1; each = each; text_is = e }) is

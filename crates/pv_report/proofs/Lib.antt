@@ -1,12 +1,13 @@
 pub mod Places
+pub mod Lists
 pub mod Naming
 pub mod Shown
-pub mod Likenesses
+pub mod Partnering
+pub mod Judgements
 pub mod SameFlows
 pub mod SameMeanings
 pub mod SameRoots
-pub mod SoFar
-pub mod Judgements
 pub mod ReadClasses
+pub mod VerdictOnce
 pub mod ReportOnce
 pub mod Cited

@@ -30,9 +30,10 @@ use Rattle.pv_build.specs.Unfolded.{IsUnfolded}
 use Rattle.pv_build.specs.Conversion.{Form, IsRootOf}
 use Rattle.pv_alike.specs.Least.{Rooted, IsLeast, IsLeastOf}
 use Rattle.pv_alike.proofs.Cited.{least_one}
-use Rattle.pv_report.specs.Roots.{HaveRoots, Alike, HaveLeast, IsWhole}
+use Rattle.pv_machine.specs.SameMeaning.{AreEquivalentMethods}
+use Rattle.pv_report.specs.Roots.{HaveRoots, Alike, HaveLeast, IsWhole, OnLeast}
 use Rattle.pv_report.proofs.SameFlows.{same_flow, alike_flows}
-use Rattle.pv_report.proofs.SameMeanings.{solved}
+use Rattle.pv_report.proofs.SameMeanings.{solved, same_meaning}
 
 -- ---- one flow of a method
 
@@ -106,10 +107,6 @@ sealed_nodes g h s = ap (λ (k : Graph). k.nodes) s.sealed
 pub sealed_within : (g h : Graph) (n : ℕ) → Sealed g h → n < length g.nodes → n < length h.nodes
 sealed_within g h n s lt = subst (λ (xs : List Node). n < length xs) (sym (sealed_nodes g h s)) lt
 
--- two numbers are equal where those that they are equal to are
-pub compared : (a b r s : ℕ) (P : Type 0) → a ≡ r → b ≡ s → (r ≡ s) ↔ P → (a ≡ b) ↔ P
-compared a b r s P p q same = (λ t. same.0 (sym p ∙ t ∙ q), λ is. p ∙ same.1 is ∙ sym q)
-
 -- ---- the least graph of two roots
 
 -- the least graph of nodes of a sealed graph was theirs before
@@ -128,3 +125,7 @@ answer_kept g h a b (Err e) s is = is
 -- its roots are one exactly where the two unfold equally
 pub alike_least : (first : ClassFile) (m : Method) (second : ClassFile) (p : Method) (l : Rooted) (h : HaveLeast first m second p l) → (l.first ≡ l.second) ↔ Alike h.roots
 alike_least first m second p l h = least_one h.least.least
+
+-- .. so that two methods of one root have the same meaning
+pub one_meaning : (first : ClassFile) (m : Method) (second : ClassFile) (p : Method) → OnLeast first m second p (λ l. l.first ≡ l.second) → p.desc ≡ m.desc → HasBytes m → HasBytes p → AreEquivalentMethods first m second p
+one_meaning first m second p (l, h, same) desc fm fp = same_meaning first m second p h.roots ((alike_least first m second p l h).0 same) desc fm fp

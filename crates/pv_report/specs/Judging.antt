@@ -4,20 +4,22 @@ use Rattle.pv_class.specs.declared.file.Method.{Method}
 use Rattle.pv_class.specs.declared.file.ClassFile.{ClassFile}
 use Rattle.pv_class.specs.declared.fault.ClassFault.{ClassFault}
 use Rattle.pv_class.specs.ClassFiles.{IsClass}
+use Rattle.pv_class.specs.ClassFaults.{IsBad}
 use Rattle.pv_class.specs.Answers.{IsAnswer}
 use Rattle.pv_class.specs.declared.class.TheConstants.{LONGEST_FILE}
-use Rattle.pv_report.specs.declared.report.Fetched.{Fetched}
-use Rattle.pv_report.specs.declared.report.Fetched.TheVariants.{Bytes, TooLong}
-use Rattle.pv_report.specs.declared.report.Judgement.{Judgement}
-use Rattle.pv_report.specs.declared.report.Judgement.TheVariants as judgement
+use Rattle.pv_report.specs.declared.pair.Fetched.{Fetched}
+use Rattle.pv_report.specs.declared.pair.Fetched.TheVariants.{Bytes, TooLong}
+use Rattle.pv_report.specs.declared.pair.Pair.{Pair}
+use Rattle.pv_report.specs.declared.pair.BadClass.{BadClass}
+use Rattle.pv_report.specs.declared.status.Status.{Status}
+use Rattle.pv_report.specs.declared.verdict.Side.{Side}
+use Rattle.pv_report.specs.declared.verdict.Side.TheVariants as side
 use Rattle.pv_report.specs.declared.verdict.Verdict.{Verdict}
 use Rattle.pv_alike.specs.Least.{Rooted}
 use Rattle.pv_report.specs.Roots.{HaveLeast}
 use Rattle.pv_report.specs.Verdicts.{LackRoots, IsVerdict, IsVerdictOn}
 use Rattle.pv_report.specs.Partners.{IsLike}
-use Rattle.pv_report.specs.Lines.{line_of}
-use Rattle.pv_report.specs.Listed.{AreLines}
-use Rattle.pv_report.specs.Report.{AreEquivalent, Judged}
+use Rattle.pv_report.specs.Report.{HasClass, Judged}
 
 -- a fetch with this limit gave these bytes
 abbrev pub IsFetchedWithin : ℕ → Fetched → List ℕ → Type 0
@@ -32,13 +34,33 @@ IsFetched fetched bytes = IsFetchedWithin LONGEST_FILE fetched bytes
 abbrev pub ReadsFetched : Fetched → Result ClassFile ClassFault → Type 0
 ReadsFetched fetched read = (bytes : List ℕ) → IsFetched fetched bytes → IsAnswer bytes read
 
+-- the classes of the bytes of two files, or the first of the two that has no reading
+abbrev pub IsPair : List ℕ → List ℕ → Pair → Type 0
+IsPair a b pair = IsClass a pair.first × IsClass b pair.second
+
+abbrev pub IsBadSide : List ℕ → List ℕ → Side → ClassFault → Type 0
+IsBadSide a b side.First fault = IsBad a fault
+IsBadSide a b side.Second fault = HasClass a × IsBad b fault
+
+abbrev pub IsPairOr : List ℕ → List ℕ → Result Pair BadClass → Type 0
+IsPairOr a b (Ok pair) = IsPair a b pair
+IsPairOr a b (Err bad) = IsBadSide a b bad.side bad.fault
+
+-- .. of the bytes that were fetched
+abbrev pub ReadsPair : Fetched → Fetched → Result Pair BadClass → Type 0
+ReadsPair first second read = (a b : List ℕ) → IsFetched first a → IsFetched second b → IsPairOr a b read
+
 -- what is said of the bytes that were fetched
-abbrev pub JudgesFetched : Fetched → Fetched → List ℕ → Judgement → Type 0
+abbrev pub JudgesFetched : Fetched → Fetched → List ℕ → Status → Type 0
 JudgesFetched first second text s = (a b : List ℕ) → IsFetched first a → IsFetched second b → Judged a b text s
 
 -- a class file that was read
 abbrev pub IsRead : ClassFile → Type 0
 IsRead file = (bytes : List ℕ) × IsClass bytes file
+
+-- two class files that were read
+abbrev pub IsReadPair : Pair → Type 0
+IsReadPair pair = IsRead pair.first × IsRead pair.second
 
 -- the verdict on the method at a place of the first class
 abbrev pub IsVerdictAt : ClassFile → ℕ → ClassFile → Verdict → Type 0
@@ -60,17 +82,3 @@ IsLeastOnPlaces first place second other found = (m p : Method) → slice_get fi
 -- the method at this place is like this one
 abbrev pub IsLikeAt : Method → List Method → ℕ → Type 0
 IsLikeAt m others place = (p : Method) × (slice_get others place ≡ Some p) × IsLike m p
-
--- the method at this place has this name and this descriptor
-abbrev pub IsNamedAt : List ℕ → List ℕ → List Method → ℕ → Type 0
-IsNamedAt name desc methods place = (m : Method) × (slice_get methods place ≡ Some m) × (m.name ≡ name) × (m.desc ≡ desc)
-
--- the lines of methods of the first class with these verdicts
-abbrev pub AreVerdicts : ClassFile → ClassFile → List Method → List Verdict → List ℕ → Type 0
-AreVerdicts first second methods verdicts text = AreLines (IsVerdict first second) line_of methods verdicts text
-
--- the lines of all methods of the first class
-abbrev pub Compares : ClassFile → ClassFile → List ℕ → Judgement → Type 0
-Compares first second text judgement.AllEquivalent = (verdicts : List Verdict) × AreVerdicts first second first.methods verdicts text × AreEquivalent verdicts
-Compares first second text judgement.Others = (verdicts : List Verdict) × AreVerdicts first second first.methods verdicts text × (AreEquivalent verdicts → ⊥)
-Compares first second text judgement.BadClass = ⊥

@@ -4,7 +4,7 @@ pub mod Roots
 pub mod Verdicts
 pub mod Lines
 pub mod Listed
+pub mod Statuses
 pub mod Report
 pub mod Judging
-pub mod Partnering
 pub mod Laws

@@ -10,8 +10,8 @@ use Rattle.pv_report.specs.declared.verdict.Side.{Side}
 use Rattle.pv_report.specs.declared.verdict.Side.TheVariants as side
 use Rattle.pv_report.specs.declared.verdict.Verdict.{Verdict}
 use Rattle.pv_report.specs.declared.verdict.Verdict.TheVariants.{Equivalent}
-use Rattle.pv_report.specs.declared.report.Judgement.{Judgement}
-use Rattle.pv_report.specs.declared.report.Judgement.TheVariants as judgement
+use Rattle.pv_report.specs.declared.status.Status.{Status}
+use Rattle.pv_report.specs.declared.status.Status.TheVariants as status
 use Rattle.pv_report.specs.Verdicts.{IsVerdict}
 use Rattle.pv_report.specs.Lines.{line_of, line_text, bad_class}
 use Rattle.pv_report.specs.Listed.{lines_by}
@@ -38,8 +38,17 @@ HasClass bytes = (file : ClassFile) × IsClass bytes file
 abbrev pub IsBadText : Side → List ℕ → List ℕ → Type 0
 IsBadText s bytes text = (f : ClassFault) × IsBad bytes f × (text ≡ bad_class s f)
 
--- The text for the bytes of two files, and the judgement: a report, or the first of the two that has no reading.
-abbrev pub Judged : List ℕ → List ℕ → List ℕ → Judgement → Type 0
-Judged a b text judgement.AllEquivalent = (verdicts : List Verdict) × IsReport a b verdicts text × AreEquivalent verdicts
-Judged a b text judgement.Others = (verdicts : List Verdict) × IsReport a b verdicts text × (AreEquivalent verdicts → ⊥)
-Judged a b text judgement.BadClass = IsBadText side.First a text ⊎ (HasClass a × IsBadText side.Second b text)
+-- each verdict says `equivalent`, or some says something else
+abbrev pub IsStatusOf : List Verdict → Status → Type 0
+IsStatusOf verdicts status.AllEquivalent = AreEquivalent verdicts
+IsStatusOf verdicts status.Others = AreEquivalent verdicts → ⊥
+IsStatusOf verdicts s = ⊥
+
+-- the first of the two files that has no reading, and what is said of it
+abbrev pub IsBadPair : List ℕ → List ℕ → List ℕ → Type 0
+IsBadPair a b text = IsBadText side.First a text ⊎ (HasClass a × IsBadText side.Second b text)
+
+-- The text for the bytes of two files, and the status: a report, or the first of the two that has no reading.
+abbrev pub Judged : List ℕ → List ℕ → List ℕ → Status → Type 0
+Judged a b text status.BadClass = IsBadPair a b text
+Judged a b text s = (verdicts : List Verdict) × IsReport a b verdicts text × IsStatusOf verdicts s

@@ -29,3 +29,7 @@ pub record IsWhole (g : Graph) : Type 0 where
 pub record HaveLeast (first : ClassFile) (m : Method) (second : ClassFile) (p : Method) (l : Rooted) : Type 0 where
   pub roots : HaveRoots first m second p
   pub least : IsLeastOf roots.graph roots.root roots.other l
+
+-- .. of which this is so
+abbrev pub OnLeast : ClassFile → Method → ClassFile → Method → (Rooted → Type 0) → Type 0
+OnLeast first m second p Is = (l : Rooted) × HaveLeast first m second p l × Is l

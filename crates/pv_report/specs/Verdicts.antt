@@ -1,5 +1,5 @@
 -- What is said of a method: the first of these cases that holds.
-use Rattle.std.specs.Prelude.{◌≡◌, Some, None}
+use Rattle.std.specs.Prelude.{◌≡◌, ◌≢◌, Some, None}
 use Rattle.pv_class.specs.declared.file.ClassFile.{ClassFile}
 use Rattle.pv_class.specs.declared.file.Method.{Method}
 use Rattle.pv_class.specs.declared.file.Code.{Code}
@@ -8,7 +8,7 @@ use Rattle.pv_report.specs.declared.verdict.Side.TheVariants as side
 use Rattle.pv_report.specs.declared.verdict.Verdict.{Verdict}
 use Rattle.pv_report.specs.declared.verdict.Verdict.TheVariants as verdict
 use Rattle.pv_report.specs.Partners.{IsPartner}
-use Rattle.pv_report.specs.Roots.{HaveRoots, Alike}
+use Rattle.pv_report.specs.Roots.{OnLeast}
 
 abbrev pub HasCode : Method → Type 0
 HasCode m = (code : Code) × (m.code ≡ Some code)
@@ -21,10 +21,10 @@ LackRoots first m second p (verdict.Refused side.First cause) = HasCode p × Mee
 LackRoots first m second p (verdict.Refused side.Second cause) = Form first m × Meets second p cause
 LackRoots first m second p v = ⊥
 
--- the verdict on the two
+-- the verdict on the two, by the least graph of their roots
 abbrev pub IsVerdictOn : ClassFile → Method → ClassFile → Method → Verdict → Type 0
-IsVerdictOn first m second p verdict.Equivalent = (r : HaveRoots first m second p) × Alike r
-IsVerdictOn first m second p verdict.Apart = (r : HaveRoots first m second p) × (Alike r → ⊥)
+IsVerdictOn first m second p verdict.Equivalent = OnLeast first m second p (λ l. l.first ≡ l.second)
+IsVerdictOn first m second p verdict.Apart = OnLeast first m second p (λ l. l.first ≢ l.second)
 IsVerdictOn first m second p v = LackRoots first m second p v
 
 -- the verdict on a method of the first class

@@ -1,114 +1,90 @@
 //! What is said of two files.
 
-ghost use Rattle.std.specs.Prelude.{◌≡◌, ◌↔◌, IfOk, IsTrue};
-ghost use Rattle.pv_class.specs.Answers.{IsAnswer};
-ghost use Rattle.pv_report.specs.Lines.{bad_class};
-ghost use Rattle.pv_report.specs.Judging.{IsRead, ReadsFetched, JudgesFetched, Compares};
+ghost use Rattle.std.specs.Prelude.{◌≡◌, ◌↔◌, length, IfOk, IsTrue};
+ghost use Rattle.std.specs.List.{AllZip, flat_map};
+ghost use Rattle.pv_report.specs.Lines.{bad_class, line_text};
+ghost use Rattle.pv_report.specs.Report.{IsStatusOf, lines_of};
+ghost use Rattle.pv_report.specs.Verdicts.{IsVerdict};
+ghost use Rattle.pv_report.specs.Judging.{IsReadPair, JudgesFetched};
 
 use crate::line::{push_bad_class, push_line};
-use crate::partners::Partners;
-use crate::verdict::{Side, Verdict, verdict_on};
-use pv_class::{ClassFault, ClassFile, LONGEST_FILE, read_class};
+use crate::pair::{BadClass, Fetched, Pair, read_pair};
+use crate::status::Status;
+use crate::verdict::{Verdict, verdict_on};
+use pv_class::Method;
 use pv_value::Memory;
 use std::alloc::{AllocError, Global};
 
-/// What a fetch gave: the bytes of a file, or that there are more of them than its limit.
+/// What there is to say, and the status that goes with it.
 #[derive(Drop)]
-pub enum Fetched {
-    Bytes(Vec<u8>),
-    TooLong,
+pub struct Answer {
+    pub text: Vec<u8>,
+    pub status: Status,
 }
 
-/// How a report went.
-#[derive(Clone, Copy, Debug, PartialEq, Eq)]
-pub enum Judgement {
-    /// Each line says `equivalent`; so it is too where there is none.
-    AllEquivalent,
-    /// Some line says something else.
-    Others,
-    /// One of the two files has no reading as a class file.
-    BadClass,
-}
-
-/// What is said of two files, and how that went: a line for each method of the first, in its order, or one line on the
-/// first of the two that is no class file. The limit of the fetches is `LONGEST_FILE`. Out of memory is the one error.
-pub fn judge(
-    alloc: Global,
-    first: &Fetched,
-    second: &Fetched,
-) -> Result<(Vec<u8>, Judgement), Memory>
-    ensures { IfOk result (λ said. JudgesFetched first.now second.now said.0.items said.1) }
+/// What is said of two files: a line for each method of the first, in its order, or one line on the first of the two that
+/// is no class file. The limit of the fetches is `LONGEST_FILE`. Out of memory is the one error.
+pub fn judge(alloc: Global, first: &Fetched, second: &Fetched) -> Result<Answer, Memory>
+    ensures { IfOk result (λ answer. JudgesFetched first.now second.now answer.text.items answer.status) }
 {
-    let one = match class_of(alloc, first)? {
-        Ok(file) => file,
-        Err(fault) => return Ok((bad_class(alloc, Side::First, fault)?, Judgement::BadClass)),
+    let pair = match read_pair(alloc, first, second)? {
+        Ok(pair) => pair,
+        Err(bad) => return Ok(bad_class(alloc, bad)?),
     };
-    let two = match class_of(alloc, second)? {
-        Ok(file) => file,
-        Err(fault) => return Ok((bad_class(alloc, Side::Second, fault)?, Judgement::BadClass)),
-    };
-    compare(alloc, &one, &two)
+    let verdicts = verdicts(alloc, &pair)?;
+    let text = lines(alloc, pair.first.methods.as_slice(), &verdicts)?;
+    let status = status_of(&verdicts);
+    Ok(Answer { text, status })
 }
 
-// The class that a file holds, or its fault.
-fn class_of(alloc: Global, fetched: &Fetched) -> Result<Result<ClassFile, ClassFault>, Memory>
-    ensures reads { IfOk result (λ read. ReadsFetched fetched.now read) }
-    ensures class { IfOk result (λ read. IfOk read (λ file. IsRead file)) }
-{
-    match fetched {
-        Fetched::Bytes(bytes) => class_in(alloc, bytes),
-        Fetched::TooLong => Ok(Err(ClassFault::TooLong(LONGEST_FILE))),
-    }
-}
-
-/// The class that some bytes are, or their fault. Out of memory is the one error.
-pub fn class_in(alloc: Global, bytes: &[u8]) -> Result<Result<ClassFile, ClassFault>, Memory>
-    ensures { IfOk result (λ read. IsAnswer bytes.now read) }
-{
-    match read_class(alloc, bytes) {
-        Ok(file) => Ok(Ok(file)),
-        Err(fault) => match fault {
-            ClassFault::Memory => Err(Memory),
-            fault => Ok(Err(fault)),
-        },
-    }
-}
-
-/// The line on a file that is no class file. Out of memory is the one error.
-pub fn bad_class(alloc: Global, side: Side, fault: ClassFault) -> Result<Vec<u8>, AllocError>
-    ensures { IfOk result (λ text. text.items ≡ bad_class side fault) }
+/// What is said of a file that is no class file. Out of memory is the one error.
+pub fn bad_class(alloc: Global, bad: BadClass) -> Result<Answer, AllocError>
+    ensures text { IfOk result (λ answer. answer.text.items ≡ bad_class bad.side bad.fault) }
+    ensures status { IfOk result (λ answer. answer.status ≡ Status.BadClass) }
 {
     let mut text = Vec::new(alloc);
-    push_bad_class(alloc, &mut text, side, fault)?;
+    push_bad_class(alloc, &mut text, bad.side, bad.fault)?;
+    Ok(Answer {
+        text,
+        status: Status::BadClass,
+    })
+}
+
+// The verdicts on the methods of the first class, in their order.
+fn verdicts(alloc: Global, pair: &Pair) -> Result<Vec<Verdict>, Memory>
+    requires { IsReadPair pair.now }
+    ensures { IfOk result (λ verdicts. AllZip (IsVerdict pair.now.first pair.now.second) pair.now.first.methods verdicts.items) }
+{
+    let mut verdicts = Vec::new(alloc);
+    for place in 0..pair.first.methods.as_slice().len() {
+        let verdict = verdict_on(alloc, pair, place)?;
+        verdicts.push(verdict)?;
+    }
+    Ok(verdicts)
+}
+
+// The lines of methods, each with its verdict.
+fn lines(alloc: Global, methods: &[Method], verdicts: &[Verdict]) -> Result<Vec<u8>, AllocError>
+    requires { length verdicts.now ≡ length methods.now }
+    ensures { IfOk result (λ text. text.items ≡ flat_map line_text (lines_of methods.now verdicts.now)) }
+{
+    let mut text = Vec::new(alloc);
+    for k in 0..methods.len() {
+        push_line(alloc, &mut text, &methods[k], verdicts[k])?;
+    }
     Ok(text)
 }
 
-// The lines of the methods of the first class, and whether each of them says `equivalent`.
-fn compare(
-    alloc: Global,
-    first: &ClassFile,
-    second: &ClassFile,
-) -> Result<(Vec<u8>, Judgement), Memory>
-    requires first { IsRead first.now }
-    requires second { IsRead second.now }
-    ensures { IfOk result (λ said. Compares first.now second.now said.0.items said.1) }
+// The status that goes with these verdicts.
+fn status_of(verdicts: &[Verdict]) -> Status
+    ensures { IsStatusOf verdicts.now result }
 {
-    let mut text = Vec::new(alloc);
-    let mut all_equivalent = true;
-    let partners = Partners::new(alloc, second.methods.as_slice())?;
-    let methods = first.methods.as_slice();
-    for place in 0..methods.len() {
-        let verdict = verdict_on(alloc, first, place, second, &partners)?;
-        push_line(alloc, &mut text, &methods[place], verdict)?;
-        if !is_equivalent(verdict) {
-            all_equivalent = false;
+    for verdict in verdicts {
+        if !is_equivalent(*verdict) {
+            return Status::Others;
         }
     }
-    if all_equivalent {
-        Ok((text, Judgement::AllEquivalent))
-    } else {
-        Ok((text, Judgement::Others))
-    }
+    Status::AllEquivalent
 }
 
 fn is_equivalent(verdict: Verdict) -> bool

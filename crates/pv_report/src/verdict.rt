@@ -5,10 +5,10 @@ ghost use Rattle.pv_class.specs.declared.file.Method.{Method};
 ghost use Rattle.pv_alike.specs.Least.{IsLeastOf};
 ghost use Rattle.pv_report.specs.Roots.{IsWhole};
 ghost use Rattle.pv_report.specs.Verdicts.{HasCode};
-ghost use Rattle.pv_report.specs.Judging.{IsRead, IsLeastOnPlaces, IsVerdictAt, IsVerdictOnPlaces};
-ghost use Rattle.pv_report.specs.Partnering.{IsIndexFor};
+ghost use Rattle.pv_report.specs.Judging.{IsRead, IsReadPair, IsLeastOnPlaces, IsVerdictAt, IsVerdictOnPlaces};
 
-use crate::partners::{Partners, partner_of};
+use crate::pair::Pair;
+use crate::partners::partner_of;
 use pv_alike::{Least, least};
 use pv_build::convert;
 use pv_class::ClassFile;
@@ -39,24 +39,16 @@ pub enum Verdict {
     Apart,
 }
 
-/// The verdict on the method at a place of the first class, where the other is the second.
-pub(crate) fn verdict_on(
-    alloc: Global,
-    first: &ClassFile,
-    method: usize,
-    second: &ClassFile,
-    partners: &Partners,
-) -> Result<Verdict, Memory>
-    requires first { IsRead first.now }
-    requires second { IsRead second.now }
-    requires there { method < length first.now.methods }
-    requires partners { IsIndexFor second.now.methods partners.now }
-    ensures { IfOk result (λ verdict. IsVerdictAt first.now method second.now verdict) }
+/// The verdict on the method at a place of the first class.
+pub(crate) fn verdict_on(alloc: Global, pair: &Pair, method: usize) -> Result<Verdict, Memory>
+    requires read { IsReadPair pair.now }
+    requires there { method < length pair.now.first.methods }
+    ensures { IfOk result (λ verdict. IsVerdictAt pair.now.first method pair.now.second verdict) }
 {
-    let one = &first.methods.as_slice()[method];
-    match partner_of(one, second.methods.as_slice(), partners)? {
+    let one = &pair.first.methods.as_slice()[method];
+    match partner_of(one, &pair.second.methods)? {
         None => Ok(Verdict::Missing),
-        Some(partner) => verdict_with(alloc, first, method, second, partner),
+        Some(partner) => verdict_with(alloc, &pair.first, method, &pair.second, partner),
     }
 }
 

@@ -1,7 +1,6 @@
 -- What is said of a section, from the places of its methods.
-use Rattle.std.proofs.Common.{◌≡◌, ℕ, ◌<◌, List, length, Result, Ok, Err, Some, false, subst, sym, ◌∙◌}
+use Rattle.std.proofs.Common.{◌≡◌, ℕ, ◌<◌, List, length, Result, Ok, Err, Some, None, false, subst, sym, ◌∙◌}
 use Rattle.std.specs.Prelude.{slice_get, IfOk}
-use Rattle.std.proofs.lemmas.Option.{slice_get_within}
 use Rattle.pv_alike.specs.Least.{Rooted}
 use Rattle.pv_value.specs.declared.memory.Memory.{Memory}
 use Rattle.pv_class.specs.declared.file.ClassFile.{ClassFile}
@@ -9,7 +8,8 @@ use Rattle.pv_class.specs.declared.file.Method.{Method}
 use Rattle.pv_cert.specs.declared.cert.Section.{Section}
 use Rattle.pv_report.specs.declared.verdict.Verdict.{Verdict}
 use Rattle.pv_report.specs.declared.verdict.Verdict.TheVariants as verdict
-use Rattle.pv_report.specs.Judging.{IsRead, IsLeastOnPlaces, IsLikeAt, IsNamedAt}
+use Rattle.pv_class.specs.Places.{IsNamedAt, IsPlaceOf}
+use Rattle.pv_report.specs.Judging.{IsRead, IsLeastOnPlaces, IsLikeAt}
 use Rattle.pv_report.specs.Partners.{IsNamed, IsPartner}
 use Rattle.pv_report.specs.Verdicts.{LackRoots}
 use Rattle.pv_report.proofs.Cited.{contains_here, place_of, slice_at, slice_once}
@@ -26,20 +26,19 @@ named_once file name desc m x k (bytes, is) named at p q =
     slice_once file.methods k m x (subst (λ (i : ℕ). slice_get file.methods i ≡ Some m) same place.1) at
 
 -- the method at the place that was found is that of the section
-at_place : (file : ClassFile) (name desc : List ℕ) (k : ℕ) (x : Method) → IsNamedAt name desc file.methods k → slice_get file.methods k ≡ Some x → IsNamed name desc file.methods x
+at_place : (file : ClassFile) (name desc : List ℕ) (k : ℕ) (x : Method) → IsNamedAt file.methods name desc k → slice_get file.methods k ≡ Some x → IsNamed name desc file.methods x
 at_place file name desc k x found at =
     let same = slice_once file.methods k found.0 x found.1 at in
     subst (IsNamed name desc file.methods) same (record { among = contains_here file.methods k found.0 found.1; name_is = found.2; desc_is = found.3 })
 
-pub place_within : (file : ClassFile) (name desc : List ℕ) (k : ℕ) → IsNamedAt name desc file.methods k → k < length file.methods
-place_within file name desc k found = slice_get_within file.methods k found.0 found.1
-
 -- there is no such method
-pub none_named : (first second : ClassFile) (s : Section) → ((m : Method) → IsNamed s.name s.desc first.methods m → ⊥) → AreMissing first second s
-none_named first second s none m p are = none m are.named
+pub none_named : (first second : ClassFile) (s : Section) → IsPlaceOf first.methods s.name s.desc None → AreMissing first second s
+none_named first second s none m p are =
+    let place = place_of first.methods m are.named.among in
+    none place.0 (m, place.1, are.named.name_is, are.named.desc_is)
 
 -- it has no partner, so that the two are missing
-pub without_partner : (first second : ClassFile) (s : Section) (k : ℕ) (x : Method) → IsRead first → IsNamedAt s.name s.desc first.methods k → slice_get first.methods k ≡ Some x → ((p : Method) → IsPartner x second.methods p → ⊥) → AreMissing first second s
+pub without_partner : (first second : ClassFile) (s : Section) (k : ℕ) (x : Method) → IsRead first → IsNamedAt first.methods s.name s.desc k → slice_get first.methods k ≡ Some x → ((p : Method) → IsPartner x second.methods p → ⊥) → AreMissing first second s
 without_partner first second s k x read found at none m p are =
     let named = at_place first s.name s.desc k x found at in
     let same = named_once first s.name s.desc m x k read are.named at named.name_is named.desc_is in
@@ -62,7 +61,7 @@ as_finding first second s m p (finding.Verdict verdict.Apart) are on = (m, p, ar
 as_finding first second s m p (finding.Rejected n) are on = (m, p, are, on)
 
 -- what is said of the methods at their places is said of the section
-pub finding_at : (first second : ClassFile) (s : Section) (k j : ℕ) (x : Method) (r : Result Finding Memory) → IsNamedAt s.name s.desc first.methods k → slice_get first.methods k ≡ Some x → IsLikeAt x second.methods j
+pub finding_at : (first second : ClassFile) (s : Section) (k j : ℕ) (x : Method) (r : Result Finding Memory) → IsNamedAt first.methods s.name s.desc k → slice_get first.methods k ≡ Some x → IsLikeAt x second.methods j
     → IfOk r (λ f. IsFindingOnPlaces first k second j s f) → IfOk r (λ f. IsFinding first second s f)
 finding_at first second s k j x (Ok f) found at like h =
     let partner : IsPartner x second.methods like.0 = record { among = contains_here second.methods j like.0 like.1; like = like.2 } in

@@ -1,41 +1,31 @@
 -- What was fetched and read, and what is said of it.
 use Rattle.std.specs.Prelude.{◌≡◌, ◌≢◌, ℕ, List, Option, Some, None, Result, Ok, Err, slice_get}
-use Rattle.std.specs.List.{AllByRecursion}
 use Rattle.sha2.specs.Sha256.{sha256}
 use Rattle.pv_class.specs.declared.file.ClassFile.{ClassFile}
 use Rattle.pv_class.specs.declared.file.Method.{Method}
-use Rattle.pv_class.specs.declared.fault.ClassFault.{ClassFault}
-use Rattle.pv_class.specs.ClassFiles.{IsClass}
-use Rattle.pv_class.specs.ClassFaults.{IsBad}
 use Rattle.pv_cert.specs.declared.cert.Cert.{Cert}
 use Rattle.pv_cert.specs.declared.cert.Section.{Section}
-use Rattle.pv_report.specs.declared.report.Fetched.{Fetched}
+use Rattle.pv_report.specs.declared.pair.Fetched.{Fetched}
+use Rattle.pv_report.specs.declared.pair.Fetched.TheVariants.{Bytes, TooLong}
+use Rattle.pv_report.specs.declared.status.Status.{Status}
+use Rattle.pv_report.specs.declared.verdict.Side.TheVariants as side
 use Rattle.pv_report.specs.Judging.{IsFetched, IsFetchedWithin}
-use Rattle.pv_report.specs.Listed.{AreLines}
 use Rattle.pv_sections.specs.declared.certificate.TheConstants.{LONGEST_CERT}
 use Rattle.pv_sections.specs.declared.finding.Finding.{Finding}
-use Rattle.pv_report.specs.declared.verdict.Side.TheVariants as side
 use Rattle.pv_sections.specs.declared.flaw.Flaw.{Flaw}
 use Rattle.pv_sections.specs.declared.flaw.Flaw.TheVariants.{OtherFile}
-use Rattle.pv_sections.specs.declared.report.Digested.{Digested}
-use Rattle.pv_sections.specs.declared.report.Ruling.{Ruling}
-use Rattle.pv_sections.specs.declared.report.Ruling.TheVariants.{AllEquivalent, Others}
-use Rattle.pv_sections.specs.Findings.{IsFinding, IsFindingOn}
+use Rattle.pv_sections.specs.Findings.{IsFindingOn}
 use Rattle.pv_sections.specs.Flaws.{IsCert, IsFlaw}
-use Rattle.pv_sections.specs.Lines.{section_line}
-use Rattle.pv_sections.specs.Ruled.{Ruled, SaysEquivalent}
+use Rattle.pv_sections.specs.Ruled.{Ruled}
 
 -- what is said of the bytes that were fetched
-abbrev pub RulesFetched : Fetched → Fetched → Fetched → List ℕ → Ruling → Type 0
-RulesFetched first second cert text ruling = (a b c : List ℕ) → IsFetched first a → IsFetched second b → IsFetchedWithin LONGEST_CERT cert c → Ruled a b c text ruling
+abbrev pub RulesFetched : Fetched → Fetched → Fetched → List ℕ → Status → Type 0
+RulesFetched first second cert text s = (a b c : List ℕ) → IsFetched first a → IsFetched second b → IsFetchedWithin LONGEST_CERT cert c → Ruled a b c text s
 
--- the class that some bytes are with their digest, or their fault
-abbrev pub IsDigested : List ℕ → Result Digested ClassFault → Type 0
-IsDigested bytes (Ok d) = IsClass bytes d.class × (d.digest ≡ sha256 bytes)
-IsDigested bytes (Err f) = IsBad bytes f
-
-abbrev pub DigestsFetched : Fetched → Result Digested ClassFault → Type 0
-DigestsFetched fetched read = (bytes : List ℕ) → IsFetched fetched bytes → IsDigested bytes read
+-- the digest of the bytes that were fetched, where they were
+abbrev pub IsDigestOf : Fetched → List ℕ → Type 0
+IsDigestOf (Bytes v) digest = digest ≡ sha256 v.items
+IsDigestOf TooLong digest = Unit {0}
 
 -- the certificate that some bytes are, or why they are none for any files
 abbrev pub IsCertOr : List ℕ → Result Cert Flaw → Type 0
@@ -48,16 +38,6 @@ CertFetched fetched read = (bytes : List ℕ) → IsFetchedWithin LONGEST_CERT f
 -- what is said of a section on two methods at their places
 abbrev pub IsFindingOnPlaces : ClassFile → ℕ → ClassFile → ℕ → Section → Finding → Type 0
 IsFindingOnPlaces first place second other s f = (m p : Method) → slice_get first.methods place ≡ Some m → slice_get second.methods other ≡ Some p → IsFindingOn first m second p s f
-
--- the lines of sections with these findings
-abbrev pub AreFindings : ClassFile → ClassFile → List Section → List Finding → List ℕ → Type 0
-AreFindings first second sections findings text = AreLines (IsFinding first second) section_line sections findings text
-
--- the lines of all sections
-abbrev pub Finds : ClassFile → ClassFile → List Section → List ℕ → Ruling → Type 0
-Finds first second sections text AllEquivalent = (findings : List Finding) × AreFindings first second sections findings text × AllByRecursion SaysEquivalent findings
-Finds first second sections text Others = (findings : List Finding) × AreFindings first second sections findings text × (AllByRecursion SaysEquivalent findings → ⊥)
-Finds first second sections text ruling = ⊥
 
 -- the certificate names the files with these digests, or a flaw says which it doesn't
 abbrev pub IsOther : Cert → List ℕ → List ℕ → Option Flaw → Type 0

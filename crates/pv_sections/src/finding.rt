@@ -1,8 +1,7 @@
 //! What is said of a section.
 
-ghost use Rattle.std.specs.Prelude.{◌≡◌, ◌<◌, IfOk, Some, length, slice_get};
-ghost use Rattle.pv_report.specs.Judging.{IsNamedAt, IsRead};
-ghost use Rattle.pv_report.specs.Partnering.{IsIndexFor};
+ghost use Rattle.std.specs.Prelude.{◌≡◌, ◌<◌, IfOk, length};
+ghost use Rattle.pv_report.specs.Judging.{IsReadPair};
 ghost use Rattle.pv_sections.specs.Findings.{IsFinding};
 ghost use Rattle.pv_sections.specs.Reading.{IsFindingOnPlaces};
 
@@ -10,8 +9,7 @@ use pv_axioms::Axioms;
 use pv_base::Gate;
 use pv_cert::Section;
 use pv_check::{Checked, Checker};
-use pv_class::ClassFile;
-use pv_report::{Partners, Verdict, least_roots, named, partner_of};
+use pv_report::{Pair, Verdict, least_roots, partner_of};
 use pv_value::Memory;
 use std::alloc::Global;
 
@@ -26,56 +24,24 @@ pub enum Finding {
     Rejected(usize),
 }
 
-/// The two classes of which sections speak, with the places of their methods.
-#[derive(Clone, Copy)]
-pub(crate) struct Classes<'a> {
-    pub first: &'a ClassFile,
-    pub in_first: &'a Partners,
-    pub second: &'a ClassFile,
-    pub in_second: &'a Partners,
-}
-
 /// What is said of a section for two classes.
 pub(crate) fn find<G: Gate>(
     alloc: Global,
     gate: &G,
     axioms: &Axioms,
-    classes: &Classes,
+    pair: &Pair,
     section: &Section,
 ) -> Result<Finding, Memory>
-    requires first { IsRead classes.now.first.now }
-    requires second { IsRead classes.now.second.now }
-    requires in_first { IsIndexFor classes.now.first.now.methods classes.now.in_first.now }
-    requires in_second { IsIndexFor classes.now.second.now.methods classes.now.in_second.now }
-    ensures { IfOk result (λ finding. IsFinding classes.now.first.now classes.now.second.now section.now finding) }
+    requires { IsReadPair pair.now }
+    ensures { IfOk result (λ finding. IsFinding pair.now.first pair.now.second section.now finding) }
 {
-    let methods = classes.first.methods.as_slice();
-    match named(&section.name, &section.desc, methods, classes.in_first)? {
+    let methods = &pair.first.methods;
+    let Some(method) = methods.place_of(&section.name, &section.desc)? else {
+        return Ok(Finding::Verdict(Verdict::Missing));
+    };
+    match partner_of(&methods.as_slice()[method], &pair.second.methods)? {
         None => Ok(Finding::Verdict(Verdict::Missing)),
-        Some(method) => find_at(alloc, gate, axioms, classes, method, section),
-    }
-}
-
-// What is said of a section, where the method that it names is at this place of the first class.
-fn find_at<G: Gate>(
-    alloc: Global,
-    gate: &G,
-    axioms: &Axioms,
-    classes: &Classes,
-    method: usize,
-    section: &Section,
-) -> Result<Finding, Memory>
-    requires first { IsRead classes.now.first.now }
-    requires second { IsRead classes.now.second.now }
-    requires in_second { IsIndexFor classes.now.second.now.methods classes.now.in_second.now }
-    requires there { method < length classes.now.first.now.methods }
-    requires named { IsNamedAt section.now.name section.now.desc classes.now.first.now.methods method }
-    ensures { IfOk result (λ finding. IsFinding classes.now.first.now classes.now.second.now section.now finding) }
-{
-    let one = &classes.first.methods.as_slice()[method];
-    match partner_of(one, classes.second.methods.as_slice(), classes.in_second)? {
-        None => Ok(Finding::Verdict(Verdict::Missing)),
-        Some(partner) => find_on(alloc, gate, axioms, classes, method, partner, section),
+        Some(partner) => find_on(alloc, gate, axioms, pair, method, partner, section),
     }
 }
 
@@ -84,18 +50,17 @@ fn find_on<G: Gate>(
     alloc: Global,
     gate: &G,
     axioms: &Axioms,
-    classes: &Classes,
+    pair: &Pair,
     method: usize,
     partner: usize,
     section: &Section,
 ) -> Result<Finding, Memory>
-    requires first { IsRead classes.now.first.now }
-    requires second { IsRead classes.now.second.now }
-    requires method { method < length classes.now.first.now.methods }
-    requires partner { partner < length classes.now.second.now.methods }
-    ensures { IfOk result (λ finding. IsFindingOnPlaces classes.now.first.now method classes.now.second.now partner section.now finding) }
+    requires read { IsReadPair pair.now }
+    requires method { method < length pair.now.first.methods }
+    requires partner { partner < length pair.now.second.methods }
+    ensures { IfOk result (λ finding. IsFindingOnPlaces pair.now.first method pair.now.second partner section.now finding) }
 {
-    let least = match least_roots(alloc, classes.first, method, classes.second, partner)? {
+    let least = match least_roots(alloc, &pair.first, method, &pair.second, partner)? {
         Ok(least) => least,
         Err(verdict) => return Ok(Finding::Verdict(verdict)),
     };

@@ -1,11 +1,11 @@
 //! The report on the sections of a certificate for two class files.
 //!
 //! This layer stands on `pv_cert`, which reads certificates, on `pv_check`, which decides sections, on `pv_report` for
-//! class files, the places of methods, the least graph of two methods' roots and the words of lines, on `pv_base` for the
+//! the pair of classes, partners, the least graph of two methods' roots and the words of lines, on `pv_base` for the
 //! gate that `pv_check` passes, and on those below them. `specs/` says why a certificate is not one for two files (`Flaws`), what is said of a section (`Findings`), what
 //! the lines are (`Lines`), and what the report is (`Ruled`).
 //!
-//! The layer above uses the clause of `rule`: the text and the ruling are those of the bytes that were fetched
+//! The layer above uses the clause of `rule`: the text and the status are those of the bytes that were fetched
 //! (`RulesFetched` of `specs/Reading`), whatever the gate; and, of `proofs/Cited`, that a method and its partner have the
 //! same meaning where a section on them is accepted (`accepted_meaning`). The rest of `Reading` is private to this crate.
 #![tactic(auto)]
@@ -19,4 +19,4 @@ mod report;
 pub use certificate::LONGEST_CERT;
 pub use finding::Finding;
 pub use flaw::Flaw;
-pub use report::{Ruling, rule};
+pub use report::rule;

@@ -8,7 +8,7 @@ ghost use Rattle.pv_sections.specs.Lines.{bad_certificate, cert_fault_text, find
 use crate::finding::Finding;
 use crate::flaw::Flaw;
 use pv_cert::{CertFault, Section};
-use pv_report::{push_method, push_verdict, side_word};
+use pv_report::{Answer, Status, push_method, push_verdict, side_word};
 use std::alloc::{AllocError, Global};
 
 /// What is said of a section, and a line feed.
@@ -43,15 +43,19 @@ fn push_number(alloc: Global, out: &mut Vec<u8>, word: &[u8], n: usize) -> Resul
     out.extend_from_slice(n.as_bytes())
 }
 
-/// The line on a certificate that is not one for the two files.
-pub(crate) fn bad_certificate(alloc: Global, flaw: Flaw) -> Result<Vec<u8>, AllocError>
-    ensures { IfOk result (λ text. text.items ≡ bad_certificate flaw) }
+/// What is said of a certificate that is not one for the two files. Out of memory is the one error.
+pub(crate) fn bad_certificate(alloc: Global, flaw: Flaw) -> Result<Answer, AllocError>
+    ensures text { IfOk result (λ answer. answer.text.items ≡ bad_certificate flaw) }
+    ensures status { IfOk result (λ answer. answer.status ≡ Status.BadCert) }
 {
     let mut text = Vec::new(alloc);
     text.extend_from_slice(b"bad certificate ")?;
     push_flaw(alloc, &mut text, flaw)?;
     text.extend_from_slice(b"\n")?;
-    Ok(text)
+    Ok(Answer {
+        text,
+        status: Status::BadCert,
+    })
 }
 
 fn push_flaw(alloc: Global, out: &mut Vec<u8>, flaw: Flaw) -> Result<(), AllocError>

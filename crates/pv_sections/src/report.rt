@@ -1,131 +1,109 @@
 //! What is said of two files and a certificate.
 
-ghost use Rattle.std.specs.Prelude.{◌≡◌, ◌↔◌, IfOk, IsTrue};
-ghost use Rattle.pv_report.specs.Judging.{IsRead};
-ghost use Rattle.pv_sections.specs.Ruled.{SaysEquivalent};
-ghost use Rattle.pv_sections.specs.Reading.{DigestsFetched, Finds, RulesFetched};
+ghost use Rattle.std.specs.Prelude.{◌≡◌, ◌↔◌, length, IfOk, IsTrue};
+ghost use Rattle.std.specs.List.{AllZip, flat_map};
+ghost use Rattle.sha2.specs.Sha256.{sha256};
+ghost use Rattle.pv_report.specs.Lines.{line_text};
+ghost use Rattle.pv_report.specs.Listed.{lines_by};
+ghost use Rattle.pv_report.specs.Judging.{IsReadPair};
+ghost use Rattle.pv_sections.specs.Findings.{IsFinding};
+ghost use Rattle.pv_sections.specs.Lines.{section_line};
+ghost use Rattle.pv_sections.specs.Ruled.{IsStatusOf, SaysEquivalent};
+ghost use Rattle.pv_sections.specs.Reading.{IsDigestOf, RulesFetched};
 
 use crate::certificate::{cert_of, other_file};
-use crate::finding::{Classes, Finding, find};
+use crate::finding::{Finding, find};
 use crate::line::{bad_certificate, push_section};
 use pv_axioms::Axioms;
 use pv_base::Gate;
 use pv_cert::Section;
-use pv_class::{ClassFault, ClassFile, LONGEST_FILE};
-use pv_report::{Fetched, Partners, Side, Verdict, bad_class, class_in};
+use pv_report::{Answer, Fetched, Pair, Status, Verdict, bad_class, read_pair};
 use pv_value::Memory;
 use sha2::{Digest, Sha256};
-use std::alloc::Global;
+use std::alloc::{AllocError, Global};
 
-/// How the check of a certificate went.
-#[derive(Clone, Copy, Debug, PartialEq, Eq)]
-pub enum Ruling {
-    /// Each line says `equivalent`; so it is too where there is none.
-    AllEquivalent,
-    /// Some line says something else.
-    Others,
-    /// One of the two files has no reading as a class file.
-    BadClass,
-    /// The certificate has no reading, or names another file.
-    BadCert,
-}
-
-/// The class that a file holds, and the file's digest (FIPS 180-4, SHA-256).
-#[derive(Drop)]
-pub(crate) struct Digested {
-    class: ClassFile,
-    digest: [u8; 32],
-}
-
-/// What is said of two files and a certificate, and how that went: a line for each section of the certificate, in its
-/// order; or one line on the first of the two files that is no class file, or else on the certificate where it has no
-/// reading or names another file. The limit of the first two fetches is `LONGEST_FILE`, that of the third `LONGEST_CERT`.
-/// The gate is passed before each step of a section, and changes no answer. Out of memory is the one error.
+/// What is said of two files and a certificate: a line for each section of the certificate, in its order; or one line on
+/// the first of the two files that is no class file, or else on the certificate where it has no reading or names another
+/// file. The limit of the first two fetches is `LONGEST_FILE`, that of the third `LONGEST_CERT`. The gate is passed before
+/// each step of a section, and changes no answer. Out of memory is the one error.
 pub fn rule<G: Gate>(
     alloc: Global,
     gate: &G,
     first: &Fetched,
     second: &Fetched,
     cert: &Fetched,
-) -> Result<(Vec<u8>, Ruling), Memory>
-    ensures { IfOk result (λ said. RulesFetched first.now second.now cert.now said.0.items said.1) }
+) -> Result<Answer, Memory>
+    ensures { IfOk result (λ answer. RulesFetched first.now second.now cert.now answer.text.items answer.status) }
 {
-    let one = match with_digest(alloc, first)? {
-        Ok(one) => one,
-        Err(fault) => return Ok((bad_class(alloc, Side::First, fault)?, Ruling::BadClass)),
-    };
-    let two = match with_digest(alloc, second)? {
-        Ok(two) => two,
-        Err(fault) => return Ok((bad_class(alloc, Side::Second, fault)?, Ruling::BadClass)),
+    let pair = match read_pair(alloc, first, second)? {
+        Ok(pair) => pair,
+        Err(bad) => return Ok(bad_class(alloc, bad)?),
     };
     let cert = match cert_of(alloc, cert)? {
         Ok(cert) => cert,
-        Err(flaw) => return Ok((bad_certificate(alloc, flaw)?, Ruling::BadCert)),
+        Err(flaw) => return Ok(bad_certificate(alloc, flaw)?),
     };
-    match other_file(&cert, one.digest, two.digest) {
-        Some(flaw) => Ok((bad_certificate(alloc, flaw)?, Ruling::BadCert)),
-        None => find_all(
-            alloc,
-            gate,
-            &one.class,
-            &two.class,
-            cert.sections.as_slice(),
-        ),
+    if let Some(flaw) = other_file(&cert, digest_of(first), digest_of(second)) {
+        return Ok(bad_certificate(alloc, flaw)?);
     }
+    let sections = cert.sections.as_slice();
+    let findings = findings(alloc, gate, &pair, sections)?;
+    let text = lines(alloc, sections, &findings)?;
+    let status = status_of(&findings);
+    Ok(Answer { text, status })
 }
 
-// The class that was fetched with its digest, or its fault.
-fn with_digest(alloc: Global, fetched: &Fetched) -> Result<Result<Digested, ClassFault>, Memory>
-    ensures reads { IfOk result (λ read. DigestsFetched fetched.now read) }
-    ensures class { IfOk result (λ read. IfOk read (λ d. IsRead d.class)) }
+// The digest of the bytes that were fetched (FIPS 180-4, SHA-256).
+fn digest_of(fetched: &Fetched) -> [u8; 32]
+    ensures { IsDigestOf fetched.now result }
 {
-    let Fetched::Bytes(bytes) = fetched else {
-        return Ok(Err(ClassFault::TooLong(LONGEST_FILE)));
-    };
-    match class_in(alloc, bytes)? {
-        Ok(class) => {
-            let digest = Sha256::digest(bytes.as_slice());
-            Ok(Ok(Digested { class, digest }))
-        }
-        Err(fault) => Ok(Err(fault)),
+    match fetched {
+        Fetched::Bytes(bytes) => Sha256::digest(bytes.as_slice()),
+        Fetched::TooLong => [0; 32],
     }
 }
 
-// The lines of all sections, and whether each of them says `equivalent`.
-fn find_all<G: Gate>(
+// What is said of the sections, in their order.
+fn findings<G: Gate>(
     alloc: Global,
     gate: &G,
-    first: &ClassFile,
-    second: &ClassFile,
+    pair: &Pair,
     sections: &[Section],
-) -> Result<(Vec<u8>, Ruling), Memory>
-    requires first { IsRead first.now }
-    requires second { IsRead second.now }
-    ensures { IfOk result (λ said. Finds first.now second.now sections.now said.0.items said.1) }
+) -> Result<Vec<Finding>, Memory>
+    requires { IsReadPair pair.now }
+    ensures { IfOk result (λ findings. AllZip (IsFinding pair.now.first pair.now.second) sections.now findings.items) }
 {
     let axioms = Axioms::new(alloc)?;
-    let in_first = Partners::new(alloc, first.methods.as_slice())?;
-    let in_second = Partners::new(alloc, second.methods.as_slice())?;
-    let classes = Classes {
-        first,
-        in_first: &in_first,
-        second,
-        in_second: &in_second,
-    };
-    let mut text = Vec::new(alloc);
-    let mut all_equivalent = true;
+    let mut findings = Vec::new(alloc);
     for section in sections {
-        let finding = find(alloc, gate, &axioms, &classes, section)?;
-        push_section(alloc, &mut text, section, finding)?;
-        if !says_equivalent(finding) {
-            all_equivalent = false;
+        let finding = find(alloc, gate, &axioms, pair, section)?;
+        findings.push(finding)?;
+    }
+    Ok(findings)
+}
+
+// The lines of sections, each with its finding.
+fn lines(alloc: Global, sections: &[Section], findings: &[Finding]) -> Result<Vec<u8>, AllocError>
+    requires { length findings.now ≡ length sections.now }
+    ensures { IfOk result (λ text. text.items ≡ flat_map line_text (lines_by section_line sections.now findings.now)) }
+{
+    let mut text = Vec::new(alloc);
+    for k in 0..sections.len() {
+        push_section(alloc, &mut text, &sections[k], findings[k])?;
+    }
+    Ok(text)
+}
+
+// The status that goes with these findings.
+fn status_of(findings: &[Finding]) -> Status
+    ensures { IsStatusOf findings.now result }
+{
+    for finding in findings {
+        if !says_equivalent(*finding) {
+            return Status::Others;
         }
     }
-    if all_equivalent {
-        Ok((text, Ruling::AllEquivalent))
-    } else {
-        Ok((text, Ruling::Others))
-    }
+    Status::AllEquivalent
 }
 
 fn says_equivalent(finding: Finding) -> bool

@@ -1,63 +1,62 @@
 -- What the top call answers, from what was fetched and said.
-use Rattle.std.proofs.Common.{ℕ, List, Option}
-use Rattle.pv_base.specs.Stored.{Stored}
-use Rattle.pv_report.specs.declared.report.Fetched.{Fetched}
-use Rattle.pv_report.specs.declared.report.Judgement.{Judgement}
-use Rattle.pv_report.specs.Judging.{JudgesFetched}
-use Rattle.pv_class.specs.declared.class.TheConstants.{LONGEST_FILE}
-use Rattle.pv_sections.specs.declared.certificate.TheConstants.{LONGEST_CERT}
-use Rattle.pv_sections.specs.declared.report.Ruling.{Ruling}
-use Rattle.pv_sections.specs.Reading.{RulesFetched}
-use Rattle.pv_top.specs.declared.status.Status.{Status}
-use Rattle.pv_top.specs.Statuses.{status_of, ruling_status}
-use Rattle.pv_top.specs.Run.{Says, SaidOf, SaidOfCert, Answered}
-use Rattle.pv_top.specs.Promise.{EachEquivalent}
-use Rattle.pv_top.specs.Fetching.{HoldsFetched}
-use Rattle.pv_top.proofs.Saying.{each_equivalent, said_lines}
+use Rattle.std.proofs.Common.{◌≡◌, ℕ, suc, true, List, [], ◌∷◌, length, Option, Some, refl, ap}
+use Rattle.std.specs.List.{AllByRecursion, AllZip}
+use Rattle.pv_base.specs.Stored.{Stored, AreBytes}
+use Rattle.pv_report.specs.declared.pair.Fetched.{Fetched}
+use Rattle.pv_report.specs.declared.status.Status.{Status}
+use Rattle.pv_top.specs.declared.words.Command.{Command}
+use Rattle.pv_top.specs.declared.words.Command.TheVariants.{Validate, Check}
+use Rattle.pv_top.specs.Words.{fetches, first_of, second_of}
+use Rattle.pv_top.specs.Run.{Says, SaidOf, Answered, IsAnswer}
+use Rattle.pv_top.specs.Promise.{EachEquivalent, Holds}
+use Rattle.pv_top.specs.Fetching.{HoldAll, AreFetched, AnswersFetched}
+use Rattle.pv_top.proofs.Saying.{answer_said, answered_said, each_equivalent, result_said, said_lines, is_said, IsTrueOf}
 use Rattle.pv_top.proofs.ReportLines.{judged_line}
 use Rattle.pv_top.proofs.CertLines.{ruled_line}
 
-pub said_of : (held : Option Stored) (a b : List ℕ) (first second : Fetched) (old new : Option (List ℕ)) (rose : Type 0) (text : List ℕ) (j : Judgement) (result : Status) → HoldsFetched held a LONGEST_FILE first → HoldsFetched held b LONGEST_FILE second
-    → JudgesFetched first second text j → Says old new text (status_of j) result rose → SaidOf held a b old new rose result
-said_of held a b first second old new rose text j result p q judged says = record {
-  first = p.0;
-  second = q.0;
-  first_held = p.1;
-  second_held = q.1;
-  first_bytes = p.2;
-  second_bytes = q.2;
-  text = text;
-  judgement = j;
-  judged = judged p.0 q.0 p.3 q.3;
-  says = says;
-}
+-- the bytes that were fetched
+record Contents (held : Option Stored) (all : List (List ℕ × ℕ)) (fetched : List Fetched) : Type 0 where
+  contents : List (List ℕ)
+  are_held : AllZip (λ (f : List ℕ × ℕ) (bytes : List ℕ). Holds held f.0 bytes) all contents
+  are_bytes : AllByRecursion AreBytes contents
+  are_fetched : AreFetched all fetched contents
 
-pub said_of_cert : (held : Option Stored) (a b cert : List ℕ) (first second third : Fetched) (old new : Option (List ℕ)) (rose : Type 0) (text : List ℕ) (r : Ruling) (result : Status) → HoldsFetched held a LONGEST_FILE first → HoldsFetched held b LONGEST_FILE second
-    → HoldsFetched held cert LONGEST_CERT third → RulesFetched first second third text r → Says old new text (ruling_status r) result rose → SaidOfCert held a b cert old new rose result
-said_of_cert held a b cert first second third old new rose text r result p q s ruled says = record {
-  first = p.0;
-  second = q.0;
-  certificate = s.0;
-  first_held = p.1;
-  second_held = q.1;
-  certificate_held = s.1;
-  first_bytes = p.2;
-  second_bytes = q.2;
-  text = text;
-  ruling = r;
-  ruled = ruled p.0 q.0 s.0 p.3 q.3 s.3;
-  says = says;
-}
+contents_of : (held : Option Stored) (all : List (List ℕ × ℕ)) (fetched : List Fetched) → HoldAll held all fetched → Contents held all fetched
+contents_of held [] [] h = record { contents = []; are_held = tt; are_bytes = tt; are_fetched = tt }
+contents_of held [] (x ∷ fetched) h = absurd h
+contents_of held (f ∷ all) [] h = absurd h
+contents_of held (f ∷ all) (x ∷ fetched) h =
+    let one = h.0 in
+    let rest = contents_of held all fetched h.1 in
+    record { contents = one.0 ∷ rest.contents; are_held = (one.1, rest.are_held); are_bytes = (one.2, rest.are_bytes); are_fetched = (one.3, rest.are_fetched) }
+
+pub fetched_length : (held : Option Stored) (all : List (List ℕ × ℕ)) (fetched : List Fetched) → HoldAll held all fetched → length fetched ≡ length all
+fetched_length held [] [] h = refl
+fetched_length held [] (x ∷ fetched) h = absurd h
+fetched_length held (f ∷ all) [] h = absurd h
+fetched_length held (f ∷ all) (x ∷ fetched) h = ap suc (fetched_length held all fetched h.1)
+
+pub said_of : (held : Option Stored) (c : Command (List ℕ)) (fetched : List Fetched) (old new : Option (List ℕ)) (rose : Type 0) (text : List ℕ) (s result : Status) → HoldAll held (fetches c) fetched → AnswersFetched c fetched text s → Says old new text s result rose → SaidOf held c old new rose result
+said_of held c fetched old new rose text s result h answers says =
+    let got = contents_of held (fetches c) fetched h in
+    record { contents = got.contents; are_held = got.are_held; are_bytes = got.are_bytes; text = text; meant = s; answer = answers got.contents got.are_fetched; says = says }
+
+pub said_result : (held : Option Stored) (c : Command (List ℕ)) (old new : Option (List ℕ)) (rose : Type 0) (result : Status) → SaidOf held c old new rose result → is_said result ≡ true
+said_result held c old new rose result s = result_said old new s.text s.meant result rose (answer_said c s.contents s.text s.meant s.answer) s.says
 
 -- each whole line that says `equivalent` is true
-pub validate_equivalent : (held : Option Stored) (a b : List ℕ) (old new : Option (List ℕ)) (read_rose write_rose : Type 0) (result : Status) → Answered old new read_rose result (SaidOf held a b old new write_rose result) → EachEquivalent held a b old new
-validate_equivalent held a b old new read_rose write_rose result =
-    each_equivalent held a b old new read_rose result (SaidOf held a b old new write_rose result)
-    (λ s. said_lines held a b old new s.text (status_of s.judgement) result write_rose s.says
-    (judged_line held a b s.first s.second s.text s.judgement (record { first_held = s.first_held; second_held = s.second_held; first_bytes = s.first_bytes; second_bytes = s.second_bytes }) s.judged))
+answer_lines : (held : Option Stored) (c : Command (List ℕ)) (contents : List (List ℕ)) (text : List ℕ) (s : Status) → AllZip (λ (f : List ℕ × ℕ) (bytes : List ℕ). Holds held f.0 bytes) (fetches c) contents → AllByRecursion AreBytes contents → IsAnswer c contents text s → IsTrueOf held (first_of c) (second_of c) text
+answer_lines held (Validate a b) [] text s h bytes is = absurd is
+answer_lines held (Validate a b) (x ∷ []) text s h bytes is = absurd is
+answer_lines held (Validate a b) (x ∷ y ∷ []) text s h bytes is = judged_line held a b x y text s (record { first_held = h.0; second_held = h.1.0; first_bytes = bytes.0; second_bytes = bytes.1.0 }) is
+answer_lines held (Validate a b) (x ∷ y ∷ z ∷ more) text s h bytes is = absurd is
+answer_lines held (Check a b c) [] text s h bytes is = absurd is
+answer_lines held (Check a b c) (x ∷ []) text s h bytes is = absurd is
+answer_lines held (Check a b c) (x ∷ y ∷ []) text s h bytes is = absurd is
+answer_lines held (Check a b c) (x ∷ y ∷ z ∷ []) text s h bytes is = ruled_line held a b x y z text s (record { first_held = h.0; second_held = h.1.0; first_bytes = bytes.0; second_bytes = bytes.1.0 }) is
+answer_lines held (Check a b c) (x ∷ y ∷ z ∷ w ∷ more) text s h bytes is = absurd is
 
-pub check_equivalent : (held : Option Stored) (a b cert : List ℕ) (old new : Option (List ℕ)) (read_rose write_rose : Type 0) (result : Status) → Answered old new read_rose result (SaidOfCert held a b cert old new write_rose result) → EachEquivalent held a b old new
-check_equivalent held a b cert old new read_rose write_rose result =
-    each_equivalent held a b old new read_rose result (SaidOfCert held a b cert old new write_rose result)
-    (λ s. said_lines held a b old new s.text (ruling_status s.ruling) result write_rose s.says
-    (ruled_line held a b s.first s.second s.certificate s.text s.ruling (record { first_held = s.first_held; second_held = s.second_held; first_bytes = s.first_bytes; second_bytes = s.second_bytes }) s.ruled))
+pub answered_equivalent : (held : Option Stored) (c : Command (List ℕ)) (old new : Option (List ℕ)) (read_rose write_rose : Type 0) (result : Status) → Answered held (Some c) old new read_rose write_rose result → EachEquivalent held (first_of c) (second_of c) old new
+answered_equivalent held c old new read_rose write_rose result =
+    each_equivalent held c (first_of c) (second_of c) old new read_rose write_rose result
+    (λ s. said_lines held (first_of c) (second_of c) old new s.text s.meant result write_rose s.says (answer_lines held c s.contents s.text s.meant s.are_held s.are_bytes s.answer))

@@ -14,8 +14,8 @@ use Rattle.pv_sections.specs.declared.finding.Finding.{Finding}
 use Rattle.pv_sections.specs.declared.finding.Finding.TheVariants as finding
 use Rattle.pv_sections.specs.declared.flaw.Flaw.{Flaw}
 use Rattle.pv_sections.specs.declared.flaw.Flaw.TheVariants as flaw
-use Rattle.pv_sections.specs.declared.report.Ruling.{Ruling}
-use Rattle.pv_sections.specs.declared.report.Ruling.TheVariants as ruling
+use Rattle.pv_report.specs.declared.status.Status.{Status}
+use Rattle.pv_report.specs.declared.status.Status.TheVariants as status
 use Rattle.pv_sections.specs.Findings.{IsFinding}
 use Rattle.pv_sections.specs.Lines.{bad_certificate, cert_fault_text, finding_text, flaw_text, section_line}
 use Rattle.pv_sections.specs.Ruled.{IsCertReport, Ruled}
@@ -25,7 +25,7 @@ use Rattle.pv_top.proofs.Files.{HoldsBoth, has_bytes}
 use Rattle.pv_top.proofs.Saying.{IsTrueOf}
 use Rattle.pv_top.proofs.WholeLines.{IsWhole}
 use Rattle.pv_top.proofs.Decimals.{whole_decimal}
-use Rattle.pv_top.proofs.ReportLines.{bad_class_line}
+use Rattle.pv_top.proofs.ReportLines.{bad_pair_line}
 use Rattle.pv_top.proofs.SaidLines.{tested, whole_append, whole_side, whole_verdict, whole_method, differ, digit_last, last_two, line_among, line_only, one_last, only_equivalent}
 
 -- ---- findings
@@ -159,12 +159,12 @@ flaw_line f text line e l ends =
     let is = line_only (bad_front ++ flaw_text f) line (whole_append bad_front (flaw_text f) (tested bad_front refl) (whole_flaw f)) (subst (λ (t : List ℕ). IsLineOf t line) e l) in
     flaw_other f line ends.0 is ends.1
 
-pub ruled_line : (held : Option Stored) (a b first second cert text : List ℕ) (r : Ruling) → HoldsBoth held a b first second → Ruled first second cert text r → IsTrueOf held a b text
-ruled_line held a b first second cert text ruling.AllEquivalent h j line l ends = finding_line held a b first second cert text j.0 h j.1 line l ends
-ruled_line held a b first second cert text ruling.Others h j line l ends = finding_line held a b first second cert text j.0 h j.1 line l ends
-ruled_line held a b first second cert text ruling.BadClass h j line l ends =
-    elim j [
-      | inl x ↦ absurd (bad_class_line side.First first x.0 text line x.1 x.2 l ends)
-      | inr x ↦ absurd (bad_class_line side.Second second x.1.0 text line x.1.1 x.1.2 l ends)
-    ]
-ruled_line held a b first second cert text ruling.BadCert h j line l ends = absurd (flaw_line j.2 text line j.4 l ends)
+pub ruled_line : (held : Option Stored) (a b first second cert text : List ℕ) (s : Status) → HoldsBoth held a b first second → Ruled first second cert text s → IsTrueOf held a b text
+ruled_line held a b first second cert text status.BadClass h bad line l ends = absurd (bad_pair_line first second text line bad l ends)
+ruled_line held a b first second cert text status.BadCert h j line l ends = absurd (flaw_line j.2 text line j.4 l ends)
+ruled_line held a b first second cert text status.AllEquivalent h (fs, r, is) line l ends = finding_line held a b first second cert text fs h r line l ends
+ruled_line held a b first second cert text status.Others h (fs, r, is) line l ends = finding_line held a b first second cert text fs h r line l ends
+ruled_line held a b first second cert text status.BadWords h (fs, r, is) line l ends = absurd is
+ruled_line held a b first second cert text status.ReadFault h (fs, r, is) line l ends = absurd is
+ruled_line held a b first second cert text status.WriteFault h (fs, r, is) line l ends = absurd is
+ruled_line held a b first second cert text status.Memory h (fs, r, is) line l ends = absurd is

@@ -2,8 +2,8 @@
 use Rattle.std.proofs.Common.{◌≡◌, ℕ, List, ◌++◌, Option, inl, inr, refl, sym, ap, subst, ◌∙◌, append_assoc}
 use Rattle.std.specs.Prelude.{codes, decimal}
 use Rattle.pv_base.specs.Stored.{Stored}
-use Rattle.pv_report.specs.declared.report.Judgement.{Judgement}
-use Rattle.pv_report.specs.declared.report.Judgement.TheVariants as judgement
+use Rattle.pv_report.specs.declared.status.Status.{Status}
+use Rattle.pv_report.specs.declared.status.Status.TheVariants as status
 use Rattle.pv_report.specs.declared.verdict.Side.{Side}
 use Rattle.pv_report.specs.declared.verdict.Side.TheVariants as side
 use Rattle.pv_report.specs.declared.verdict.Verdict.{Verdict}
@@ -16,8 +16,8 @@ use Rattle.pv_class.specs.declared.fault.PoolWord.TheVariants as pool
 use Rattle.pv_class.specs.ClassFaults.{IsBad}
 use Rattle.pv_class.proofs.Cited.{memory_no_fault}
 use Rattle.pv_report.specs.Lines.{bad_class, fault_text, pool_word, word_at, line_of, method_text, side_word}
-use Rattle.pv_report.specs.Report.{IsReport, Judged}
-use Rattle.pv_report.proofs.Cited.{same_meaning}
+use Rattle.pv_report.specs.Report.{IsReport, IsBadPair, Judged}
+use Rattle.pv_report.proofs.Cited.{one_meaning}
 use Rattle.pv_top.specs.Promise.{IsLineOf, EndsWith}
 use Rattle.pv_top.proofs.Files.{HoldsBoth, has_bytes}
 use Rattle.pv_top.proofs.Saying.{IsTrueOf}
@@ -46,7 +46,7 @@ report_line held a b first second text verdicts h r line l ends =
       partner = equal.0;
       partner_is = equal.1;
       says = found.says ∙ ap (line_of found.thing) is;
-      equivalent = same_meaning r.first found.thing r.second equal.0 equal.2.0 equal.2.1 equal.1.like.desc one other;
+      equivalent = one_meaning r.first found.thing r.second equal.0 equal.2 equal.1.like.desc one other;
     }
 
 -- what is said of a file without a reading
@@ -101,11 +101,16 @@ bad_class_line s bytes f text line bad e l ends =
     let is = line_only (bad_class_front s ++ fault_text f) line (whole_bad_class s f) (subst (λ (t : List ℕ). IsLineOf t line) e l) in
     fault_last s bytes f line bad is ends
 
-pub judged_line : (held : Option Stored) (a b first second text : List ℕ) (s : Judgement) → HoldsBoth held a b first second → Judged first second text s → IsTrueOf held a b text
-judged_line held a b first second text judgement.AllEquivalent h j line l ends = report_line held a b first second text j.0 h j.1 line l ends
-judged_line held a b first second text judgement.Others h j line l ends = report_line held a b first second text j.0 h j.1 line l ends
-judged_line held a b first second text judgement.BadClass h j line l ends =
-    elim j [
-      | inl x ↦ absurd (bad_class_line side.First first x.0 text line x.1 x.2 l ends)
-      | inr x ↦ absurd (bad_class_line side.Second second x.1.0 text line x.1.1 x.1.2 l ends)
-    ]
+pub bad_pair_line : (first second text line : List ℕ) → IsBadPair first second text → IsLineOf text line → EndsWith line (codes " equivalent") → ⊥
+bad_pair_line first second text line (inl x) l ends = bad_class_line side.First first x.0 text line x.1 x.2 l ends
+bad_pair_line first second text line (inr x) l ends = bad_class_line side.Second second x.1.0 text line x.1.1 x.1.2 l ends
+
+pub judged_line : (held : Option Stored) (a b first second text : List ℕ) (s : Status) → HoldsBoth held a b first second → Judged first second text s → IsTrueOf held a b text
+judged_line held a b first second text status.BadClass h bad line l ends = absurd (bad_pair_line first second text line bad l ends)
+judged_line held a b first second text status.AllEquivalent h (vs, r, is) line l ends = report_line held a b first second text vs h r line l ends
+judged_line held a b first second text status.Others h (vs, r, is) line l ends = report_line held a b first second text vs h r line l ends
+judged_line held a b first second text status.BadCert h (vs, r, is) line l ends = absurd is
+judged_line held a b first second text status.BadWords h (vs, r, is) line l ends = absurd is
+judged_line held a b first second text status.ReadFault h (vs, r, is) line l ends = absurd is
+judged_line held a b first second text status.WriteFault h (vs, r, is) line l ends = absurd is
+judged_line held a b first second text status.Memory h (vs, r, is) line l ends = absurd is

@@ -4,14 +4,14 @@ use Rattle.std.specs.Prelude.{codes}
 use Rattle.std.proofs.lemmas.List.{append_cancel_left, append-nil, take-append-drop}
 use Rattle.pv_base.specs.Stored.{Stored}
 use Rattle.pv_base.specs.Outside.{more}
-use Rattle.pv_report.specs.declared.report.Judgement.{Judgement}
-use Rattle.pv_report.specs.declared.report.Judgement.TheVariants as judgement
-use Rattle.pv_sections.specs.declared.report.Ruling.{Ruling}
-use Rattle.pv_sections.specs.declared.report.Ruling.TheVariants as ruling
-use Rattle.pv_top.specs.declared.status.Status.{Status}
-use Rattle.pv_top.specs.declared.status.Status.TheVariants as status
-use Rattle.pv_top.specs.Statuses.{status_of, ruling_status}
-use Rattle.pv_top.specs.Run.{Puts, Says, Answered}
+use Rattle.pv_report.specs.declared.status.Status.{Status}
+use Rattle.pv_report.specs.declared.status.Status.TheVariants as status
+use Rattle.pv_report.specs.Report.{Judged}
+use Rattle.pv_sections.specs.Ruled.{Ruled}
+use Rattle.pv_top.specs.declared.words.Command.{Command}
+use Rattle.pv_top.specs.declared.words.Command.TheVariants.{Validate, Check}
+use Rattle.pv_top.specs.Run.{Puts, Says, Answered, IsAnswer, SaidOf}
+use Rattle.pv_top.specs.Fetching.{ReadFailed}
 use Rattle.pv_top.specs.Promise.{IsLineOf, EndsWith, HaveOneMeaning, EachEquivalent}
 use Rattle.pv_top.proofs.Asking.{more_nothing}
 use Rattle.pv_top.proofs.WholeLines.{no_line_of_nothing, line_of_front}
@@ -29,16 +29,37 @@ is_said status.ReadFault = false
 is_said status.Memory = false
 is_said s = true
 
-pub judged_said : (j : Judgement) → is_said (status_of j) ≡ true
-judged_said judgement.AllEquivalent = refl
-judged_said judgement.Others = refl
-judged_said judgement.BadClass = refl
+-- .. is that of a report
+judged_said : (a b text : List ℕ) (s : Status) → Judged a b text s → is_said s ≡ true
+judged_said a b text status.AllEquivalent h = refl
+judged_said a b text status.Others h = refl
+judged_said a b text status.BadClass h = refl
+judged_said a b text status.BadCert (vs, r, is) = absurd is
+judged_said a b text status.BadWords (vs, r, is) = absurd is
+judged_said a b text status.ReadFault (vs, r, is) = absurd is
+judged_said a b text status.WriteFault (vs, r, is) = absurd is
+judged_said a b text status.Memory (vs, r, is) = absurd is
 
-pub ruled_said : (r : Ruling) → is_said (ruling_status r) ≡ true
-ruled_said ruling.AllEquivalent = refl
-ruled_said ruling.Others = refl
-ruled_said ruling.BadClass = refl
-ruled_said ruling.BadCert = refl
+ruled_said : (a b cert text : List ℕ) (s : Status) → Ruled a b cert text s → is_said s ≡ true
+ruled_said a b cert text status.AllEquivalent h = refl
+ruled_said a b cert text status.Others h = refl
+ruled_said a b cert text status.BadClass h = refl
+ruled_said a b cert text status.BadCert h = refl
+ruled_said a b cert text status.BadWords (fs, r, is) = absurd is
+ruled_said a b cert text status.ReadFault (fs, r, is) = absurd is
+ruled_said a b cert text status.WriteFault (fs, r, is) = absurd is
+ruled_said a b cert text status.Memory (fs, r, is) = absurd is
+
+pub answer_said : (c : Command (List ℕ)) (contents : List (List ℕ)) (text : List ℕ) (s : Status) → IsAnswer c contents text s → is_said s ≡ true
+answer_said (Validate a b) (x ∷ y ∷ []) text s h = judged_said x y text s h
+answer_said (Validate a b) [] text s h = absurd h
+answer_said (Validate a b) (x ∷ []) text s h = absurd h
+answer_said (Validate a b) (x ∷ y ∷ z ∷ more) text s h = absurd h
+answer_said (Check a b c) (x ∷ y ∷ z ∷ []) text s h = ruled_said x y z text s h
+answer_said (Check a b c) [] text s h = absurd h
+answer_said (Check a b c) (x ∷ []) text s h = absurd h
+answer_said (Check a b c) (x ∷ y ∷ []) text s h = absurd h
+answer_said (Check a b c) (x ∷ y ∷ z ∷ w ∷ more) text s h = absurd h
 
 pub result_said : (old new : Option (List ℕ)) (text : List ℕ) (meant result : Status) (rose : Type 0) → is_said meant ≡ true → Says old new text meant result rose → is_said result ≡ true
 result_said old new text meant result rose is says =
@@ -50,15 +71,26 @@ result_said old new text meant result rose is says =
 pub no_read_fault : (s : Status) → is_said s ≡ true → s ≢ status.ReadFault
 no_read_fault s is e = let no : is_said s ≡ false = ap is_said e in cc (is, no)
 
-pub answered_said : (old new : Option (List ℕ)) (read_rose : Type 0) (result : Status) (said : Type 0) → is_said result ≡ true → said → Answered old new read_rose result said
-answered_said old new read_rose status.ReadFault said is it = absurd (cc is)
-answered_said old new read_rose status.Memory said is it = absurd (cc is)
-answered_said old new read_rose status.AllEquivalent said is it = it
-answered_said old new read_rose status.Others said is it = it
-answered_said old new read_rose status.BadClass said is it = it
-answered_said old new read_rose status.BadCert said is it = it
-answered_said old new read_rose status.BadWords said is it = it
-answered_said old new read_rose status.WriteFault said is it = it
+pub answered_said : (held : Option Stored) (c : Command (List ℕ)) (old new : Option (List ℕ)) (read_rose write_rose : Type 0) (result : Status) → is_said result ≡ true → SaidOf held c old new write_rose result → Answered held (Some c) old new read_rose write_rose result
+answered_said held c old new read_rose write_rose status.ReadFault is it = absurd (cc is)
+answered_said held c old new read_rose write_rose status.Memory is it = absurd (cc is)
+answered_said held c old new read_rose write_rose status.AllEquivalent is it = it
+answered_said held c old new read_rose write_rose status.Others is it = it
+answered_said held c old new read_rose write_rose status.BadClass is it = it
+answered_said held c old new read_rose write_rose status.BadCert is it = it
+answered_said held c old new read_rose write_rose status.BadWords is it = it
+answered_said held c old new read_rose write_rose status.WriteFault is it = it
+
+-- a fetch failed, and nothing was said
+pub answered_failed : (held : Option Stored) (c : Command (List ℕ)) (old new : Option (List ℕ)) (read_rose write_rose : Type 0) (s : Status) → ReadFailed s read_rose → new ≡ old → Answered held (Some c) old new read_rose write_rose s
+answered_failed held c old new read_rose write_rose status.ReadFault failed same = (failed, same)
+answered_failed held c old new read_rose write_rose status.Memory failed same = same
+answered_failed held c old new read_rose write_rose status.AllEquivalent failed same = absurd failed
+answered_failed held c old new read_rose write_rose status.Others failed same = absurd failed
+answered_failed held c old new read_rose write_rose status.BadClass failed same = absurd failed
+answered_failed held c old new read_rose write_rose status.BadCert failed same = absurd failed
+answered_failed held c old new read_rose write_rose status.BadWords failed same = absurd failed
+answered_failed held c old new read_rose write_rose status.WriteFault failed same = absurd failed
 
 -- ---- each whole line that says `equivalent`
 
@@ -94,12 +126,13 @@ pub silent : (held : Option Stored) (a b : List ℕ) (old new : Option (List ℕ
 silent held a b old new e before taken line p q l ends = absurd (no_line_of_nothing line (subst (λ (t : List ℕ). IsLineOf t line) (nothing_taken old new before taken e p q) l))
 
 -- so it is under every answer, if it is where something was said
-pub each_equivalent : (held : Option Stored) (a b : List ℕ) (old new : Option (List ℕ)) (read_rose : Type 0) (result : Status) (said : Type 0) → (said → EachEquivalent held a b old new) → Answered old new read_rose result said → EachEquivalent held a b old new
-each_equivalent held a b old new read_rose status.ReadFault said by h = silent held a b old new h.1
-each_equivalent held a b old new read_rose status.Memory said by h = silent held a b old new h
-each_equivalent held a b old new read_rose status.AllEquivalent said by h = by h
-each_equivalent held a b old new read_rose status.Others said by h = by h
-each_equivalent held a b old new read_rose status.BadClass said by h = by h
-each_equivalent held a b old new read_rose status.BadCert said by h = by h
-each_equivalent held a b old new read_rose status.BadWords said by h = by h
-each_equivalent held a b old new read_rose status.WriteFault said by h = by h
+pub each_equivalent : (held : Option Stored) (c : Command (List ℕ)) (a b : List ℕ) (old new : Option (List ℕ)) (read_rose write_rose : Type 0) (result : Status) → (SaidOf held c old new write_rose result → EachEquivalent held a b old new)
+    → Answered held (Some c) old new read_rose write_rose result → EachEquivalent held a b old new
+each_equivalent held c a b old new read_rose write_rose status.ReadFault by h = silent held a b old new h.1
+each_equivalent held c a b old new read_rose write_rose status.Memory by h = silent held a b old new h
+each_equivalent held c a b old new read_rose write_rose status.AllEquivalent by h = by h
+each_equivalent held c a b old new read_rose write_rose status.Others by h = by h
+each_equivalent held c a b old new read_rose write_rose status.BadClass by h = by h
+each_equivalent held c a b old new read_rose write_rose status.BadCert by h = by h
+each_equivalent held c a b old new read_rose write_rose status.BadWords by h = by h
+each_equivalent held c a b old new read_rose write_rose status.WriteFault by h = by h

@@ -1,11 +1,15 @@
 -- The command that was read from words.
-use Rattle.std.specs.Prelude.{ℕ, List, Option, Some, None}
+use Rattle.std.specs.Prelude.{ℕ, List, Option, Some, None, option_map}
 use Rattle.std.specs.Borrow.{Bor}
 use Rattle.pv_top.specs.declared.words.Command.{Command}
 use Rattle.pv_top.specs.declared.words.Command.TheVariants.{Validate, Check}
-use Rattle.pv_top.specs.Words.{IsValidate, IsCheck, IsNoCommand, texts}
+use Rattle.pv_top.specs.Words.{IsCommand, texts}
 
-abbrev pub IsCommand : List (Bor (List ℕ)) → Option Command → Type 0
-IsCommand words None = IsNoCommand (texts words)
-IsCommand words (Some (Validate first second)) = IsValidate (texts words) first.now second.now
-IsCommand words (Some (Check first second cert)) = IsCheck (texts words) first.now second.now cert.now
+-- a command by its names
+abbrev pub named : Command (Bor (List ℕ)) → Command (List ℕ)
+named (Validate a b) = Validate a.now b.now
+named (Check a b cert) = Check a.now b.now cert.now
+
+abbrev pub IsRead : List (Bor (List ℕ)) → Option (Command (Bor (List ℕ))) → Type 0
+IsRead words None = IsCommand (texts words) None
+IsRead words (Some c) = IsCommand (texts words) (Some (named c))

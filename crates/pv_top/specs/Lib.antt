@@ -1,5 +1,4 @@
 -- what public contracts and laws say
-pub mod Statuses
 pub mod Words
 pub mod Promise
 pub mod Run

@@ -1,18 +1,18 @@
--- What the top call answers and leaves, where its words are a command.
-use Rattle.std.specs.Prelude.{◌≡◌, ◌⊎◌, ℕ, suc, ◌<◌, ◌≤◌, List, [], ◌∷◌, length, map, take, Option}
-use Rattle.std.specs.List.{AllByRecursion}
+-- What the top call says and asks, by the command that its words are.
+use Rattle.std.specs.Prelude.{◌≡◌, ◌⊎◌, ℕ, suc, ◌<◌, ◌≤◌, List, [], ◌∷◌, length, map, take, Option, Some, None}
+use Rattle.std.specs.List.{AllByRecursion, AllZip}
 use Rattle.pv_base.specs.Stored.{Stored, AreBytes}
 use Rattle.pv_base.specs.Outside.{more}
 use Rattle.pv_base.specs.declared.outside.Asked.{Asked}
 use Rattle.pv_base.specs.declared.outside.Asked.TheVariants.{Fetch}
-use Rattle.pv_top.specs.declared.status.Status.{Status}
-use Rattle.pv_top.specs.declared.status.Status.TheVariants as status
-use Rattle.pv_top.specs.Promise.{Holds}
+use Rattle.pv_report.specs.declared.status.Status.{Status}
+use Rattle.pv_report.specs.declared.status.Status.TheVariants as status
 use Rattle.pv_report.specs.Report.{Judged}
-use Rattle.pv_report.specs.declared.report.Judgement.{Judgement}
 use Rattle.pv_sections.specs.Ruled.{Ruled}
-use Rattle.pv_sections.specs.declared.report.Ruling.{Ruling}
-use Rattle.pv_top.specs.Statuses.{status_of, ruling_status}
+use Rattle.pv_top.specs.declared.words.Command.{Command}
+use Rattle.pv_top.specs.declared.words.Command.TheVariants.{Validate, Check}
+use Rattle.pv_top.specs.Words.{fetches, names_of, bad_words}
+use Rattle.pv_top.specs.Promise.{Holds}
 
 -- the text was taken, and the status goes with it; or the sink failed, and took a front of the text
 abbrev pub Puts : Option (List ℕ) → Option (List ℕ) → List ℕ → Status → Status → Type 0 → Type 0
@@ -23,39 +23,28 @@ abbrev pub Says : Option (List ℕ) → Option (List ℕ) → List ℕ → Statu
 Says old new [] meant result rose = (result ≡ meant) × (new ≡ old)
 Says old new (b ∷ text) meant result rose = Puts old new (b ∷ text) meant result rose
 
--- what is to be said of the bytes that the store had under the two names was said
-pub record SaidOf (held : Option Stored) (a b : List ℕ) (old new : Option (List ℕ)) (write_rose : Type 0) (result : Status) : Type 0 where
-  pub first : List ℕ
-  pub second : List ℕ
-  pub first_held : Holds held a first
-  pub second_held : Holds held b second
-  pub first_bytes : AreBytes first
-  pub second_bytes : AreBytes second
-  pub text : List ℕ
-  pub judgement : Judgement
-  pub judged : Judged first second text judgement
-  pub says : Says old new text (status_of judgement) result write_rose
+-- the text that a command answers to the bytes of its files, and the status that goes with it
+abbrev pub IsAnswer : Command (List ℕ) → List (List ℕ) → List ℕ → Status → Type 0
+IsAnswer (Validate a b) (x ∷ y ∷ []) text s = Judged x y text s
+IsAnswer (Check a b cert) (x ∷ y ∷ z ∷ []) text s = Ruled x y z text s
+IsAnswer c contents text s = ⊥
 
--- .. under the two names and that of the certificate
-pub record SaidOfCert (held : Option Stored) (a b cert : List ℕ) (old new : Option (List ℕ)) (write_rose : Type 0) (result : Status) : Type 0 where
-  pub first : List ℕ
-  pub second : List ℕ
-  pub certificate : List ℕ
-  pub first_held : Holds held a first
-  pub second_held : Holds held b second
-  pub certificate_held : Holds held cert certificate
-  pub first_bytes : AreBytes first
-  pub second_bytes : AreBytes second
+-- what the command answers to the bytes that the store had under its names was said
+pub record SaidOf (held : Option Stored) (c : Command (List ℕ)) (old new : Option (List ℕ)) (write_rose : Type 0) (result : Status) : Type 0 where
+  pub contents : List (List ℕ)
+  pub are_held : AllZip (λ (f : List ℕ × ℕ) (bytes : List ℕ). Holds held f.0 bytes) (fetches c) contents
+  pub are_bytes : AllByRecursion AreBytes contents
   pub text : List ℕ
-  pub ruling : Ruling
-  pub ruled : Ruled first second certificate text ruling
-  pub says : Says old new text (ruling_status ruling) result write_rose
+  pub meant : Status
+  pub answer : IsAnswer c contents text meant
+  pub says : Says old new text meant result write_rose
 
--- The answer: a fetch failed, or memory ran out, and nothing was said; or what there is to say was said.
-abbrev pub Answered : Option (List ℕ) → Option (List ℕ) → Type 0 → Status → Type 0 → Type 0
-Answered old new read_rose status.ReadFault said = read_rose × (new ≡ old)
-Answered old new read_rose status.Memory said = new ≡ old
-Answered old new read_rose result said = said
+-- What is said: that the words are no command; or that of a command, where no fetch failed and memory didn't run out, else nothing.
+abbrev pub Answered : Option Stored → Option (Command (List ℕ)) → Option (List ℕ) → Option (List ℕ) → Type 0 → Type 0 → Status → Type 0
+Answered held None old new read_rose write_rose result = Says old new bad_words status.BadWords result write_rose
+Answered held (Some c) old new read_rose write_rose status.ReadFault = read_rose × (new ≡ old)
+Answered held (Some c) old new read_rose write_rose status.Memory = new ≡ old
+Answered held (Some c) old new read_rose write_rose result = SaidOf held c old new write_rose result
 
 -- some bytes stand under the name
 abbrev pub IsThere : Option Stored → List ℕ → Type 0
@@ -70,3 +59,8 @@ abbrev pub AskedFor : Option Stored → Option (List Asked) → Option (List Ask
 AskedFor held old new names status.Memory = (n : ℕ) × (n ≤ length names) × GrewBy old new (take n names)
 AskedFor held old new names status.ReadFault = (n : ℕ) × (n < length names) × AllByRecursion (IsThere held) (take n names) × GrewBy old new (take (suc n) names)
 AskedFor held old new names result = GrewBy old new names
+
+-- Words that are no command ask nothing.
+abbrev pub CallsFor : Option Stored → Option (Command (List ℕ)) → Option (List Asked) → Option (List Asked) → Status → Type 0
+CallsFor held None old new result = new ≡ old
+CallsFor held (Some c) old new result = AskedFor held old new (names_of c) result

@@ -1,7 +1,12 @@
--- The words that are a command.
-use Rattle.std.specs.Prelude.{◌≡◌, ◌≢◌, ◌⊎◌, ℕ, List, [], ◌∷◌, map, codes}
+-- The words that are a command, and what a command fetches.
+use Rattle.std.specs.Prelude.{◌≡◌, ◌≢◌, ℕ, List, [], ◌∷◌, Option, Some, None, map, codes}
+use Rattle.std.specs.List.{AllByRecursion}
 use Rattle.std.specs.Borrow.{Bor}
+use Rattle.pv_class.specs.declared.class.TheConstants.{LONGEST_FILE}
 use Rattle.pv_report.specs.Lines.{line_text}
+use Rattle.pv_sections.specs.declared.certificate.TheConstants.{LONGEST_CERT}
+use Rattle.pv_top.specs.declared.words.Command.{Command}
+use Rattle.pv_top.specs.declared.words.Command.TheVariants.{Validate, Check}
 
 -- the name of a file: not empty, and not beginning with -
 abbrev pub IsFileName : List ℕ → Type 0
@@ -12,32 +17,37 @@ IsFileName (b ∷ rest) = b ≢ 45
 abbrev pub texts : List (Bor (List ℕ)) → List (List ℕ)
 texts words = map (λ w. w.now) words
 
--- the words of `validate A B`
-pub record IsValidate (words : List (List ℕ)) (a b : List ℕ) : Type 0 where
-  pub spelled : words ≡ codes "validate" ∷ a ∷ b ∷ []
-  pub first : IsFileName a
-  pub second : IsFileName b
+-- the words of a command: `validate A B` and `check A B CERT`
+abbrev pub words_of : Command (List ℕ) → List (List ℕ)
+words_of (Validate a b) = codes "validate" ∷ a ∷ b ∷ []
+words_of (Check a b cert) = codes "check" ∷ a ∷ b ∷ cert ∷ []
 
--- the words of `check A B CERT`
-pub record IsCheck (words : List (List ℕ)) (a b cert : List ℕ) : Type 0 where
-  pub spelled : words ≡ codes "check" ∷ a ∷ b ∷ cert ∷ []
-  pub first : IsFileName a
-  pub second : IsFileName b
-  pub third : IsFileName cert
+-- what a command fetches, in its order: the names of files, and the most bytes that each may have
+abbrev pub fetches : Command (List ℕ) → List (List ℕ × ℕ)
+fetches (Validate a b) = (a, LONGEST_FILE) ∷ (b, LONGEST_FILE) ∷ []
+fetches (Check a b cert) = (a, LONGEST_FILE) ∷ (b, LONGEST_FILE) ∷ (cert, LONGEST_CERT) ∷ []
 
-pub record IsNoCommand (words : List (List ℕ)) : Type 0 where
-  pub no_validate : (a b : List ℕ) → IsValidate words a b → ⊥
-  pub no_check : (a b cert : List ℕ) → IsCheck words a b cert → ⊥
+abbrev pub names_of : Command (List ℕ) → List (List ℕ)
+names_of c = map (λ f. f.0) (fetches c)
 
--- the words are a command that speaks of the methods of the class files a and b
-abbrev pub AreOn : List (List ℕ) → List ℕ → List ℕ → Type 0
-AreOn words a b = IsValidate words a b ⊎ ((cert : List ℕ) × IsCheck words a b cert)
+-- the two class files of whose methods a command speaks
+abbrev pub first_of : Command (List ℕ) → List ℕ
+first_of (Validate a b) = a
+first_of (Check a b cert) = a
 
--- the words are a command that fetches the files with these names, in this order
-abbrev pub Fetches : List (List ℕ) → List (List ℕ) → Type 0
-Fetches words (a ∷ b ∷ []) = IsValidate words a b
-Fetches words (a ∷ b ∷ cert ∷ []) = IsCheck words a b cert
-Fetches words names = ⊥
+abbrev pub second_of : Command (List ℕ) → List ℕ
+second_of (Validate a b) = b
+second_of (Check a b cert) = b
+
+-- the words are those of a command whose files have names
+pub record AreOf (words : List (List ℕ)) (c : Command (List ℕ)) : Type 0 where
+  pub spelled : words ≡ words_of c
+  pub named : AllByRecursion IsFileName (names_of c)
+
+-- the command that the words are, None where they are none
+abbrev pub IsCommand : List (List ℕ) → Option (Command (List ℕ)) → Type 0
+IsCommand words (Some c) = AreOf words c
+IsCommand words None = (c : Command (List ℕ)) → AreOf words c → ⊥
 
 -- the line on words that aren't a command
 abbrev pub bad_words : List ℕ

@@ -1,22 +1,32 @@
 //! The top call.
 
-ghost use Rattle.std.specs.Prelude.{◌≡◌, ◌≤◌, ◌∷◌, [], IfOk, IfErr, List, ℕ};
+ghost use Rattle.std.specs.Prelude.{◌≡◌, ◌≤◌, ◌∷◌, ◌++◌, [], IfOk, IfErr, OnOk, List, ℕ, Option, Some, length};
+ghost use Rattle.std.specs.List.{AllZip};
 ghost use Rattle.pv_base.specs.Outside.{Rose};
 ghost use Rattle.pv_base.specs.Stored.{AreBytes};
 ghost use Rattle.pv_base.specs.declared.outside.Asked.TheVariants.{Fetch};
-ghost use Rattle.pv_top.specs.Words.{AreOn, Fetches, IsCheck, IsNoCommand, IsValidate, bad_words, texts};
-ghost use Rattle.pv_top.specs.Run.{Answered, AskedFor, SaidOf, SaidOfCert, Says};
+ghost use Rattle.pv_top.specs.Words.{IsCommand, fetches, first_of, names_of, second_of, texts};
+ghost use Rattle.pv_top.specs.Commands.{named};
+ghost use Rattle.pv_top.specs.Run.{Answered, CallsFor, Says};
 ghost use Rattle.pv_top.specs.Promise.{EachEquivalent};
-ghost use Rattle.pv_top.specs.Fetching.{Asks, AsksAll, HoldsFetched, ReadFailed};
+ghost use Rattle.pv_top.specs.Fetching.{AnswersFetched, Asks, AsksAll, HoldAll, HoldsFetched, HoldsWanted, ReadFailed, wanted_names};
+ghost use Rattle.pv_top.specs.declared.words.Command as commands;
 
-use crate::status::Status;
 use crate::words::{Command, read_words};
 use pv_base::{FileFault, Files, Gate, Sink};
 use pv_class::LONGEST_FILE;
-use pv_report::{Fetched, judge};
+use pv_report::{Answer, Fetched, Status, judge};
 use pv_sections::{LONGEST_CERT, rule};
+use pv_value::Memory;
 use std::alloc::Global;
 use std::thread::Threads;
+
+/// The file with a name, of at most so many bytes.
+#[derive(Debug, Drop)]
+pub(crate) struct Wanted<'a> {
+    name: &'a str,
+    limit: usize,
+}
 
 /// Does what the words of a command line say, and answers how that went.
 ///
@@ -33,114 +43,153 @@ pub fn run<R: Threads + Sync, F: Files, K: Sink, G: Gate>(
     gate: &G,
 ) -> Status
     // Whatever else happened, each whole line `.. equivalent` that the sink took is true.
-    ensures equivalent { (a b : List ℕ) → AreOn (texts words.now) a b → EachEquivalent (F.held files.old) a b (K.sent out.old) (K.sent out.new) }
+    ensures equivalent { (c : commands.Command (List ℕ)) → IsCommand (texts words.now) (Some c) → EachEquivalent (F.held files.old) (first_of c) (second_of c) (K.sent out.old) (K.sent out.new) }
 
     // What is said, and with which status.
-    ensures answered { (a b : List ℕ) → IsValidate (texts words.now) a b → Answered (K.sent out.old) (K.sent out.new) (Rose (F.failures files.old) (F.failures files.new)) result (SaidOf (F.held files.old) a b (K.sent out.old) (K.sent out.new) (Rose (K.failures out.old) (K.failures out.new)) result) }
-    ensures checked { (a b cert : List ℕ) → IsCheck (texts words.now) a b cert → Answered (K.sent out.old) (K.sent out.new) (Rose (F.failures files.old) (F.failures files.new)) result (SaidOfCert (F.held files.old) a b cert (K.sent out.old) (K.sent out.new) (Rose (K.failures out.old) (K.failures out.new)) result) }
-    ensures bad_words { IsNoCommand (texts words.now) → Says (K.sent out.old) (K.sent out.new) bad_words Status.BadWords result (Rose (K.failures out.old) (K.failures out.new)) }
+    ensures answered { (c : Option (commands.Command (List ℕ))) → IsCommand (texts words.now) c → Answered (F.held files.old) c (K.sent out.old) (K.sent out.new) (Rose (F.failures files.old) (F.failures files.new)) (Rose (K.failures out.old) (K.failures out.new)) result }
 
     // What is asked of the files, and what they hold afterwards.
-    ensures asked { (names : List (List ℕ)) → Fetches (texts words.now) names → AskedFor (F.held files.old) (F.asked files.old) (F.asked files.new) names result }
-    ensures none_asked { IsNoCommand (texts words.now) → F.asked files.new ≡ F.asked files.old }
+    ensures asked { (c : Option (commands.Command (List ℕ))) → IsCommand (texts words.now) c → CallsFor (F.held files.old) c (F.asked files.old) (F.asked files.new) result }
     ensures held { F.held files.new ≡ F.held files.old }
 {
     match read_words(words) {
-        Some(Command::Validate { first, second }) => validate(alloc, first, second, files, out),
-        Some(
-            Command::Check {
-                first,
-                second,
-                cert,
-            },
-        ) => { check(alloc, gate, first, second, cert, files, out) }
+        Some(command) => execute(alloc, gate, command, files, out),
         None => say(out, b"bad words\n", Status::BadWords),
     }
 }
 
-// Fetches both files, and says what there is to say of them.
-fn validate<F: Files, K: Sink>(
-    alloc: Global,
-    a: &str,
-    b: &str,
-    files: &mut F,
-    out: &mut K,
-) -> Status
-    ensures answered { Answered (K.sent out.old) (K.sent out.new) (Rose (F.failures files.old) (F.failures files.new)) result (SaidOf (F.held files.old) a.now b.now (K.sent out.old) (K.sent out.new) (Rose (K.failures out.old) (K.failures out.new)) result) }
-    ensures asked { AskedFor (F.held files.old) (F.asked files.old) (F.asked files.new) (a.now ∷ b.now ∷ []) result }
-    ensures held { F.held files.new ≡ F.held files.old }
-{
-    let (first, second) = match fetched_both(alloc, a, b, files) {
-        Ok(both) => both,
-        Err(status) => return status,
-    };
-    match judge(alloc, &first, &second) {
-        Ok((text, judgement)) => say(out, &text, Status::of(judgement)),
-        Err(_) => Status::Memory,
-    }
-}
-
-// Fetches both files and the certificate, and says what there is to say of them.
-fn check<F: Files, K: Sink, G: Gate>(
+// Fetches the files of a command, and says what it answers.
+fn execute<F: Files, K: Sink, G: Gate>(
     alloc: Global,
     gate: &G,
-    a: &str,
-    b: &str,
-    cert: &str,
+    command: Command<&str>,
     files: &mut F,
     out: &mut K,
 ) -> Status
-    ensures checked { Answered (K.sent out.old) (K.sent out.new) (Rose (F.failures files.old) (F.failures files.new)) result (SaidOfCert (F.held files.old) a.now b.now cert.now (K.sent out.old) (K.sent out.new) (Rose (K.failures out.old) (K.failures out.new)) result) }
-    ensures asked { AskedFor (F.held files.old) (F.asked files.old) (F.asked files.new) (a.now ∷ b.now ∷ cert.now ∷ []) result }
+    ensures answered { Answered (F.held files.old) (Some (named command.entry)) (K.sent out.old) (K.sent out.new) (Rose (F.failures files.old) (F.failures files.new)) (Rose (K.failures out.old) (K.failures out.new)) result }
+    ensures asked { CallsFor (F.held files.old) (Some (named command.entry)) (F.asked files.old) (F.asked files.new) result }
     ensures held { F.held files.new ≡ F.held files.old }
 {
-    let (first, second) = match fetched_both(alloc, a, b, files) {
-        Ok(both) => both,
+    let fetched = match fetch_files(alloc, command, files) {
+        Ok(fetched) => fetched,
         Err(status) => return status,
     };
-    let cert = match fetched(alloc, cert, LONGEST_CERT, files) {
-        Ok(cert) => cert,
-        Err(status) => return status,
-    };
-    match rule(alloc, gate, &first, &second, &cert) {
-        Ok((text, ruling)) => say(out, &text, Status::of_ruling(ruling)),
+    match answer(alloc, gate, command, &fetched) {
+        Ok(answer) => say(out, &answer.text, answer.status),
         Err(_) => Status::Memory,
     }
 }
 
-// What is under the names of two class files.
-fn fetched_both<F: Files>(
+// What a command answers to the files that were fetched for it.
+fn answer<G: Gate>(
     alloc: Global,
-    a: &str,
-    b: &str,
-    files: &mut F,
-) -> Result<(Fetched, Fetched), Status>
-    ensures first { IfOk result (λ both. HoldsFetched (F.held files.old) a.now LONGEST_FILE both.0) }
-    ensures second { IfOk result (λ both. HoldsFetched (F.held files.old) b.now LONGEST_FILE both.1) }
-    ensures failure { IfErr result (λ status. ReadFailed status (Rose (F.failures files.old) (F.failures files.new))) }
-    ensures later { F.failures files.old ≤ F.failures files.new }
-    ensures asked { AsksAll (F.held files.old) (F.asked files.old) (F.asked files.new) (a.now ∷ b.now ∷ []) result }
-    ensures held { F.held files.new ≡ F.held files.old }
+    gate: &G,
+    command: Command<&str>,
+    fetched: &[Fetched],
+) -> Result<Answer, Memory>
+    requires { length fetched.now ≡ length (fetches (named command)) }
+    ensures { IfOk result (λ answer. AnswersFetched (named command.entry) fetched.now answer.text.items answer.status) }
 {
-    let first = fetched(alloc, a, LONGEST_FILE, files)?;
-    let second = fetched(alloc, b, LONGEST_FILE, files)?;
-    Ok((first, second))
+    match command {
+        Command::Validate { .. } => {
+            let [first, second] = fetched else {
+                unreachable!();
+            };
+            judge(alloc, first, second)
+        }
+        Command::Check { .. } => {
+            let [first, second, cert] = fetched else {
+                unreachable!();
+            };
+            rule(alloc, gate, first, second, cert)
+        }
+    }
 }
 
-// What is under a name, within a limit of bytes.
-fn fetched<F: Files>(
+// The files of a command, in its order.
+fn fetch_files<F: Files>(
     alloc: Global,
-    name: &str,
-    limit: usize,
+    command: Command<&str>,
     files: &mut F,
-) -> Result<Fetched, Status>
-    ensures content { IfOk result (λ fetched. HoldsFetched (F.held files.old) name.now limit fetched) }
+) -> Result<Vec<Fetched>, Status>
+    ensures content { IfOk result (λ fetched. HoldAll (F.held files.old) (fetches (named command.entry)) fetched.items) }
     ensures failure { IfErr result (λ status. ReadFailed status (Rose (F.failures files.old) (F.failures files.new))) }
-    ensures later { F.failures files.old ≤ F.failures files.new }
-    ensures asked { Asks (F.asked files.old) (F.asked files.new) (Fetch name.now) result }
+    ensures asked { AsksAll (F.held files.old) (F.asked files.old) (F.asked files.new) (names_of (named command.entry)) result }
     ensures held { F.held files.new ≡ F.held files.old }
 {
-    match files.fetch(alloc, name, limit) {
+    match command {
+        Command::Validate { first, second } => {
+            let all = [
+                Wanted {
+                    name: first,
+                    limit: LONGEST_FILE,
+                },
+                Wanted {
+                    name: second,
+                    limit: LONGEST_FILE,
+                },
+            ];
+            fetch_all(alloc, &all, files)
+        }
+        Command::Check {
+            first,
+            second,
+            cert,
+        } => {
+            let all = [
+                Wanted {
+                    name: first,
+                    limit: LONGEST_FILE,
+                },
+                Wanted {
+                    name: second,
+                    limit: LONGEST_FILE,
+                },
+                Wanted {
+                    name: cert,
+                    limit: LONGEST_CERT,
+                },
+            ];
+            fetch_all(alloc, &all, files)
+        }
+    }
+}
+
+// What is under these names, each within its limit.
+fn fetch_all<F: Files>(alloc: Global, all: &[Wanted], files: &mut F) -> Result<Vec<Fetched>, Status>
+    ensures content { IfOk result (λ fetched. AllZip (HoldsWanted (F.held files.old)) all.now fetched.items) }
+    ensures failure { IfErr result (λ status. ReadFailed status (Rose (F.failures files.old) (F.failures files.new))) }
+    ensures asked { AsksAll (F.held files.old) (F.asked files.old) (F.asked files.new) (wanted_names all.now) result }
+    ensures held { F.held files.new ≡ F.held files.old }
+{
+    let mut fetched = Vec::new(alloc);
+    for wanted in all {
+        let file = fetch(alloc, wanted, files)?;
+        keep(&mut fetched, file)?;
+    }
+    Ok(fetched)
+}
+
+// Adds a file after the others.
+fn keep(fetched: &mut Vec<Fetched>, file: Fetched) -> Result<(), Status>
+    ensures items { OnOk result (fetched.new.items ≡ fetched.old.items ++ file ∷ []) }
+    ensures memory { IfErr result (λ status. status ≡ Status.Memory) }
+{
+    match fetched.push(file) {
+        Ok(()) => Ok(()),
+        Err(_) => Err(Status::Memory),
+    }
+}
+
+// What is under a name, within its limit of bytes.
+fn fetch<F: Files>(alloc: Global, file: &Wanted, files: &mut F) -> Result<Fetched, Status>
+    ensures content { IfOk result (λ fetched. HoldsFetched (F.held files.old) (file.now.name.now, file.now.limit) fetched) }
+    ensures failure { IfErr result (λ status. ReadFailed status (Rose (F.failures files.old) (F.failures files.new))) }
+    ensures later { F.failures files.old ≤ F.failures files.new }
+    ensures asked { Asks (F.asked files.old) (F.asked files.new) (Fetch file.now.name.now) result }
+    ensures held { F.held files.new ≡ F.held files.old }
+{
+    match files.fetch(alloc, file.name, file.limit) {
         Ok(bytes) => {
             law_bytes(&bytes);
             Ok(Fetched::Bytes(bytes))

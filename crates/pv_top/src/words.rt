@@ -2,27 +2,20 @@
 
 ghost use Rattle.std.specs.Prelude.{◌≡◌, ◌↔◌, IsTrue};
 ghost use Rattle.pv_top.specs.Words.{IsFileName};
-ghost use Rattle.pv_top.specs.Commands.{IsCommand};
+ghost use Rattle.pv_top.specs.Commands.{IsRead};
 
-/// A command, by its words.
+/// A command, by the names of its files.
 #[derive(Clone, Copy, Debug)]
-pub enum Command<'a> {
+pub enum Command<N> {
     /// Compare two class files.
-    Validate {
-        first: &'a str,
-        second: &'a str,
-    },
+    Validate { first: N, second: N },
     /// Check a certificate for two class files.
-    Check {
-        first: &'a str,
-        second: &'a str,
-        cert: &'a str,
-    },
+    Check { first: N, second: N, cert: N },
 }
 
 /// The command that the words are, None where they are none.
-pub fn read_words<'a>(words: &[&'a str]) -> Option<Command<'a>>
-    ensures { IsCommand words.now result }
+pub(crate) fn read_words<'a>(words: &[&'a str]) -> Option<Command<&'a str>>
+    ensures { IsRead words.now result }
 {
     match words {
         [command, first, second] => {

@@ -1,27 +1,17 @@
-use Rattle.std.proofs.Common.{inl, inr, Ok, Err}
-use Rattle.pv_report.specs.Judging.{ReadsFetched}
-use Rattle.pv_report.proofs.Judgements.{judges}
+use Rattle.pv_report.specs.Verdicts.{IsVerdict}
+use Rattle.pv_report.proofs.Judgements.{bad_file, judges}
+use Rattle.pv_report.proofs.Lists.{zip_length}
 use Rattle.pv_report.proofs.report.judge.Goals as goal
 
 pub returns-in-Err : goal.returns-in-Err
-returns-in-Err c a b first second =
-    let bad : ReadsFetched c.args.first.now (Err c.in-Err.fault) = rw c.in-Err.is at c.in_ok-file.ensures.reads in
-    inl (c.in-Err.fault, bad a first, c.in_ok-bad_class-in-Err.ensures)
+returns-in-Err c =
+    let said = c.in_ok-bad_class-in-Err.field-0 in
+    bad_file c.args.first.now c.args.second.now c.in-Err.bad said.text.items said.status (rw c.in-Err.is at c.in_ok-pair.ensures.reads) c.in_ok-bad_class-in-Err.ensures.text c.in_ok-bad_class-in-Err.ensures.status
 
-pub returns-in-Err-2 : goal.returns-in-Err-2
-returns-in-Err-2 c a b first second =
-    let one : ReadsFetched c.args.first.now (Ok c.in-Ok.file) = rw c.in-Ok.is at c.in_ok-file.ensures.reads in
-    let bad : ReadsFetched c.args.second.now (Err c.in-Err-2.fault) = rw c.in-Err-2.is at c.in_ok-file-2.ensures.reads in
-    inr ((c.in-Ok.file, one a first), (c.in-Err-2.fault, bad b second, c.in_ok-bad_class-in-Err-2.ensures))
+pub lines-requires : goal.lines-requires
+lines-requires c = rw (c.deref.ensures.value, c.as_slice.ensures) (zip_length (IsVerdict c.in-Ok.pair.first c.in-Ok.pair.second) c.in-Ok.pair.first.methods c.in_ok-verdicts.verdicts.items c.in_ok-verdicts.ensures)
 
 pub returns : goal.returns
 returns c =
-    let one : ReadsFetched c.args.first.now (Ok c.in-Ok.file) = rw c.in-Ok.is at c.in_ok-file.ensures.reads in
-    let two : ReadsFetched c.args.second.now (Ok c.in-Ok-2.file) = rw c.in-Ok-2.is at c.in_ok-file-2.ensures.reads in
-    judges c.args.first.now c.args.second.now c.in-Ok.file c.in-Ok-2.file c.compare.result one two c.compare.ensures
-
-pub compare-requires-clause-first : goal.compare-requires-clause-first
-compare-requires-clause-first c = rw c.in-Ok.is at c.in_ok-file.ensures.class
-
-pub compare-requires-clause-second : goal.compare-requires-clause-second
-compare-requires-clause-second c = rw c.in-Ok-2.is at c.in_ok-file-2.ensures.class
+    judges c.args.first.now c.args.second.now c.in-Ok.pair c.in_ok-verdicts.verdicts.items c.in_ok-text.text.items c.status_of-status.result (rw c.in-Ok.is at c.in_ok-pair.ensures.reads) c.in_ok-verdicts.ensures
+    (rw (c.deref.ensures.value, c.as_slice.ensures) at c.in_ok-text.ensures) (rw c.deref-2.ensures.value at c.status_of-status.ensures)

@@ -1,6 +1,6 @@
-use Rattle.pv_report.specs.Roots.{Alike, HaveLeast}
-use Rattle.pv_report.proofs.Likenesses.{verdict_lacking}
-use Rattle.pv_report.proofs.SameRoots.{alike_least, compared}
+use Rattle.std.proofs.Common.{sym, ◌∙◌}
+use Rattle.pv_report.specs.Roots.{HaveLeast}
+use Rattle.pv_report.proofs.Partnering.{verdict_lacking}
 use Rattle.pv_report.proofs.verdict.verdict_with.Goals as goal
 
 pub returns-in-Err : goal.returns-in-Err
@@ -9,11 +9,9 @@ returns-in-Err c m p here there = verdict_lacking c.args.first.now m c.args.seco
 pub returns-then-first-second : goal.returns-then-first-second
 returns-then-first-second c m p here there =
     let least : HaveLeast c.args.first.now m c.args.second.now p c.in-Ok.roots = rw c.in-Ok.is at (c.in_ok-roots.ensures m p here there) in
-    let one = compared c.first.result c.second.result c.in-Ok.roots.first c.in-Ok.roots.second (Alike least.roots) c.first.ensures c.second.ensures (alike_least c.args.first.now m c.args.second.now p c.in-Ok.roots least) in
-    (least.roots, one.0 c.if-first-second.true)
+    (c.in-Ok.roots, least, sym c.first.ensures ∙ c.if-first-second.true ∙ c.second.ensures)
 
 pub returns : goal.returns
 returns c m p here there =
     let least : HaveLeast c.args.first.now m c.args.second.now p c.in-Ok.roots = rw c.in-Ok.is at (c.in_ok-roots.ensures m p here there) in
-    let one = compared c.first.result c.second.result c.in-Ok.roots.first c.in-Ok.roots.second (Alike least.roots) c.first.ensures c.second.ensures (alike_least c.args.first.now m c.args.second.now p c.in-Ok.roots least) in
-    (least.roots, λ alike. c.if-first-second.false (one.1 alike))
+    (c.in-Ok.roots, least, λ same. c.if-first-second.false (c.first.ensures ∙ same ∙ sym c.second.ensures))

@@ -1,47 +1,57 @@
-use Rattle.std.proofs.Common.{List, ℕ, inl, inr, subst}
-use Rattle.pv_top.specs.Words.{IsCheck, IsNoCommand, IsValidate, texts}
+use Rattle.std.proofs.Common.{◌≡◌, List, ℕ, Option, Some, None, refl, subst}
+use Rattle.pv_base.specs.Outside.{Rose}
+use Rattle.pv_top.specs.declared.words.Command.{Command}
+use Rattle.pv_top.specs.Commands.{named}
+use Rattle.pv_top.specs.Words.{IsCommand, first_of, second_of, texts}
+use Rattle.pv_top.specs.Run.{Answered, CallsFor}
 use Rattle.pv_top.specs.Promise.{EachEquivalent}
-use Rattle.pv_top.proofs.Answering.{check_equivalent, validate_equivalent}
-use Rattle.pv_top.proofs.Commands.{not_both, one_check, one_validate}
+use Rattle.pv_top.proofs.Answering.{answered_equivalent}
+use Rattle.pv_top.proofs.Commands.{one_command}
 use Rattle.pv_top.proofs.top.run.Goals as goal
 
-pub returns-in-Some-Validate-clause-equivalent : goal.returns-in-Some-Validate-clause-equivalent
-returns-in-Some-Validate-clause-equivalent g c a b on =
+pub returns-in-Some-clause-answered : goal.returns-in-Some-clause-answered
+returns-in-Some-clause-answered g c o is =
     let words = texts c.args.words.now in
-    let first = c.in-Some-Validate.first.now in
-    let second = c.in-Some-Validate.second.now in
-    let held = g.F.Files.held c.args.files.now in
+    let read : IsCommand words (Some (named c.in-Some.command)) = c.in-Some.ensures in
     let old = g.K.Sink.sent c.args.out.now in
-    let new = g.K.Sink.sent c.validate.new.out in
-    let read : IsValidate words first second = rw c.in-Some-Validate.field-0-is at c.in-Some-Validate.ensures in
-    elim on [
-      | inl v ↦
-          let one = one_validate words first second a b read v in
-          subst (λ (x : List ℕ). EachEquivalent held x b old new) one.0 (subst (λ (y : List ℕ). EachEquivalent held first y old new) one.1 (validate_equivalent held first second old new _ _ c.validate.result c.validate.ensures.answered))
-      | inr k ↦ absurd (not_both words first second a b k.0 read k.1)
-    ]
+    let new = g.K.Sink.sent c.execute.new.out in
+    subst (λ (x : Option (Command (List ℕ))). Answered (g.F.Files.held c.args.files.now) x old new (Rose (g.F.Files.failures c.args.files.now) (g.F.Files.failures c.execute.new.files)) (Rose (g.K.Sink.failures c.args.out.now) (g.K.Sink.failures c.execute.new.out)) c.execute.result) (one_command words (Some (named c.in-Some.command)) o read is) c.execute.ensures.answered
 
-pub returns-in-Some-Check-clause-equivalent : goal.returns-in-Some-Check-clause-equivalent
-returns-in-Some-Check-clause-equivalent g c a b on =
+pub returns-in-Some-clause-asked : goal.returns-in-Some-clause-asked
+returns-in-Some-clause-asked g c o is =
     let words = texts c.args.words.now in
-    let first = c.in-Some-Check.first.now in
-    let second = c.in-Some-Check.second.now in
-    let cert = c.in-Some-Check.cert.now in
+    let read : IsCommand words (Some (named c.in-Some.command)) = c.in-Some.ensures in
+    let old = g.F.Files.asked c.args.files.now in
+    let new = g.F.Files.asked c.execute.new.files in
+    subst (λ (x : Option (Command (List ℕ))). CallsFor (g.F.Files.held c.args.files.now) x old new c.execute.result) (one_command words (Some (named c.in-Some.command)) o read is) c.execute.ensures.asked
+
+pub returns-in-Some-clause-equivalent : goal.returns-in-Some-clause-equivalent
+returns-in-Some-clause-equivalent g c o is =
+    let words = texts c.args.words.now in
+    let read : IsCommand words (Some (named c.in-Some.command)) = c.in-Some.ensures in
     let held = g.F.Files.held c.args.files.now in
     let old = g.K.Sink.sent c.args.out.now in
-    let new = g.K.Sink.sent c.check.new.out in
-    let read : IsCheck words first second cert = rw c.in-Some-Check.field-0-is at c.in-Some-Check.ensures in
-    elim on [
-      | inl v ↦ absurd (not_both words a b first second cert v read)
-      | inr k ↦
-          let one = one_check words first second cert a b k.0 read k.1 in
-          subst (λ (x : List ℕ). EachEquivalent held x b old new) one.0 (subst (λ (y : List ℕ). EachEquivalent held first y old new) one.1 (check_equivalent held first second cert old new _ _ c.check.result c.check.ensures.checked))
-    ]
+    let new = g.K.Sink.sent c.execute.new.out in
+    let both : ◌≡◌ {A = Option (Command (List ℕ))} (Some (named c.in-Some.command)) (Some o) = one_command words (Some (named c.in-Some.command)) (Some o) read is in
+    let same : named c.in-Some.command ≡ o = cc both in
+    subst (λ (x : Command (List ℕ)). EachEquivalent held (first_of x) (second_of x) old new) same (answered_equivalent held (named c.in-Some.command) old new _ _ c.execute.result c.execute.ensures.answered)
+
+pub returns-in-None-clause-answered : goal.returns-in-None-clause-answered
+returns-in-None-clause-answered g c o is =
+    let words = texts c.args.words.now in
+    let none : IsCommand words None = c.in-None.ensures in
+    let old = g.K.Sink.sent c.args.out.now in
+    let new = g.K.Sink.sent c.say.new.out in
+    subst (λ (x : Option (Command (List ℕ))). Answered (g.F.Files.held c.args.files.now) x old new (Rose (g.F.Files.failures c.args.files.now) (g.F.Files.failures c.args.files.now)) (Rose (g.K.Sink.failures c.args.out.now) (g.K.Sink.failures c.say.new.out)) c.say.result) (one_command words None o none is) c.say.ensures
+
+pub returns-in-None-clause-asked : goal.returns-in-None-clause-asked
+returns-in-None-clause-asked g c o is =
+    let words = texts c.args.words.now in
+    let none : IsCommand words None = c.in-None.ensures in
+    let old = g.F.Files.asked c.args.files.now in
+    subst (λ (x : Option (Command (List ℕ))). CallsFor (g.F.Files.held c.args.files.now) x old old c.say.result) (one_command words None o none is) refl
 
 pub returns-in-None-clause-equivalent : goal.returns-in-None-clause-equivalent
-returns-in-None-clause-equivalent g c a b on =
-    let none : IsNoCommand (texts c.args.words.now) = c.in-None.ensures in
-    elim on [
-      | inl v ↦ absurd (none.no_validate a b v)
-      | inr k ↦ absurd (none.no_check a b k.0 k.1)
-    ]
+returns-in-None-clause-equivalent g c o is =
+    let none : IsCommand (texts c.args.words.now) None = c.in-None.ensures in
+    absurd (none o is)

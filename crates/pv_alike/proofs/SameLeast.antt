@@ -1,12 +1,12 @@
 -- The same two roots have one least graph, whatever graph they stand in.
-use Rattle.std.proofs.Common.{◌≡◌, ◌↔◌, ℕ, List, length, sym, ap, ◌∙◌, Bool}
+use Rattle.std.proofs.Common.{◌≡◌, ℕ, List, length, sym, ap, ◌∙◌, Bool}
 use Rattle.pv_graph.specs.declared.node.OpSort.{OpSort}
 use Rattle.pv_graph.specs.declared.node.Node.{Node}
 use Rattle.pv_graph.specs.Unfold.{unfold_at}
 use Rattle.pv_graph.specs.Graphs.{Graph, form_at}
 use Rattle.pv_graph.specs.Calls.{IsSame}
-use Rattle.pv_alike.specs.Least.{Rooted, UnfoldsAs, IsLeast, IsLeastOf}
-use Rattle.pv_alike.specs.Laws.{AreSameRoots, IsSameRooted, SameLeastNodes, SameLeast}
+use Rattle.pv_alike.specs.Least.{UnfoldsAs, IsLeast}
+use Rattle.pv_alike.specs.Laws.{AreSameRoots, SameLeastNodes, SameLeast}
 use Rattle.pv_alike.proofs.LeastOnce.{least_once}
 use Rattle.pv_alike.proofs.Sorts.{one_sorts}
 
@@ -48,9 +48,9 @@ same_least g h a b c d l m p q =
           let one = both.1 same in
           record {
             graph = same_graph l.graph m.graph one.0
-            (one_sorts l.graph m.graph one.0 p.made q.made p.sealed q.sealed)
-            (p.sealed ∙ sym q.sealed)
-            (p.base ∙ ap (λ (xs : List Node). length xs) one.0 ∙ sym q.base);
+                (one_sorts l.graph m.graph one.0 p.made q.made p.sealed q.sealed)
+                (p.sealed ∙ sym q.sealed)
+                (p.base ∙ ap (λ (xs : List Node). length xs) one.0 ∙ sym q.base);
             first = one.1;
             second = one.2;
           }),

@@ -34,5 +34,5 @@ mod table;
 
 pub use class::{LONGEST_FILE, read_class};
 pub use fault::{ClassFault, PoolWord};
-pub use file::{ACC_STATIC, ACC_SYNCHRONIZED, Bytes, ClassFile, Code, Method, Methods};
+pub use file::{ACC_STATIC, ACC_SYNCHRONIZED, ClassFile, Code, Method, Methods};
 pub use pv_pool::{Entry, Pool};

@@ -13,12 +13,12 @@ ghost use Rattle.pv_frame.specs.declared.used.Use.TheVariants as used;
 
 use crate::action::{Action, Comparison, Test};
 use crate::cause::{CauseKind, Refused};
-use crate::items::Items;
 use crate::plain::plain;
 use crate::sort::Sort;
 use crate::stop::Stop;
 use crate::used::Use;
 use pv_insn::{Case, Insn, Placed};
+use pv_list::Listed;
 use pv_pool::{Constant, Member, Pool};
 use pv_value::{
     Descriptor, Form, JType, Memory, Name, Num, Sym, read_descriptor, read_field_type, receiver_sym,
@@ -196,7 +196,7 @@ fn copied_sym(alloc: Global, sym: &Sym) -> Result<Sym, Memory>
 }
 
 /// The cases of a tableswitch from its lowest number on.
-fn cases_from(alloc: Global, low: i32, targets: &[u32]) -> Result<Items<Case>, AllocError>
+fn cases_from(alloc: Global, low: i32, targets: &[u32]) -> Result<Listed<Case>, AllocError>
     requires { (low +ℤ pos (length targets.now)) ≤ℤ pos (2 ^ 31) }
     ensures { IfOk result (λ cases. cases ≡ cases_from low targets.now) }
 {

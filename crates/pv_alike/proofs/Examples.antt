@@ -2,6 +2,7 @@
 use Rattle.std.specs.Prelude.{◌≡◌, ℕ, zero, suc, ◌<◌, pos, List, [], ◌∷◌, refl}
 use Rattle.std.specs.List.{Contains}
 use Rattle.std.proofs.Common.{sym, ◌∙◌, arith}
+use Rattle.pv_list.proofs.Cited.{contains_at}
 use Rattle.pv_graph.specs.declared.node.Op.TheVariants as op
 use Rattle.pv_graph.specs.declared.node.Node.{Node}
 use Rattle.pv_graph.specs.Nodes.{node_of}
@@ -11,7 +12,6 @@ use Rattle.pv_graph.proofs.Cited.{Bisimulates, bisimulates_unfolds}
 use Rattle.pv_alike.specs.Visits.{Visits, done, again, new}
 use Rattle.pv_alike.specs.Least.{UnfoldEqually, UnfoldsAs, IsLeast}
 use Rattle.pv_alike.specs.Laws.{AreSameRoots}
-use Rattle.pv_alike.proofs.Places.{contains_at}
 use Rattle.pv_alike.proofs.SameLeast.{least_moved}
 
 -- 0, a loop from it that stays there, another, 1, and a loop from 0 that is 1 after each turn

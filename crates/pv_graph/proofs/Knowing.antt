@@ -1,8 +1,8 @@
 -- What is known of the first nodes stays right while a graph grows.
 use Rattle.std.specs.Prelude.{◌≡◌, ◌≢◌, ◌⊎◌, ◌↔◌, ℕ, zero, suc, ◌+◌, ◌-◌, ◌<◌, ◌≤◌, Bool, true, false, IsTrue, List, [], ◌∷◌, ◌++◌, take, length, Option, Some, None, slice_get, slice_set, Vec, refl}
 use Rattle.std.specs.declared.alloc.Global.{Global}
-use Rattle.std.proofs.Common.{inl, inr, sym, ap, ◌∙◌, subst, arith, length-append}
-use Rattle.std.proofs.lemmas.Option.{slice_get_within, same_Some}
+use Rattle.std.proofs.Common.{inl, inr, sym, ap, ◌∙◌, subst, arith, get_or, length-append}
+use Rattle.std.proofs.lemmas.Option.{slice_get_within, slice_get_read, same_Some}
 use Rattle.pv_value.specs.Spelled.{bind}
 use Rattle.pv_graph.specs.declared.node.Op.{Op}
 use Rattle.pv_graph.specs.declared.node.Node.{Node}
@@ -229,3 +229,10 @@ pub mark_says : (nodes : List Node) (known : Known) (d n : ℕ) (yes' : Bool) �
 mark_says nodes known d n yes' is low has =
     let one : d - 1 + 1 ≡ d = omega arith in
     subst (λ (k : ℕ). IsTrue yes' ↔ Free (form_at nodes) k n) one ((is.marks (d - 1) has.0 has.1).says n yes' has.2)
+
+-- the marks of a depth, where there are marks of all nodes
+pub known_at : (nodes : List Node) (known : Known) (d n : ℕ) (marks : Vec Bool Global) → Knows nodes d known → marks ≡ get_or known.marks.items (d - 1) marks → n < length nodes → (slice_get known.marks.items (d - 1) ≡ Some marks) × (n < length marks.items)
+known_at nodes known d n marks all is lt =
+    let at = slice_get_read known.marks.items (length known.marks.items) (d - 1) marks refl (slice_get_within known.marks.items (d - 1) all.0 all.1) is in
+    let long : length marks.items ≡ length nodes = ap (λ (v : Vec Bool Global). length v.items) (same_Some marks all.0 (sym at ∙ all.1)) ∙ all.2 in
+    (at, omega (arith, long, lt))

@@ -1,5 +1,5 @@
 -- What the marks of a search say.
-use Rattle.std.specs.Prelude.{◌≡◌, ◌↔◌, ℕ, zero, suc, ◌+◌, ◌<◌, ◌≤◌, Bool, true, false, not, ◌||◌, ◌==◌, List, [], ◌∷◌, ◌++◌, length, Option, Some, None, ◌-◌, slice_get, slice_set, IsTrue, Vec, refl, if◌then◌else◌}
+use Rattle.std.specs.Prelude.{◌≡◌, ◌↔◌, ℕ, zero, suc, ◌+◌, ◌<◌, ◌≤◌, Bool, true, false, not, ◌||◌, ◌==◌, List, [], ◌∷◌, ◌++◌, map, length, Option, Some, None, ◌-◌, slice_get, slice_set, IsTrue, Vec, refl, if◌then◌else◌}
 use Rattle.std.proofs.Common.{inl, inr, sym, ap, ◌∙◌, subst, arith, get_or, take, length-append, replicate}
 use Rattle.std.proofs.lemmas.Option.{slice_get_within, same_Some}
 use Rattle.std.proofs.lemmas.List.{take_more, length-take-le}
@@ -19,6 +19,7 @@ use Rattle.pv_graph.specs.Graphs.{Graph, form_at, IsGraph}
 use Rattle.pv_graph.specs.Walks.{In, open_kids, Free, here, below, Reaches, itself, along, IsSettled}
 use Rattle.pv_graph.specs.Reach.{begins, follows, Uses, IsUse, IsMarked, AreUses, Passes, Hits, AreReached, IsBegun, AreBegun, AreOut, Leads, there, through, AreMarked, IsSearched, KidsWithin, AllKidsWithin}
 use Rattle.pv_graph.specs.Reach as hits
+use Rattle.pv_graph.specs.Calls.{AreFreeMarks, AreSettledMarks}
 use Rattle.pv_graph.proofs.NodeLaws.{node_at, form_there, kid_within}
 use Rattle.pv_graph.proofs.Tying.{set_same, set_other, set_length, equal_or_not}
 use Rattle.pv_graph.proofs.Reaching.{in_front, in_last, in_cases}
@@ -265,6 +266,25 @@ settled_says g assumed n marks b is at = ((λ t. settled g.nodes is.out assumed 
     clear true at calm = absurd (unsettled g.nodes is.out assumed is.are n ((is.marked.says n).0 at) calm)
     clear false at calm = refl
 
+pub free_marks : (g : Graph) (d : ℕ) (marks : List Bool) → IsSearched g.nodes [] (look.Free d) marks → AreFreeMarks g d marks
+free_marks g d marks is = record { long = is.marked.long; says = λ n b at. free_says g d n marks b is at }
+
+-- the other marks
+not_marks : (marks : List Bool) (n : ℕ) (b : Bool) → slice_get (map not marks) n ≡ Some b → (c : Bool) × (slice_get marks n ≡ Some c) × (not c ≡ b)
+not_marks [] n b at = absurd (cc)
+not_marks (c ∷ marks) zero b at = (c, refl, same_Some (not c) b at)
+not_marks (c ∷ marks) (suc n) b at = not_marks marks n b at
+
+not_long : (marks : List Bool) → length (map not marks) ≡ length marks
+not_long [] = refl
+not_long (c ∷ marks) = ap suc (not_long marks)
+
+pub settled_marks : (g : Graph) (assumed : List ℕ) (marks others : List Bool) → IsSearched g.nodes assumed look.All marks → others ≡ map not marks → AreSettledMarks g assumed others
+settled_marks g assumed marks others is e = subst (AreSettledMarks g assumed) (sym e) (record {
+  long = not_long marks ∙ is.marked.long;
+  says = λ n b at. let r = not_marks marks n b at in subst (λ (c : Bool). IsTrue c ↔ IsSettled (form_at g.nodes) assumed n) r.2 (settled_says g assumed n marks r.0 is r.1);
+})
+
 -- the searches of depths so far
 abbrev pub Searches : List Node → List (Vec Bool Global) → Type 0
 Searches nodes free = (d : ℕ) (marks : Vec Bool Global) → slice_get free d ≡ Some marks → IsSearched nodes [] (look.Free (d + 1)) marks.items
@@ -285,7 +305,7 @@ depth_is : (d : ℕ) (o : Op) (ss : List OpSort) (s : OpSort) → shape o ≡ th
 depth_is d (op.Theta e) ss s same over = (let one : e ≡ d = cc in ap is_depth (sym one) ∙ some_if (is_depth e) (alike ss) s over)
 depth_is d o ss s same over = absurd (cc)
 
-in_depths : (d : ℕ) → is_depth d ≡ true → (1 ≤ d) × (d ≤ 16)
+pub in_depths : (d : ℕ) → is_depth d ≡ true → (1 ≤ d) × (d ≤ 16)
 in_depths d e = (grind (arith, nat_tests), grind (arith, nat_tests))
 
 pub free_depth : (g : Graph) → IsGraph g → (d n : ℕ) → Free (form_at g.nodes) d n → (1 ≤ d) × (d ≤ 16)

@@ -1,6 +1,6 @@
 //! Which nodes reach some nodes along kids, found from the reached ones back to those that name them.
 
-ghost use Rattle.std.specs.Prelude.{◌≡◌, ◌↔◌, ◌<◌, ◌≤◌, ◌+◌, IsTrue, ℕ, Some, true, length, slice_get, IfOk, OnOk, vec_len, ◌^◌};
+ghost use Rattle.std.specs.Prelude.{◌≡◌, ◌↔◌, ◌<◌, ◌≤◌, ◌+◌, IsTrue, ℕ, Some, true, not, map, length, slice_get, IfOk, OnOk, vec_len, ◌^◌};
 ghost use Rattle.pv_graph.specs.Walks.{In};
 ghost use Rattle.pv_graph.specs.Reach.{AllKidsWithin, AreBegun, AreBegunAfter, AreFreeAfter, AreMarked, AreOut, AreReached, AreStarts, AreUses, AreUsesFrom, BeginsOrMeets, Gains, Grows, IsMarked, IsMet, IsUse, KidsWithin, Spreads, begins, follows};
 
@@ -226,6 +226,13 @@ pub(crate) fn marks_of(
     let starts = starts_of(alloc, nodes, out, look)?;
     let marks = reaching(alloc, nodes, uses, look, &starts)?;
     Ok(marks)
+}
+
+// The other marks.
+pub(crate) fn negated(alloc: Global, marks: &[bool]) -> Result<Vec<bool>, AllocError>
+    ensures { IfOk result (λ others. others.items ≡ map not marks.now) }
+{
+    marks.iter().map(|mark| !*mark).collect(alloc)
 }
 
 // Whether a node is one of the first ones, and marked.

@@ -9,7 +9,7 @@ use Rattle.pv_graph.proofs.graph.Graph.marks.Goals as goal
 pub uses_of-requires-clause-within : goal.uses_of-requires-clause-within
 uses_of-requires-clause-within c =
     subst (λ (xs : List Node). AllKidsWithin xs (0 + length xs)) (sym c.deref.ensures.value)
-    (all_from_0 (graph_of c.self.inside.nodes.items c.self.inside.sorts.items c.self.inside.is_open c.self.inside.base c.self.inside.prepared) c.self.invariant.graph)
+    (all_from_0 (graph_of c.self.inside.nodes.items c.self.inside.sorts.items c.self.inside.is_open c.self.inside.base c.self.inside.prepared) c.self.invariant.kept.graph)
 
 pub marks_of-requires-clause-uses : goal.marks_of-requires-clause-uses
 marks_of-requires-clause-uses c =

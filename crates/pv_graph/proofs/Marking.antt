@@ -129,15 +129,15 @@ out_free len assumed out is n lt free = by (found out n (let y = is.long in omeg
 
 -- ---- a depth that is free
 
-begins_theta : (d : ℕ) (o : Op) → begins (look.Free d) o ≡ true → shape o ≡ theta d
+pub begins_theta : (d : ℕ) (o : Op) → begins (look.Free d) o ≡ true → shape o ≡ theta d
 begins_theta d (op.Theta e) b = (let same : e ≡ d = grind (arith, nat_tests) in ap theta same)
 begins_theta d o b = absurd (cc)
 
-theta_begins : (d : ℕ) (o : Op) → shape o ≡ theta d → begins (look.Free d) o ≡ true
+pub theta_begins : (d : ℕ) (o : Op) → shape o ≡ theta d → begins (look.Free d) o ≡ true
 theta_begins d (op.Theta e) s = (let same : e ≡ d = cc in grind (arith, nat_tests))
 theta_begins d o s = absurd (cc)
 
-in_place : {A : Type 0} → (ks : List A) (p : ℕ) (k : A) → slice_get ks p ≡ Some k → In ks k
+pub in_place : {A : Type 0} → (ks : List A) (p : ℕ) (k : A) → slice_get ks p ≡ Some k → In ks k
 in_place [] p k e = absurd (let z = e in cc)
 in_place (l ∷ ks) zero k e = inl (same_Some l k e)
 in_place (l ∷ ks) (suc p) k e = inr (in_place ks p k e)
@@ -179,12 +179,12 @@ open_eval : (d e : ℕ) (ks : List ℕ) → open_kids d (eval e) ks ≡ eval_kid
 open_eval d e [] = refl
 open_eval d e (a ∷ ks) = refl
 
-open_in : (d : ℕ) (o : Op) (ks : List ℕ) (p k : ℕ) → slice_get ks p ≡ Some k → follows (look.Free d) o p ≡ true → In (open_kids d (shape o) ks) k
+pub open_in : (d : ℕ) (o : Op) (ks : List ℕ) (p k : ℕ) → slice_get ks p ≡ Some k → follows (look.Free d) o p ≡ true → In (open_kids d (shape o) ks) k
 open_in d (op.Eval e) ks p k at f = subst (λ (xs : List ℕ). In xs k) (sym (open_eval d e ks)) (eval_in (e == d) ks p k at f)
 open_in d (op.Pass e) ks p k at f = pass_in (e == d) ks p k at f
 open_in d o ks p k at f = in_place ks p k at
 
-open_place : (d : ℕ) (o : Op) (ks : List ℕ) (k : ℕ) → In (open_kids d (shape o) ks) k → (p : ℕ) × (slice_get ks p ≡ Some k) × (follows (look.Free d) o p ≡ true)
+pub open_place : (d : ℕ) (o : Op) (ks : List ℕ) (k : ℕ) → In (open_kids d (shape o) ks) k → (p : ℕ) × (slice_get ks p ≡ Some k) × (follows (look.Free d) o p ≡ true)
 open_place d (op.Eval e) ks k m = eval_place (e == d) ks k (subst (λ (xs : List ℕ). In xs k) (open_eval d e ks) m)
 open_place d (op.Pass e) ks k m = pass_place (e == d) ks k m
 open_place d o ks k m = let r = place_of ks k m in (r.0, r.1, refl)
@@ -244,6 +244,9 @@ kid_places kids n h p k e = h k (in_place kids p k e)
 
 pub all_within : (g : Graph) → IsGraph g → AllKidsWithin g.nodes (length g.nodes)
 all_within g is m node at = kid_places node.kids (length g.nodes) (λ k i. kid_within g is m k node at i)
+
+pub all_from_0 : (g : Graph) → IsGraph g → AllKidsWithin g.nodes (0 + length g.nodes)
+all_from_0 g is m node at p k e = let z = all_within g is m node at p k e in omega arith
 
 pub free_says : (g : Graph) (d n : ℕ) (marks : List Bool) (b : Bool) → IsSearched g.nodes [] (look.Free d) marks → slice_get marks n ≡ Some b → IsTrue b ↔ Free (form_at g.nodes) d n
 free_says g d n marks b is at = (

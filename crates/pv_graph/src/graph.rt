@@ -328,7 +328,7 @@ impl Graph {
         ensures { IfOk result (λ marks. IsSearched self.now.nodes assumed.now look marks.items) }
     {
         let out = left_out(alloc, self.nodes.len(), assumed)?;
-        let uses = uses_of(alloc, &self.nodes, &out)?;
+        let uses = uses_of(alloc, 0, &self.nodes, &out)?;
         let marks = marks_of(alloc, &self.nodes, &out, &uses, look)?;
         Ok(marks)
     }

@@ -6,7 +6,7 @@
 //! right sides of all matches too, and joins both sides of each. `specs/` says this in the order to read:
 //! - `Systems`: things with an operation and kids, and which of them are joined (`Joined`), inductions one in another included.
 //! - `Filled`, `Sides`, `Conditions`: the side of an axiom with its names filled in, in which class of things it stands, and which
-//!   classes are settled or free of a depth.
+//!   classes are settled, or have a depth that isn't free in them.
 //! - `Matches`: matches, when two are one, and how many there are.
 //! - `Terms`, `Heights`: the terms of each height, and what is joined there.
 //! - `Verdicts`: the least height that decides, and the verdict (`IsVerdict`).

@@ -75,7 +75,11 @@ impl Known {
         }
         let marks = &self.marks[i];
         let n = n as usize;
-        if n < marks.len() { Some(marks[n]) } else { None }
+        if n < marks.len() {
+            Some(marks[n])
+        } else {
+            None
+        }
     }
 
     // Notes that a theta is begun as node n, which is added after the others.

@@ -2,7 +2,8 @@
 
 ghost use Rattle.std.specs.Prelude.{◌≡◌};
 
-use pv_steps::Steps;
+use pv_list::Listed;
+use pv_steps::Step;
 use pv_value::Name;
 use std::marker::Model;
 use thiserror::Error;
@@ -12,7 +13,7 @@ use thiserror::Error;
 pub struct Section {
     pub name: Name,
     pub desc: Name,
-    pub steps: Steps,
+    pub steps: Listed<Step>,
 }
 
 /// A list of sections.

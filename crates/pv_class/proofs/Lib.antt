@@ -11,4 +11,5 @@ pub mod ClassTexts
 pub mod ClassAgrees
 mod Examples
 pub mod CodeBytes
+pub mod Placing
 pub mod Cited

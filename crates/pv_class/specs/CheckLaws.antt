@@ -163,12 +163,12 @@ none_decides pool i = (
 pub same_signature : (s t : Signature) → s.name ≡ t.name → s.desc ≡ t.desc → s ≡ t
 same_signature s t p q = ap (λ (n : List ℕ). record { name = n; desc = s.desc }) p ∙ ap (λ (d : List ℕ). record { name = t.name; desc = d }) q
 
-alike_same : (s t : Signature) → alike s t ≡ true → s ≡ t
+pub alike_same : (s t : Signature) → alike s t ≡ true → s ≡ t
 alike_same s t ok =
     let both = and_parts (bytes_eq s.name t.name) (bytes_eq s.desc t.desc) ok in
     same_signature s t ((bytes_eq-Decides s.name t.name).0 both.0) ((bytes_eq-Decides s.desc t.desc).0 both.1)
 
-same_alike : (s t : Signature) → s ≡ t → alike s t ≡ true
+pub same_alike : (s t : Signature) → s ≡ t → alike s t ≡ true
 same_alike s t e = and_from (bytes_eq s.name t.name) (bytes_eq s.desc t.desc) ((bytes_eq-Decides s.name t.name).1 (ap (λ (x : Signature). x.name) e)) ((bytes_eq-Decides s.desc t.desc).1 (ap (λ (x : Signature). x.desc) e))
 
 pub new_decides : (seen : List Signature) (s : Signature) → (not (list_any (alike s) seen) ≡ true) ↔ (Contains seen s → ⊥)

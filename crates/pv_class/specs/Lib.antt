@@ -6,6 +6,7 @@ pub mod ClassFaults
 pub mod Answers
 pub mod Items
 pub mod ClassFiles
+pub mod Places
 -- the vocabulary of private functions
 pub mod Deciding
 pub mod Reading

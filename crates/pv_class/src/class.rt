@@ -10,8 +10,9 @@ ghost use Rattle.pv_class.specs.Reading.{fault_in, of_pool};
 ghost use Rattle.pv_class.specs.Answers.{Answers, Tells};
 
 use crate::fault::{Cause, ClassFault, PoolWord, Stop};
-use crate::file::{ClassFile, Methods};
+use crate::file::ClassFile;
 use crate::items::{class_index_at, super_index_at, u16_at, u32_at};
+use crate::methods::Methods;
 use crate::reading::{fields_at, methods_at};
 use crate::room::{IN_FILE, failed};
 use crate::table::{Entries, table_at};

@@ -11,6 +11,9 @@
 //!   of class files (`Grammars`, `Checks`, `ClassGrammar`), in which each test holds the law that it
 //!   tells its fact (`CheckLaws`).
 //!
+//! Methods keep their places by name and descriptor, by which reading sees that no two are the same: `Methods::place_of`
+//! gives the place of a method (`Places`).
+//!
 //! The proofs join the spelling to the grammar by what a grammar spells (`Spells` of `pv_format`), put
 //! together as the grammar is; `takes_class` and `class_taken` of `proofs/ClassAgrees` say that both mean
 //! the same files. The layers above
@@ -26,6 +29,7 @@ mod fault;
 mod file;
 mod items;
 mod member;
+mod methods;
 mod reading;
 mod room;
 mod seen;
@@ -34,5 +38,6 @@ mod table;
 
 pub use class::{LONGEST_FILE, read_class};
 pub use fault::{ClassFault, PoolWord};
-pub use file::{ACC_STATIC, ACC_SYNCHRONIZED, Bytes, ClassFile, Code, Method, Methods};
+pub use file::{ACC_STATIC, ACC_SYNCHRONIZED, ClassFile, Code, Method};
+pub use methods::Methods;
 pub use pv_pool::{Entry, Pool};

@@ -8,9 +8,10 @@ ghost use Rattle.pv_format.specs.Stopping.{Gives};
 
 use crate::code::code_at;
 use crate::fault::{Cause, Stop};
-use crate::file::{Code, Method, Methods};
+use crate::file::{Code, Method};
 use crate::items::{contents_at, text_index_at, u16_at};
 use crate::member::{MemberHead, MemberKind, member_at, text_at};
+use crate::methods::Methods;
 use crate::room::{IN_FILE, failed};
 use crate::seen::Seen;
 use crate::signature::Signature;
@@ -159,5 +160,5 @@ pub(crate) fn methods_at<'a>(
         methods.push(method)?;
         rest = after;
     }
-    Ok((Methods::from(methods), rest))
+    Ok((Methods::of(methods, seen), rest))
 }

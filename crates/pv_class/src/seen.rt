@@ -1,7 +1,7 @@
-//! The methods that were read so far, by their signatures.
+//! Signatures, with their places.
 
 ghost use Rattle.std.specs.Prelude.{◌≡◌, ◌∷◌, ◌++◌, [], not, IfOk};
-ghost use Rattle.std.specs.List.{list_any};
+ghost use Rattle.std.specs.List.{list_any, position};
 ghost use Rattle.pv_class.specs.Deciding.{alike};
 ghost use Rattle.pv_class.specs.Reading.{Puts};
 
@@ -12,7 +12,7 @@ use std::alloc::Global;
 use std::marker::Model;
 
 /// Signatures in order, of which no two are the same.
-#[derive(Drop)]
+#[derive(Debug, Drop)]
 pub(crate) struct Seen {
     signatures: IndexSet<Signature>,
 }
@@ -41,5 +41,12 @@ impl Seen {
         ensures { IfOk result (λ is_new. Puts self.old self.new signature is_new) }
     {
         Ok(self.signatures.insert(signature)?)
+    }
+
+    /// The place of a signature.
+    pub(crate) fn place(&self, signature: &Signature) -> Option<usize>
+        ensures { result ≡ position (alike signature.now) self.now }
+    {
+        self.signatures.get_index_of(signature)
     }
 }

@@ -8,7 +8,7 @@ use pv_value::Name;
 use std::hash::{Hash, Hasher};
 
 /// The name and the descriptor of a method. No two methods of a class have the same (JVMS 4.6).
-#[derive(Drop, PartialEq, Eq)]
+#[derive(Debug, Drop, PartialEq, Eq)]
 pub(crate) struct Signature {
     pub name: Name,
     pub desc: Name,

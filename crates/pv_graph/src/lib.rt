@@ -25,6 +25,7 @@ mod base;
 mod fault;
 mod graph;
 mod index;
+mod known;
 pub mod laws;
 mod node;
 mod prepared;

@@ -1,6 +1,5 @@
 pub mod Places
 pub mod Naming
-pub mod Shown
 pub mod Likenesses
 pub mod SameFlows
 pub mod SameMeanings

@@ -1,7 +1,8 @@
 //! The report on two class files.
 //!
 //! This layer stands on `pv_build`, which converts two methods into one graph, on `pv_alike`, in which their roots
-//! are compared, and on those below them; that a root has the outcomes of its method is a law of `pv_runs`.
+//! are compared, and on those below them; that a root has the outcomes of its method is a law of `pv_runs`. `pv_token`
+//! shows names and writes numbers.
 //! `specs/` says which method is the partner of another (`Partners`), when two methods have roots that unfold alike
 //! (`Roots`), what is said of a method (`Verdicts`), what the lines are (`Lines`), and what a report is (`Report`).
 //!

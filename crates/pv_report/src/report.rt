@@ -79,7 +79,7 @@ pub fn bad_class(alloc: Global, side: Side, fault: ClassFault) -> Result<Vec<u8>
     ensures { IfOk result (λ text. text.items ≡ bad_class side fault) }
 {
     let mut text = Vec::new(alloc);
-    push_bad_class(alloc, &mut text, side, fault)?;
+    push_bad_class(&mut text, side, fault)?;
     Ok(text)
 }
 

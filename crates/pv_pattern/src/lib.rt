@@ -8,7 +8,8 @@
 //! `instance` and `instance_now` say whether two nodes are an instance of an axiom whose left side binds all
 //! that the axiom names (`specs/Binding`): each name is found at its first place in the left side
 //! (`specs/Found`, for the proofs of this crate). `add_axioms` makes axioms of the rows of a table, which are
-//! constants (`specs/Tables`).
+//! constants (`specs/Tables`). `op_number` gives the number of an operation (`specs/Numbers`), by which a search finds
+//! the nodes that a pattern may stand at.
 #![tactic(auto)]
 
 mod instances;
@@ -21,5 +22,6 @@ mod table;
 
 pub use instances::{instance, instance_now};
 pub use names::NameId;
+pub use numbers::{OP_NUMBERS, op_number};
 pub use pattern::{Atom, Axiom, By, Each, Head, Pattern, Side};
 pub use table::{Row, Term, add_axioms};

@@ -10,8 +10,9 @@
 //! (`specs/Found`). `add_axioms` makes axioms of the rows of a table, which are
 //! constants (`specs/Tables`).
 //!
-//! A layer that looks for instances also uses `op_number`, `head_name` and `fixed_op` of operations, and
-//! `folded`, `kind_type` and `field_type` of what a side makes of constants and types.
+//! A layer that looks for instances also uses `op_number`, the number of an operation (`specs/Numbers`), by which it
+//! finds the nodes that a pattern may stand at; `head_name` and `fixed_op` of operations; and `folded`, `kind_type` and
+//! `field_type` of what a side makes of constants and types.
 #![tactic(auto)]
 
 mod folding;
@@ -26,6 +27,6 @@ mod table;
 pub use folding::{field_type, folded, kind_type};
 pub use instances::{instance, instance_now};
 pub use names::{NameId, fixed_op, head_name};
-pub use numbers::op_number;
+pub use numbers::{OP_NUMBERS, op_number};
 pub use pattern::{Atom, Axiom, By, Each, Head, Pattern, Side};
 pub use table::{Row, Term, add_axioms};

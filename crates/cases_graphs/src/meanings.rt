@@ -15,7 +15,8 @@ use cases_words::bench::number;
 use cases_words::values::{outcome_text, read_nums, read_place};
 use pv_denote::den;
 use pv_graph::Graph;
-use pv_value::{Heap, Input, Nums, Val};
+use pv_list::Listed;
+use pv_value::{Heap, Input, Num, Val};
 use std::alloc::Global;
 
 // The greatest fuel and iteration of `den` is below this.
@@ -25,7 +26,7 @@ const LIMIT: u64 = 1 << 62;
 #[derive(Drop)]
 pub struct Meanings {
     setting: Setting,
-    args: Nums,
+    args: Listed<Num>,
 }
 
 impl Meanings {
@@ -33,7 +34,7 @@ impl Meanings {
     pub fn new(alloc: Global) -> Meanings {
         Meanings {
             setting: Setting::new(alloc),
-            args: Nums::from(Vec::new(alloc)),
+            args: Listed::from(Vec::new(alloc)),
         }
     }
 
@@ -99,7 +100,7 @@ impl Meanings {
     fn input(&self, alloc: Global) -> Result<Input, NoAnswer> {
         Ok(Input {
             this: 1,
-            args: Nums::from(Vec::from_slice(alloc, self.args.as_slice())?),
+            args: Listed::from(Vec::from_slice(alloc, self.args.as_slice())?),
             heap: self.setting.heap.copy()?,
         })
     }

@@ -16,7 +16,7 @@ use cases_words::answers::{Answer, NoAnswer, said};
 use cases_words::bench::{Bench, number};
 use pv_decide::{Region, Target, Tree, TreeNode, Trees};
 use pv_flow::{Block, Exit, Flow};
-use pv_frame::Items;
+use pv_list::Listed;
 use pv_loops::{Shape, reduce};
 use std::alloc::Global;
 
@@ -37,11 +37,11 @@ pub fn tree(bench: &Bench, rest: &str) -> Answer {
         blocks.push(Block {
             first: 0,
             last: 0,
-            exits: Items::from(read_exits(alloc, exits)?),
+            exits: Listed::from(read_exits(alloc, exits)?),
         })?;
     }
     let flow = Flow {
-        blocks: Items::from(blocks),
+        blocks: Listed::from(blocks),
     };
     walked(alloc, &flow, region, target)
 }

@@ -21,9 +21,9 @@ ghost use Rattle.pv_value.specs.Operations.{AreOperands};
 use crate::answers::{Answer, List, NoAnswer, said, shown};
 use crate::bench::{Bench, named, number, unescaped, words};
 use percent_encoding::{AsciiSet, CONTROLS, percent_encode};
+use pv_list::Listed;
 use pv_value::{
-    Heap, Kind, Loc, Name, Num, Nums, Outcome, ScalarOp, Sym, read_descriptor, read_field_type,
-    scalar,
+    Heap, Kind, Loc, Name, Num, Outcome, ScalarOp, Sym, read_descriptor, read_field_type, scalar,
 };
 use std::alloc::Global;
 
@@ -117,12 +117,12 @@ pub fn numbers(bench: &Bench, rest: &str) -> Answer {
 }
 
 /// The list of numbers that words write.
-pub fn read_nums(alloc: Global, words: &[&str]) -> Result<Nums, NoAnswer> {
+pub fn read_nums(alloc: Global, words: &[&str]) -> Result<Listed<Num>, NoAnswer> {
     let mut nums = Vec::new(alloc);
     for word in words {
         nums.push(read_num(word)?)?;
     }
-    Ok(Nums::from(nums))
+    Ok(Listed::from(nums))
 }
 
 /// The number that a word writes.

@@ -6,10 +6,11 @@ use Rattle.std.proofs.lemmas.Option.{slice_get_within, slice_get-get_or, same_So
 use Rattle.std.proofs.lemmas.List.Elements.{All-from_recursion}
 use Rattle.std.proofs.lemmas.Map.Keys.{IsDistinct-from_apart}
 use Rattle.std.proofs.lemmas.Map.Steps.{length-le_from_distinct_below}
+use Rattle.pv_list.proofs.Cited.{place_of, contains_at}
 use Rattle.pv_graph.specs.declared.node.Node.{Node}
 use Rattle.pv_alike.specs.Visits.{Visits}
 use Rattle.pv_alike.specs.Renumbered.{IsClosed}
-use Rattle.pv_alike.proofs.Places.{place_of, contains_at, Apart, apart_none}
+use Rattle.pv_alike.proofs.Places.{Apart, apart_none}
 use Rattle.pv_alike.proofs.Orders.{visits_apart, visits_closed}
 use Rattle.pv_alike.proofs.Seen.{has_found}
 

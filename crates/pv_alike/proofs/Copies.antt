@@ -2,6 +2,7 @@
 use Rattle.std.proofs.Common.{◌≡◌, ℕ, zero, suc, ◌<◌, List, [], ◌∷◌, ◌++◌, length, slice_get, Some, refl, sym, ap, ◌∙◌, subst, arith, length-append}
 use Rattle.std.specs.List.{range_with_len}
 use Rattle.std.proofs.lemmas.Option.{slice_get_within, same_Some}
+use Rattle.pv_list.proofs.Cited.{place_of, partner}
 use Rattle.pv_graph.specs.declared.node.Op.{Op}
 use Rattle.pv_graph.specs.declared.node.Node.{Node}
 use Rattle.pv_graph.specs.Unfold.{Tree, over, trees_of, unfold_at}
@@ -10,7 +11,7 @@ use Rattle.pv_graph.proofs.Cited.{unfold_of}
 use Rattle.pv_alike.specs.Visits.{Visits, done, again, new}
 use Rattle.pv_alike.specs.Least.{UnfoldsAs}
 use Rattle.pv_alike.specs.Renumbered.{ArePlaces, IsCopyOf, IsRenumbered}
-use Rattle.pv_alike.proofs.Places.{place_of, partner, zip_length, zip_append, Apart, range_contains, range_below, range_more}
+use Rattle.pv_alike.proofs.Places.{zip_length, zip_append, Apart, range_contains, range_below, range_more}
 use Rattle.pv_alike.proofs.Orders.{front_at, next_at}
 
 -- a place of the order, with the node that stands there, and its copy

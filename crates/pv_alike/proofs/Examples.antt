@@ -1,7 +1,8 @@
 -- Worked examples: two loops of their own that stay at 0 are one, and a loop that goes to 1 is another.
 use Rattle.std.specs.Prelude.{◌≡◌, ℕ, zero, suc, ◌<◌, pos, List, [], ◌∷◌, refl}
 use Rattle.std.specs.List.{Contains}
-use Rattle.std.proofs.Common.{arith}
+use Rattle.std.proofs.Common.{sym, ◌∙◌, arith}
+use Rattle.pv_list.proofs.Cited.{contains_at}
 use Rattle.pv_graph.specs.declared.node.Op.TheVariants as op
 use Rattle.pv_graph.specs.declared.node.Node.{Node}
 use Rattle.pv_graph.specs.Nodes.{node_of}
@@ -10,7 +11,8 @@ use Rattle.pv_graph.specs.Graphs.{form_at}
 use Rattle.pv_graph.proofs.Cited.{Bisimulates, bisimulates_unfolds}
 use Rattle.pv_alike.specs.Visits.{Visits, done, again, new}
 use Rattle.pv_alike.specs.Least.{UnfoldEqually, UnfoldsAs, IsLeast}
-use Rattle.pv_alike.proofs.Places.{contains_at}
+use Rattle.pv_alike.specs.Laws.{AreSameRoots}
+use Rattle.pv_alike.proofs.SameLeast.{least_moved}
 
 -- 0, a loop from it that stays there, another, 1, and a loop from 0 that is 1 after each turn
 abbrev loops : List Node
@@ -69,3 +71,14 @@ two_loops_are_one = record {
 other_loop : UnfoldEqually loops 1 4 → ⊥
 unfolding unfold_at
 other_loop same = let e = same 2 in cc
+
+-- the two loops are the same two roots as the one loop of the other graph, taken twice, so that has the same least graph
+same_two_loops : AreSameRoots loops 1 2 one_loop 0 0
+same_two_loops = record { first = λ m. sym (as_it_stands 0 1 tt m); second = λ m. sym (as_it_stands 0 2 tt m) }
+
+least_elsewhere : IsLeast one_loop 0 0 one_loop 0 0
+least_elsewhere = least_moved loops one_loop 1 2 0 0 one_loop 0 0 same_two_loops two_loops_are_one
+
+-- and where the second root goes to 1 they aren't
+not_the_same : AreSameRoots loops 1 4 one_loop 0 0 → ⊥
+not_the_same same = other_loop (λ m. same.first m ∙ sym (same.second m))

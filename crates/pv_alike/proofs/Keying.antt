@@ -6,6 +6,7 @@ use Rattle.std.proofs.lemmas.Option.{slice_get_within, same_Some, none-some}
 use Rattle.std.proofs.lemmas.List.{get_or-set_same, get_or-set_other}
 use Rattle.std.proofs.lemmas.List.Folds.{list_any_at}
 use Rattle.indexmap.specs.IndexSet.{insert_key}
+use Rattle.pv_list.proofs.Cited.{place_of, contains_at}
 use Rattle.pv_graph.specs.contracts.node.NodePartialEq.TheImpl.{eq-value as node_eq}
 use Rattle.pv_graph.specs.contracts.node.NodeEq.TheImpl.Laws.{laws-law}
 use Rattle.pv_graph.specs.declared.node.Op.{Op}
@@ -20,7 +21,6 @@ use Rattle.pv_graph.specs.Graphs.{form_at}
 use Rattle.pv_graph.specs.Partition.{is_theta, IsA, Level, IsPass}
 use Rattle.pv_alike.specs.BottomUp.{IsBottomUp}
 use Rattle.pv_alike.specs.Keys.{Keyed, number_at, over_numbers, key_of, IsKeyed, IsOnto}
-use Rattle.pv_alike.proofs.Places.{place_of, contains_at}
 use Rattle.pv_alike.proofs.Upward.{kid_before, upward_low, upward_few}
 
 -- ---- keys

@@ -2,6 +2,7 @@
 use Rattle.std.proofs.Common.{◌≡◌, ◌↔◌, ℕ, ◌<◌, List, [], ◌∷◌, length, slice_get, Some, sym, ap, ◌∙◌, subst, arith}
 use Rattle.std.specs.List.{Contains, AllByRecursion, range_with_len}
 use Rattle.std.proofs.lemmas.Option.{slice_get_within, same_Some}
+use Rattle.pv_list.proofs.Cited.{contains_at}
 use Rattle.pv_graph.specs.declared.node.Node.{Node}
 use Rattle.pv_graph.proofs.Cited.{found}
 use Rattle.pv_graph.specs.Unfold.{unfold_at}
@@ -10,7 +11,7 @@ use Rattle.pv_denote.proofs.Cited.{unfolds_value}
 use Rattle.pv_alike.specs.Visits.{Visits}
 use Rattle.pv_alike.specs.Least.{UnfoldEqually, UnfoldsAs, MeansAs, IsLeast}
 use Rattle.pv_alike.specs.Renumbered.{IsCopyOf, IsRenumbered}
-use Rattle.pv_alike.proofs.Places.{contains_at, zip_length, apart_none, range_contains, range_below}
+use Rattle.pv_alike.proofs.Places.{zip_length, apart_none, range_contains, range_below}
 use Rattle.pv_alike.proofs.Orders.{visits_all, visits_apart, visits_closed}
 use Rattle.pv_alike.proofs.Copies.{copy_unfolds, copies_visits}
 

@@ -3,6 +3,7 @@ use Rattle.std.proofs.Common.{◌≡◌, ℕ, suc, ◌<◌, List, [], ◌∷◌,
 use Rattle.std.specs.List.{Contains, AllZip, AllByRecursion, range_with_len}
 use Rattle.std.proofs.lemmas.Option.{same_Some}
 use Rattle.std.proofs.lemmas.List.FromFn.{length-range_with_len}
+use Rattle.pv_list.proofs.Cited.{place_of, contains_at, partner}
 use Rattle.pv_graph.specs.declared.node.Op.{Op}
 use Rattle.pv_graph.specs.declared.node.Node.{Node}
 use Rattle.pv_graph.proofs.Cited.{found, unfold_of}
@@ -10,7 +11,7 @@ use Rattle.pv_graph.specs.Unfold.{over, trees_of, unfold_at}
 use Rattle.pv_graph.specs.Graphs.{form_at}
 use Rattle.pv_alike.specs.Visits.{Visits, done, again, new}
 use Rattle.pv_alike.specs.Least.{UnfoldEqually, UnfoldsAs, IsLeast}
-use Rattle.pv_alike.proofs.Places.{place_of, contains_at, partner, zip_length, zip_append, range_get, range_below}
+use Rattle.pv_alike.proofs.Places.{zip_length, zip_append, range_get, range_below}
 use Rattle.pv_alike.proofs.Orders.{front_at, visits_all}
 use Rattle.pv_alike.proofs.LeastLaws.{least_within}
 

@@ -9,9 +9,11 @@ pub mod Origins
 pub mod Repeating
 pub mod Fewest
 pub mod Ruled
+pub mod Sorts
 pub mod Search
 pub mod Passes
 pub mod Made
+pub mod SameLeast
 pub mod Closed
 pub mod Work
 pub mod Visiting

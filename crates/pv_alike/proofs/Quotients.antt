@@ -5,6 +5,7 @@ use Rattle.std.proofs.lemmas.List.Elements.{All-from_recursion}
 use Rattle.std.proofs.Common.{inl, inr, sym, ap, ◌∙◌, subst, arith}
 use Rattle.std.proofs.lemmas.Option.{slice_get_within, same_Some, slice_get-get_or}
 use Rattle.std.proofs.lemmas.List.{get_or-set_same, get_or-set_other}
+use Rattle.pv_list.proofs.Cited.{partner}
 use Rattle.pv_graph.specs.declared.node.Op.{Op}
 use Rattle.pv_graph.specs.declared.node.Node.{Node}
 use Rattle.pv_graph.specs.Forms.{Form, form}
@@ -16,7 +17,7 @@ use Rattle.pv_alike.specs.Keys.{number_at, over_numbers, IsOnto}
 use Rattle.pv_alike.specs.Renumbered.{AreKidsWithin}
 use Rattle.pv_alike.specs.Quotient.{AreOrigins, IsOver, AreOver}
 use Rattle.pv_alike.proofs.Keying.{less_or_same}
-use Rattle.pv_alike.proofs.Places.{partner, zip_length}
+use Rattle.pv_alike.proofs.Places.{zip_length}
 use Rattle.pv_alike.proofs.Search.{kid_there}
 
 -- ---- a node that has each number

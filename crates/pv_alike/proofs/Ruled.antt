@@ -3,6 +3,7 @@
 use Rattle.std.specs.Prelude.{◌≡◌, ◌⊎◌, ℕ, zero, suc, ◌+◌, ◌-◌, ◌<◌, List, [], ◌∷◌, ◌++◌, length, Option, Some, slice_get}
 use Rattle.std.proofs.Common.{inl, inr, sym, ap, ◌∙◌, subst, arith}
 use Rattle.std.proofs.lemmas.Option.{slice_get_within}
+use Rattle.pv_list.proofs.Cited.{partner}
 use Rattle.pv_graph.specs.declared.node.Op.{Op}
 use Rattle.pv_graph.specs.declared.node.Node.{Node}
 use Rattle.pv_graph.specs.Ops.{shape}
@@ -11,7 +12,6 @@ use Rattle.pv_graph.specs.Walks.{In, Move, down, jump, move_to, Edge, Walk, stop
 use Rattle.pv_graph.specs.Graphs.{form_at}
 use Rattle.pv_graph.proofs.Cited.{node_at, form_there}
 use Rattle.pv_alike.specs.Least.{UnfoldsAs, IsLeast}
-use Rattle.pv_alike.proofs.Places.{partner}
 use Rattle.pv_alike.proofs.LeastOnce.{parts}
 use Rattle.pv_alike.proofs.Origins.{HasOrigin, there, least_origins}
 use Rattle.pv_alike.proofs.Repeating.{comes_back}

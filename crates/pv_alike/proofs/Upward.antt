@@ -5,6 +5,7 @@ use Rattle.std.proofs.Common.{inl, inr, sym, ap, ◌∙◌, subst, arith, eqb, t
 use Rattle.std.proofs.lemmas.Option.{slice_get_within, none-some, same_Some, slice_get-get_or}
 use Rattle.std.proofs.lemmas.List.{take-append-le, take-append-drop, take_more, length-take-le}
 use Rattle.std.proofs.lemmas.List.Elements.{Contains-push_cases}
+use Rattle.pv_list.proofs.Cited.{place_of, contains_at}
 use Rattle.pv_graph.specs.declared.node.Op.{Op}
 use Rattle.pv_graph.specs.declared.node.Node.{Node}
 use Rattle.pv_graph.specs.Ops.{shape}
@@ -13,7 +14,7 @@ use Rattle.pv_graph.specs.Graphs.{form_at}
 use Rattle.pv_graph.specs.Partition.{is_theta, IsRank}
 use Rattle.pv_graph.proofs.Cited.{node_at, push_cases}
 use Rattle.pv_alike.specs.BottomUp.{HasKids, IsUpward, IsBottomUp}
-use Rattle.pv_alike.proofs.Places.{place_of, contains_at, get_before, apart_push}
+use Rattle.pv_alike.proofs.Places.{get_before, apart_push}
 use Rattle.pv_alike.proofs.Seen.{has_found, found_has}
 use Rattle.pv_alike.proofs.Closed.{apart_low}
 

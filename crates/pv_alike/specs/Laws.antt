@@ -4,7 +4,8 @@ use Rattle.pv_graph.specs.declared.node.Node.{Node}
 use Rattle.pv_graph.specs.declared.node.OpSort.{OpSort}
 use Rattle.pv_graph.specs.Walks.{KeepsRule}
 use Rattle.pv_graph.specs.Graphs.{Graph, form_at, IsGraph, IsWellMade}
-use Rattle.pv_alike.specs.Least.{UnfoldEqually, UnfoldsAs, MeansAs, IsLeast}
+use Rattle.pv_graph.specs.Calls.{IsSame}
+use Rattle.pv_alike.specs.Least.{Rooted, UnfoldEqually, UnfoldsAs, MeansAs, IsLeast, IsLeastOf}
 use Rattle.pv_alike.specs.Algorithm.{IsNumbered, IsByNumber, IsLaidOut, IsDense}
 use Rattle.pv_graph.specs.Partition.{IsFiner, IsLast}
 
@@ -50,3 +51,24 @@ LeastMade = (g : Graph) (a b : ℕ) (h : List Node) (r s : ℕ) → IsWellMade g
 -- no graph with nodes that unfold as the roots has fewer nodes
 abbrev pub LeastFewest : Type 0
 LeastFewest = (g : List Node) (a b : ℕ) (h : List Node) (r s : ℕ) → IsLeast g a b h r s → (k : List Node) (c d : ℕ) → UnfoldsAs h r k c → UnfoldsAs h s k d → length h ≤ length k
+
+-- the nodes a and b of g are the same two roots as the nodes c and d of h: the first two unfold as each other, and so do the second
+pub record AreSameRoots (g : List Node) (a b : ℕ) (h : List Node) (c d : ℕ) : Type 0 where
+  pub first : UnfoldsAs g a h c
+  pub second : UnfoldsAs g b h d
+
+-- two roots of one graph and two of another have one least graph, the same nodes and the same numbers of the roots, exactly
+-- where they are the same two roots
+abbrev pub SameLeastNodes : Type 0
+SameLeastNodes = (g h : List Node) (a b c d : ℕ) (l m : List Node) (r s t u : ℕ) → IsLeast g a b l r s → IsLeast h c d m t u → ((l ≡ m) × (r ≡ t) × (s ≡ u)) ↔ AreSameRoots g a b h c d
+
+-- graphs with their two roots that are one: of the nodes, sorts, seal and base nothing differs (one graph may be prepared and
+-- the other not), and of the roots nothing
+pub record IsSameRooted (l m : Rooted) : Type 0 where
+  pub graph : IsSame l.graph m.graph
+  pub first : l.first ≡ m.first
+  pub second : l.second ≡ m.second
+
+-- .. so it is for sealed and well-made graphs, with their sorts
+abbrev pub SameLeast : Type 0
+SameLeast = (g h : Graph) (a b c d : ℕ) (l m : Rooted) → IsLeastOf g a b l → IsLeastOf h c d m → IsSameRooted l m ↔ AreSameRoots g.nodes a b h.nodes c d

@@ -12,6 +12,8 @@
 //! its node (`MeansAs`). Out of memory is the one error. And it uses the laws of `laws` (`specs/Laws`),
 //! each the contract of a function that does nothing: two nodes have one least graph, no graph with
 //! such roots has fewer nodes, it keeps the rule on cycles, and nodes that unfold equally have one sort.
+//! Roots of two graphs have one least graph exactly where they unfold as each other, so that what is
+//! said of it, as the verdict on two methods, doesn't depend on the graph in which they were made.
 //!
 //! How it is found (`specs/Algorithm`, and `Partition` of `pv_graph`): `bottom_up` orders the nodes so
 //! that each but a theta comes after its kids (`specs/BottomUp`), by a list of work for each node.

@@ -1,3 +1,3 @@
 -- The laws that the proofs of other crates cite, from one place.
 pub use Rattle.pv_axioms.proofs.SameNodes.{same_instance}
-pub use Rattle.pv_axioms.proofs.Sound.{sound}
+pub use Rattle.pv_axioms.proofs.Sound.{binds_names, sound}

@@ -1,5 +1,5 @@
 -- The axioms of all tables, by their numbers, and their instances.
-use Rattle.std.specs.Prelude.{◌≡◌, ℕ, List, ◌++◌, Some, slice_get}
+use Rattle.std.specs.Prelude.{◌≡◌, ℕ, List, [], ◌∷◌, ◌++◌, Some, slice_get}
 use Rattle.pv_graph.specs.Walks.{In}
 use Rattle.pv_pattern.specs.Patterns.{Axiom}
 use Rattle.pv_pattern.specs.Instances.{IsInstance}
@@ -11,6 +11,10 @@ use Rattle.pv_steps.specs.Right.{Instances}
 -- the axioms on numbers, choices and tokens, then those on loops, then those on the heap
 abbrev pub axioms : List Axiom
 axioms = scalar_axioms ++ (loop_axioms ++ heap_axioms)
+
+-- the same, table by table
+abbrev pub tables : List (List Axiom)
+tables = scalar_axioms ∷ loop_axioms ∷ heap_axioms ∷ []
 
 -- an axiom of a table that has this number
 pub record IsEntry (table : List Axiom) (n : ℕ) (a : Axiom) : Type 0 where

@@ -2,9 +2,9 @@
 
 ghost use Rattle.std.specs.List.{find};
 ghost use Rattle.std.specs.Option.{option_copied};
-ghost use Rattle.std.specs.Prelude.{◌≡◌, ◌↔◌, ◌==◌, IfOk, IsTrue, MatchOption};
+ghost use Rattle.std.specs.Prelude.{◌≡◌, ◌↔◌, ◌==◌, IfOk, IsTrue, MatchOption, map};
 ghost use Rattle.pv_pattern.specs.Seen.{axiom_seen};
-ghost use Rattle.pv_axioms.specs.Entries.{HasNone, Instance, IsEntry, axioms};
+ghost use Rattle.pv_axioms.specs.Entries.{HasNone, Instance, IsEntry, axioms, tables};
 
 use pv_graph::{Graph, NodeId};
 use pv_heapax::heap_axioms;
@@ -48,6 +48,13 @@ impl Axioms {
             loops: loop_axioms(alloc)?,
             heap: heap_axioms(alloc)?,
         })
+    }
+
+    /// The axioms, table by table.
+    pub fn tables(&self) -> [&[Axiom]; 3]
+        ensures { map (λ table. map axiom_seen table.now) result.items ≡ tables }
+    {
+        [&self.scalar, &self.loops, &self.heap]
     }
 
     /// The axiom with a number, or `None` where no table has one.

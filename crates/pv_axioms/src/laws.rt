@@ -1,12 +1,18 @@
 //! The laws of the axioms and of sections that use them, each as the contract of a function that does
 //! nothing.
 
+ghost use Rattle.std.specs.Prelude.{◌≡◌, flat_map};
 ghost use Rattle.pv_steps.specs.Laws.{AcceptedLeast, AcceptedNotRejected, AcceptedSame, AreSound, RejectedOnce};
-ghost use Rattle.pv_axioms.specs.Entries.{Instance, NumbersOnce, axioms};
+ghost use Rattle.pv_axioms.specs.Entries.{Instance, NumbersOnce, axioms, tables};
 
 /// Each number stands once in the tables.
 pub fn law_numbers()
     ensures { NumbersOnce axioms }
+{}
+
+/// The tables, one after the other, are the axioms.
+pub fn law_tables()
+    ensures { flat_map (λ table. table) tables ≡ axioms }
 {}
 
 /// The axioms are sound.

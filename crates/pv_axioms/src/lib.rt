@@ -5,7 +5,7 @@
 //! (`axioms`), and makes that relation of them: two nodes are the sides of an instance of the axiom with a
 //! number (`Instance`).
 //!
-//! `Axioms` holds the tables: `axiom` gives exactly the entry with a number, and `instance_of` says whether two
+//! `Axioms` holds the tables: `tables` shows them, which one after the other are `axioms`; `axiom` gives exactly the entry with a number, and `instance_of` says whether two
 //! nodes are an instance of it. The laws are clauses of functions that do nothing (`laws`): each number stands
 //! once in the tables; the axioms are sound (`AreSound` of `pv_steps`); so an accepted section makes its two
 //! roots the same, and over the least graph of two nodes it makes these the same; and a section is not both

@@ -1,7 +1,8 @@
 //! What is held in a block.
 
-use pv_frame::{Items, Sort};
+use pv_frame::Sort;
 use pv_graph::NodeId;
+use pv_list::Listed;
 
 /// A place of the operand stack or a local: its sort, and the node of its value. Where the sort isn't
 /// known, no value is, and the node is unit.
@@ -15,8 +16,8 @@ pub struct Cell {
 /// unit, of no fault, and of the token where the block begins.
 #[derive(Debug, Drop)]
 pub(crate) struct Held {
-    pub(crate) stack: Items<Cell>,
-    pub(crate) locals: Items<Cell>,
+    pub(crate) stack: Listed<Cell>,
+    pub(crate) locals: Listed<Cell>,
     pub(crate) heap: NodeId,
     pub(crate) token: NodeId,
     pub(crate) unit: NodeId,

@@ -1,15 +1,15 @@
 //! What a block leaves: its tests, and what is held at its exits.
 
 use crate::held::Cell;
-use pv_frame::Items;
 use pv_graph::NodeId;
+use pv_list::Listed;
 
 /// What is held where a block begins, or where it goes on to another: the operand stack with its top
 /// first, the locals, the heap and the token.
 #[derive(Debug, Drop)]
 pub struct State {
-    pub stack: Items<Cell>,
-    pub locals: Items<Cell>,
+    pub stack: Listed<Cell>,
+    pub locals: Listed<Cell>,
     pub heap: NodeId,
     pub token: NodeId,
 }

@@ -6,7 +6,8 @@ ghost use Rattle.pv_frame.specs.Effects.{sort_of_type, sort_of_word, test_takes,
 
 use crate::computing::{sort_of_kind, sort_of_type};
 use pv_frame::{Action, Sort, Test};
-use pv_value::{JTypes, Memory, ScalarOp};
+use pv_list::Listed;
+use pv_value::{JType, Memory, ScalarOp};
 use std::alloc::{AllocError, Global};
 
 // The sorts of the operands of an operation.
@@ -46,7 +47,7 @@ fn test_takes(test: Test) -> &'static [Sort]
 }
 
 // The sorts of parameters.
-fn parameter_sorts(alloc: Global, params: &JTypes) -> Result<Vec<Sort>, AllocError>
+fn parameter_sorts(alloc: Global, params: &Listed<JType>) -> Result<Vec<Sort>, AllocError>
     ensures { IfOk result (λ v. v.items ≡ map sort_of_type params.now) }
 {
     params

@@ -9,7 +9,7 @@ use Rattle.pv_flow.specs.Edges.{targets_of, edges_of}
 use Rattle.pv_loops.specs.declared.forest.Loop.{Loop}
 use Rattle.pv_graph.proofs.Cited.{found}
 use Rattle.pv_graph.specs.Walks.{In}
-use Rattle.pv_equations.specs.Flow.{Heads}
+use Rattle.pv_loops.specs.Ranks.{Heads}
 use Rattle.pv_equations.specs.Equations.{Values, AreEquations}
 use Rattle.pv_equations.proofs.Cited.{solvable}
 use Rattle.pv_decide.specs.declared.aim.Scope.TheVariants as scope

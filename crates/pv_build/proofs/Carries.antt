@@ -4,6 +4,7 @@ use Rattle.std.specs.Prelude.{◌||◌, ◌==◌, not, nat_lt, option_map, unwra
 use Rattle.std.specs.List.{list_any}
 use Rattle.std.proofs.lemmas.Bool.{eqb-true, eq-eqb, lt-ltb}
 use Rattle.std.proofs.lemmas.Option.{slice_get_within, slice_get-get_or, get_or_from_slice_get}
+use Rattle.pv_list.proofs.Cited.{found}
 use Rattle.pv_frame.specs.declared.action.Action.{Action}
 use Rattle.pv_frame.specs.declared.program.Program.{Program}
 use Rattle.pv_frame.specs.declared.frame.Frame.{Frame}
@@ -11,7 +12,7 @@ use Rattle.pv_frame.specs.Frames.{IsFrameAt}
 use Rattle.pv_frame.proofs.Cited.{some_of, no_some}
 use Rattle.pv_flow.specs.declared.block.Block.{Block}
 use Rattle.pv_flow.specs.Edges.{edges_of}
-use Rattle.pv_flow.proofs.Cited.{edges_within, at_within}
+use Rattle.pv_flow.proofs.Cited.{edges_within}
 use Rattle.pv_loops.specs.declared.forest.Loop.{Loop}
 use Rattle.pv_loops.specs.declared.forest.Forest.{Forest}
 use Rattle.pv_loops.specs.Loops.{Region, EdgeOf, Whole, Inside, Way, edge, more, IsLargest, IsLoop}
@@ -133,7 +134,7 @@ members_low p frames blocks forest is i l at =
 -- a block out of range writes nothing
 block_marks : (p : Program) (frames : List (Option Frame)) (blocks : List Block) (all : List Writes) → AreWritten p frames blocks all → (n : ℕ) (w : Writes) → slice_get all n ≡ Some w → Marks p.max_locals (λ s. writes_in p frames blocks s n) w
 block_marks p frames blocks all are n w at =
-    let b = at_within blocks n (subst (λ (k : ℕ). n < k) are.size (slice_get_within all n w at)) in
+    let b = found blocks n (subst (λ (k : ℕ). n < k) are.size (slice_get_within all n w at)) in
     let m = are.each n b.0 w b.1 at in
     let same : (s : ℕ) → writes_in p frames blocks s n ≡ block_writes p frames s b.0 = λ s. ap (λ (o : Option Block). unwrap_or (option_map (block_writes p frames s) o) false) b.1 in
     record { heap = m.heap ∙ sym (same 3); size = m.size; locals = λ k low. m.locals k low ∙ sym (same (local_slot k)) }

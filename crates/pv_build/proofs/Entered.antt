@@ -8,7 +8,7 @@ use Rattle.pv_graph.specs.declared.node.OpSort.TheVariants.{T}
 use Rattle.pv_graph.specs.declared.node.Op.{Op}
 use Rattle.pv_graph.specs.Graphs.{Graph}
 use Rattle.pv_equations.specs.Exp.{Exp}
-use Rattle.pv_equations.specs.Flow.{Heads}
+use Rattle.pv_loops.specs.Ranks.{Heads}
 use Rattle.pv_equations.specs.Equations.{Values, AreEquations, Node, never_exp, tree_of}
 use Rattle.pv_decide.specs.declared.tree.Target.{Target}
 use Rattle.pv_decide.specs.declared.tree.Target.TheVariants as target

@@ -18,8 +18,8 @@ use Rattle.pv_loops.specs.Shapes.{Edge}
 use Rattle.pv_loops.specs.Loops.{Region, Whole, Inside, Way, edge, more, IsLargest, IsHeader, IsLoop}
 use Rattle.pv_loops.specs.Loops as loop
 use Rattle.pv_loops.specs.Forests.{AreAround, outermost, inner}
-use Rattle.pv_loops.specs.Ranks.{header_and, headers_from, around}
-use Rattle.pv_equations.specs.Flow.{To, Exit, InChain, Flow, Heads}
+use Rattle.pv_loops.specs.Ranks.{header_and, headers_from, around, Heads}
+use Rattle.pv_equations.specs.Flow.{To, Exit, InChain, Flow}
 use Rattle.pv_equations.specs.Flow as flow
 use Rattle.pv_decide.proofs.Cited.{split_at, header_within}
 use Rattle.pv_runs.specs.Carrying.{members_of}

@@ -4,7 +4,7 @@ use Rattle.std.specs.List.{Contains}
 use Rattle.std.proofs.lemmas.Option.{slice_get_within, same_Some}
 use Rattle.pv_loops.specs.declared.forest.Loop.{Loop}
 use Rattle.pv_graph.specs.Walks.{In}
-use Rattle.pv_equations.specs.Flow.{Heads}
+use Rattle.pv_loops.specs.Ranks.{Heads}
 use Rattle.pv_equations.specs.Equations.{Values, AreEquations}
 use Rattle.pv_equations.proofs.Cited.{solvable}
 use Rattle.pv_decide.specs.declared.aim.Scope.{Scope}

@@ -10,7 +10,8 @@ use Rattle.pv_frame.specs.declared.program.Program.{Program}
 use Rattle.pv_frame.specs.Causes.{cause}
 use Rattle.pv_flow.specs.declared.block.Block.{Block}
 use Rattle.pv_flow.specs.Edges.{edges_of}
-use Rattle.pv_flow.specs.Answers.{Answers, most_blocks, HasTooMany}
+use Rattle.pv_flow.specs.declared.flow.TheConstants.{MOST_BLOCKS}
+use Rattle.pv_flow.specs.Answers.{Answers, HasTooMany}
 use Rattle.pv_flow.proofs.Cited.{entry_block, edges_within, one_flow}
 use Rattle.pv_loops.specs.declared.fault.TStep.{TStep}
 use Rattle.pv_loops.specs.declared.forest.TheConstants.{MAX_DEPTH}
@@ -26,7 +27,7 @@ one_edges p a b x y = x.edges_are ∙ ap edges_of (one_flow p x.blocks y.blocks 
 
 many_or_few : (p : Program) (edges : List (List ℕ)) → HasTooMany p → HasEdges p edges → ⊥
 many_or_few p edges x y =
-    let many = subst (λ (blocks : List Block). most_blocks < length blocks) (one_flow p x.0 y.blocks x.1 y.flow) x.2 in
+    let many = subst (λ (blocks : List Block). MOST_BLOCKS < length blocks) (one_flow p x.0 y.blocks x.1 y.flow) x.2 in
     absurd (omega (arith, many, y.few))
 
 stuck_or_reducible : (p : Program) (a b : List (List ℕ)) (steps : List TStep) → HasEdges p a → HasEdges p b → Stuck a steps → IsReducible b → ⊥

@@ -10,7 +10,8 @@ use Rattle.pv_flow.specs.Edges.{edges_of, FromEntry, entry, along}
 use Rattle.pv_flow.proofs.Cited.{edges_reach}
 use Rattle.pv_loops.specs.declared.forest.Forest.{Forest}
 use Rattle.pv_equations.specs.Exp.{Exp}
-use Rattle.pv_equations.specs.Flow.{Part, put, Dest, To, Exit, Chain, Leave, Test, InChain, Flow, Heads, Edge, Shape}
+use Rattle.pv_loops.specs.Ranks.{Heads}
+use Rattle.pv_equations.specs.Flow.{Part, put, Dest, To, Exit, Chain, Leave, Test, InChain, Flow, Edge, Shape}
 use Rattle.pv_equations.specs.Equations.{Target, Node, Back, Finish, Returning, Leaving, Place, On, Again, Header, Gone, Ended, Seen, Joins, IsChain, Values, outs, AtPlace, IsExit, IsTree, first_of_region, first_loops, tree_of, or_else, never_exp, Given, AreEquations}
 use Rattle.pv_equations.proofs.Cited.{seen_once, seen_to, Goes, move, Walk, stop, go, walk_then, IsNode, Walks, walk_around, header_back}
 use Rattle.pv_runs.specs.Blocks.{place_chain}

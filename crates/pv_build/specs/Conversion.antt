@@ -10,7 +10,7 @@ use Rattle.pv_frame.specs.declared.frame.Frame.{Frame}
 use Rattle.pv_frame.specs.Causes.{IsAccepted, IsRefused}
 use Rattle.pv_live.specs.Needed.{AreNeeded}
 use Rattle.pv_flow.specs.declared.block.Block.{Block}
-use Rattle.pv_flow.specs.Answers.{most_blocks}
+use Rattle.pv_flow.specs.declared.flow.TheConstants.{MOST_BLOCKS}
 use Rattle.pv_loops.specs.declared.forest.Forest.{Forest}
 use Rattle.pv_graph.specs.Graphs.{Graph}
 use Rattle.pv_runs.specs.Methods.{IsShaped}
@@ -40,7 +40,7 @@ pub record Form (file : ClassFile) (m : Method) : Type 0 where
   pub accepted : IsAccepted file m program
   pub needed : AreNeeded program frames
   pub shaped : IsShaped file m program frames blocks forest
-  pub few : length blocks ≤ most_blocks
+  pub few : length blocks ≤ MOST_BLOCKS
 
 -- the node unfolds as the root of the method's equations
 pub record IsRootOf (g : Graph) (root : ℕ) (file : ClassFile) (m : Method) : Type 0 where

@@ -3,7 +3,7 @@ use Rattle.std.specs.Prelude.{◌≡◌, ◌⊎◌, ℕ, List, ◌∷◌, Option
 use Rattle.pv_flow.specs.declared.block.Block.{Block}
 use Rattle.pv_loops.specs.declared.forest.Loop.{Loop}
 use Rattle.pv_graph.specs.Graphs.{Graph}
-use Rattle.pv_equations.specs.Flow.{Heads}
+use Rattle.pv_loops.specs.Ranks.{Heads}
 use Rattle.pv_equations.specs.Exp.{Exp}
 use Rattle.pv_equations.specs.Equations.{Values, AreEquations}
 use Rattle.pv_terms.specs.declared.names.Named.{Named}

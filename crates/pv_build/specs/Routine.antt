@@ -5,7 +5,7 @@ use Rattle.pv_class.specs.declared.file.Method.{Method}
 use Rattle.pv_frame.specs.declared.program.Program.{Program}
 use Rattle.pv_frame.specs.declared.frame.Frame.{Frame}
 use Rattle.pv_flow.specs.declared.block.Block.{Block}
-use Rattle.pv_flow.specs.Answers.{most_blocks}
+use Rattle.pv_flow.specs.declared.flow.TheConstants.{MOST_BLOCKS}
 use Rattle.pv_flow.specs.Edges.{edges_of}
 use Rattle.pv_loops.specs.declared.forest.Forest.{Forest}
 use Rattle.pv_loops.specs.Ranks.{IsOrdered}
@@ -16,5 +16,5 @@ pub record IsRoutine (p : Program) (frames : List (Option Frame)) (blocks : List
   pub file : ClassFile
   pub method : Method
   pub shaped : IsShaped file method p frames blocks forest
-  pub few : length blocks ≤ most_blocks
+  pub few : length blocks ≤ MOST_BLOCKS
   pub ordered : IsOrdered (edges_of blocks) forest

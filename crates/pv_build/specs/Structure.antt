@@ -1,4 +1,4 @@
--- Structured programs: at most most_blocks blocks, whose edges are reducible, and whose loops nest at most MAX_DEPTH deep.
+-- Structured programs: at most MOST_BLOCKS blocks, whose edges are reducible, and whose loops nest at most MAX_DEPTH deep.
 use Rattle.std.specs.Prelude.{◌≡◌, ℕ, ◌≤◌, ◌+◌, List, length}
 use Rattle.pv_frame.specs.declared.cause.Cause.{Cause}
 use Rattle.pv_frame.specs.declared.cause.CauseKind.TheVariants as kind
@@ -7,7 +7,8 @@ use Rattle.pv_frame.specs.Causes.{cause}
 use Rattle.pv_flow.specs.declared.block.Block.{Block}
 use Rattle.pv_flow.specs.Blocks.{IsFlow}
 use Rattle.pv_flow.specs.Edges.{edges_of}
-use Rattle.pv_flow.specs.Answers.{most_blocks, HasTooMany}
+use Rattle.pv_flow.specs.declared.flow.TheConstants.{MOST_BLOCKS}
+use Rattle.pv_flow.specs.Answers.{HasTooMany}
 use Rattle.pv_loops.specs.declared.fault.TStep.{TStep}
 use Rattle.pv_loops.specs.declared.forest.TheConstants.{MAX_DEPTH}
 use Rattle.pv_loops.specs.Steps.{Stuck, IsReducible}
@@ -15,11 +16,11 @@ use Rattle.pv_loops.specs.declared.forest.Forest.{Forest}
 use Rattle.pv_loops.specs.Forests.{IsForest, NestsUpTo, HasDepth}
 use Rattle.pv_loops.specs.Ranks.{IsOrdered}
 
--- the edges between the blocks that are reached, of which there are at most most_blocks
+-- the edges between the blocks that are reached, of which there are at most MOST_BLOCKS
 pub record HasEdges (p : Program) (edges : List (List ℕ)) : Type 0 where
   pub blocks : List Block
   pub flow : IsFlow p blocks
-  pub few : length blocks ≤ most_blocks
+  pub few : length blocks ≤ MOST_BLOCKS
   pub edges_are : edges ≡ edges_of blocks
 
 -- the edges are reducible, and at most MAX_DEPTH loops lie in one another
@@ -39,7 +40,7 @@ pub data MeetsShape (p : Program) : Cause → Type 0 where
 -- the blocks of a structured program, with the forest of their loops and an order of them that edges follow
 pub record IsLaidOut (p : Program) (blocks : List Block) (forest : Forest) : Type 0 where
   pub flow : IsFlow p blocks
-  pub few : length blocks ≤ most_blocks
+  pub few : length blocks ≤ MOST_BLOCKS
   pub loops : IsForest (edges_of blocks) forest
   pub ordered : IsOrdered (edges_of blocks) forest
   pub reducible : IsReducible (edges_of blocks)

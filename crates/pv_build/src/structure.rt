@@ -21,7 +21,7 @@ pub(crate) struct Layout {
 }
 
 /// The blocks and the loops of a method with typed frames, or the first of these causes at 0: `Blocks`
-/// where more than 512 blocks are reached, `Irreducible` where they make no reducible shape, and `Depth`
+/// where more than `MOST_BLOCKS` are reached, `Irreducible` where they make no reducible shape, and `Depth`
 /// where loops nest deeper than 16.
 pub(crate) fn laid_out(alloc: Global, typed: &Typed) -> Result<Layout, Refused>
     requires { AreFrames typed.now.program typed.now.frames }

@@ -1,10 +1,8 @@
 //! Certificates, and why a text is not one.
 
-ghost use Rattle.std.specs.Prelude.{◌≡◌};
-
-use pv_steps::Steps;
+use pv_list::Listed;
+use pv_steps::Step;
 use pv_value::Name;
-use std::marker::Model;
 use thiserror::Error;
 
 /// What is shown of one method, step by step.
@@ -12,41 +10,7 @@ use thiserror::Error;
 pub struct Section {
     pub name: Name,
     pub desc: Name,
-    pub steps: Steps,
-}
-
-/// A list of sections.
-#[derive(Debug, Drop)]
-pub struct Sections {
-    items: Vec<Section>,
-}
-
-impl Model for Sections {
-    ghost use Rattle.std.specs.Prelude.{List};
-    ghost use Rattle.pv_cert.specs.declared.cert.Section.{Section};
-
-    ghost Value = { List Section };
-
-    ghost view = { λ s. s.items.items };
-}
-
-impl From<Vec<Section>> for Sections {
-    ghost use Rattle.std.specs.Prelude.{◌≡◌};
-
-    ghost from_gives = { λ items list. list ≡ items.items };
-
-    fn from(items: Vec<Section>) -> Sections {
-        Sections { items }
-    }
-}
-
-impl Sections {
-    /// The sections in order.
-    pub fn as_slice(&self) -> &[Section]
-        ensures { result.now ≡ self.now }
-    {
-        &self.items
-    }
+    pub steps: Listed<Step>,
 }
 
 /// A certificate: the digests of the two class files of which it speaks, and its sections.
@@ -54,7 +18,7 @@ impl Sections {
 pub struct Cert {
     pub first: [u8; 32],
     pub second: [u8; 32],
-    pub sections: Sections,
+    pub sections: Listed<Section>,
 }
 
 /// Why a text is no certificate.

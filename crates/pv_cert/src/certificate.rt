@@ -10,9 +10,10 @@ ghost use Rattle.pv_cert.specs.Certificates.{version_line, cert_of, read_after_h
 ghost use Rattle.pv_cert.specs.Places.{Gives, GoesOn, read_digest_words, with_second, take_digests, after_version, seen_place};
 ghost use Rattle.pv_cert.specs.Reading.{between, ended, read_lines};
 
-use crate::cert::{Cert, CertFault, Sections};
+use crate::cert::{Cert, CertFault, Section};
 use crate::read::{Place, advance};
 use pv_format::{lines_of, words_of};
+use pv_list::Listed;
 use pv_token::{Digest, take};
 use pv_value::Memory;
 use std::alloc::Global;
@@ -48,17 +49,17 @@ fn after(alloc: Global, place: Place, line: &[u8], number: usize) -> Result<Plac
 }
 
 // The sections that are read where the text ends.
-fn ended(place: Place) -> Result<Sections, CertFault>
+fn ended(place: Place) -> Result<Listed<Section>, CertFault>
     ensures { Gives result (ended (seen_place place)) }
 {
     match place {
-        Place::Between(done) => Ok(Sections::from(done)),
+        Place::Between(done) => Ok(Listed::from(done)),
         Place::Inside(_, _, _, _) => Err(CertFault::Truncated),
     }
 }
 
 // The sections of the lines after the header.
-fn read_lines<'w>(alloc: Global, lines: &'w [&'w [u8]]) -> Result<Sections, CertFault>
+fn read_lines<'w>(alloc: Global, lines: &'w [&'w [u8]]) -> Result<Listed<Section>, CertFault>
     ensures { Gives result (read_lines 4 (between []) (texts lines.now)) }
 {
     let mut place = Place::Between(Vec::new(alloc));

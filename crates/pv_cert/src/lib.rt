@@ -26,7 +26,7 @@ mod write;
 mod writing;
 mod writing_steps;
 
-pub use cert::{Cert, CertFault, Section, Sections};
+pub use cert::{Cert, CertFault, Section};
 pub use certificate::read_cert;
 pub use laws::{law_either, law_faults, law_once};
 pub use write::write_cert;

@@ -13,8 +13,9 @@ ghost use Rattle.pv_cert.specs.SetLaws.{semicolon};
 ghost use Rattle.pv_cert.specs.StepLines.{set_words};
 
 use crate::reason::{FactWord, SetReasonWord};
-use pv_graph::Kids;
-use pv_steps::{Congruence, Congruences, FactPairs, NodePairs, Reasons};
+use pv_graph::{Kids, NodeId};
+use pv_list::Listed;
+use pv_steps::{Congruence, Fact};
 use pv_token::{Number, read_each, read_pairs, take};
 use pv_value::Memory;
 use std::alloc::{AllocError, Global};
@@ -33,7 +34,7 @@ pub fn read_numbers<'w>(alloc: Global, words: &'w [&'w [u8]]) -> Result<Option<K
 pub fn read_node_pairs<'w>(
     alloc: Global,
     words: &'w [&'w [u8]],
-) -> Result<Option<NodePairs>, Memory>
+) -> Result<Option<Listed<(NodeId, NodeId)>>, Memory>
     ensures { IfOk result (λ r. r ≡ (some (each_pair u32_token)).reads (texts words.now)) }
 {
     let Some(list) = read_pairs::<Number>(alloc, words)? else {
@@ -42,14 +43,14 @@ pub fn read_node_pairs<'w>(
     if list.is_empty() {
         return Ok(None);
     }
-    Ok(Some(NodePairs::from(list)))
+    Ok(Some(Listed::from(list)))
 }
 
 /// All of these words, as at least one pair of facts.
 pub fn read_fact_pairs<'w>(
     alloc: Global,
     words: &'w [&'w [u8]],
-) -> Result<Option<FactPairs>, Memory>
+) -> Result<Option<Listed<(Fact, Fact)>>, Memory>
     ensures { IfOk result (λ r. r ≡ (some (each_pair fact_token)).reads (texts words.now)) }
 {
     let Some(list) = read_pairs::<FactWord>(alloc, words)? else {
@@ -58,7 +59,7 @@ pub fn read_fact_pairs<'w>(
     if list.is_empty() {
         return Ok(None);
     }
-    Ok(Some(FactPairs::from(list)))
+    Ok(Some(Listed::from(list)))
 }
 
 // Two nodes, and all further words as reasons.
@@ -74,7 +75,7 @@ fn read_congruence<'w>(alloc: Global, words: &'w [&'w [u8]]) -> Result<Option<Co
     let Some(list) = read_each::<SetReasonWord>(alloc, words)? else {
         return Ok(None);
     };
-    let reasons = Reasons::from(list);
+    let reasons = Listed::from(list);
     Ok(Some(Congruence {
         left,
         right,
@@ -110,7 +111,7 @@ fn each_congruence<'w>(
 pub fn read_congruences<'w>(
     alloc: Global,
     words: &'w [&'w [u8]],
-) -> Result<Option<Congruences>, Memory>
+) -> Result<Option<Listed<Congruence>>, Memory>
     ensures { IfOk result (λ r. r ≡ set_words.reads (texts words.now)) }
 {
     let parts = parts_of(alloc, words)?;
@@ -120,5 +121,5 @@ pub fn read_congruences<'w>(
     if list.is_empty() {
         return Ok(None);
     }
-    Ok(Some(Congruences::from(list)))
+    Ok(Some(Listed::from(list)))
 }

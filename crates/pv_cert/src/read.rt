@@ -11,7 +11,8 @@ use crate::cert::Section;
 use crate::operation::take_text;
 use crate::step::read_step;
 use pv_format::words_of;
-use pv_steps::{Step, Steps};
+use pv_list::Listed;
+use pv_steps::Step;
 use pv_value::{Memory, Name};
 use std::alloc::Global;
 
@@ -85,7 +86,7 @@ pub fn advance(alloc: Global, place: Place, line: &[u8]) -> Result<Option<Place>
         },
         Place::Inside(mut done, name, desc, mut steps) => {
             if line == b"end".as_slice() {
-                let steps = Steps::from(steps);
+                let steps = Listed::from(steps);
                 done.push(Section { name, desc, steps })?;
                 return Ok(Some(Place::Between(done)));
             }

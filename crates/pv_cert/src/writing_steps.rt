@@ -12,7 +12,8 @@ use crate::reason::{FactWord, ReasonWord, SetReasonWord};
 use crate::table::Row;
 use crate::writing::push_op;
 use pv_graph::{Kids, NodeId, Op};
-use pv_steps::{Congruence, Fact, FactPairs, NodePairs, Reason, Step};
+use pv_list::Listed;
+use pv_steps::{Congruence, Fact, Reason, Step};
 use pv_token::{Number, push, push_each, push_pairs};
 use std::alloc::{AllocError, Global};
 
@@ -109,7 +110,11 @@ fn push_chain(out: &mut Vec<u8>, a: NodeId, b: NodeId, f: Fact, g: Fact) -> Resu
 }
 
 // D X Y X Y
-fn push_open(out: &mut Vec<u8>, depth: u32, list: &NodePairs) -> Result<(), AllocError>
+fn push_open(
+    out: &mut Vec<u8>,
+    depth: u32,
+    list: &Listed<(NodeId, NodeId)>,
+) -> Result<(), AllocError>
     ensures { OnOk result (out.new.items ≡ out.old.items ++ spaced (open_words.spells (depth, list.now))) }
 {
     push::<Number>(out, depth)?;
@@ -117,7 +122,7 @@ fn push_open(out: &mut Vec<u8>, depth: u32, list: &NodePairs) -> Result<(), Allo
 }
 
 // D F G F G
-fn push_close(out: &mut Vec<u8>, depth: u32, list: &FactPairs) -> Result<(), AllocError>
+fn push_close(out: &mut Vec<u8>, depth: u32, list: &Listed<(Fact, Fact)>) -> Result<(), AllocError>
     ensures { OnOk result (out.new.items ≡ out.old.items ++ spaced (close_words.spells (depth, list.now))) }
 {
     push::<Number>(out, depth)?;

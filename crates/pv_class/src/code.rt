@@ -6,10 +6,11 @@ ghost use Rattle.pv_format.specs.GrammarReading.{read};
 ghost use Rattle.pv_format.specs.Stopping.{Gives};
 
 use crate::fault::{Cause, Stop};
-use crate::file::{Bytes, Code};
+use crate::file::Code;
 use crate::items::{run_at, u16_at, u32_at};
 use crate::room::{IN_FILE, Room, failed};
 use crate::table::{Entries, table_at};
+use pv_list::Listed;
 use pv_pool::Pool;
 use std::alloc::Global;
 
@@ -54,7 +55,7 @@ fn code_contents_at<'a>(
     let code = Code {
         max_stack,
         max_locals,
-        bytes: Bytes::new(alloc, code)?,
+        bytes: Listed::from(Vec::from_slice(alloc, code)?),
         handlers: usize::from(handlers),
     };
     Ok((code, rest))

@@ -38,6 +38,6 @@ mod table;
 
 pub use class::{LONGEST_FILE, read_class};
 pub use fault::{ClassFault, PoolWord};
-pub use file::{ACC_STATIC, ACC_SYNCHRONIZED, Bytes, ClassFile, Code, Method};
+pub use file::{ACC_STATIC, ACC_SYNCHRONIZED, ClassFile, Code, Method};
 pub use methods::Methods;
 pub use pv_pool::{Entry, Pool};

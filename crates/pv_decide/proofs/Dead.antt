@@ -1,7 +1,8 @@
 -- A block from which neither the target nor an end is ahead gives `never` for the token, and else nothing.
 use Rattle.std.proofs.Common.{◌≡◌, ◌≢◌, ℕ, zero, suc, ◌+◌, ◌<◌, ◌≤◌, List, ◌++◌, length, Option, Some, None, inl, inr, ⊎_elim, refl, sym, ap, ◌∙◌, subst, arith}
 use Rattle.pv_equations.specs.Exp.{Exp}
-use Rattle.pv_equations.specs.Flow.{Part, put, To, Exit, Chain, Leave, Test, InChain, Flow, Heads}
+use Rattle.pv_loops.specs.Ranks.{Heads}
+use Rattle.pv_equations.specs.Flow.{Part, put, To, Exit, Chain, Leave, Test, InChain, Flow}
 use Rattle.pv_equations.specs.Equations.{Place, On, Again, Header, Gone, Ended, Joins, IsChain, Values, outs, AtPlace, IsExit, IsTree, OfToken, Hits, Ahead, now, later, never_exp}
 use Rattle.pv_equations.proofs.Cited.{About, about}
 use Rattle.pv_flow.specs.declared.block.Exit as code

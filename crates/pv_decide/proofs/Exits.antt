@@ -4,7 +4,8 @@ use Rattle.std.specs.List.{Contains}
 use Rattle.std.proofs.lemmas.Bool.Decides.{eqb_tells}
 use Rattle.std.proofs.lemmas.List.Elements.{Contains-append_right}
 use Rattle.pv_equations.specs.Exp.{Exp}
-use Rattle.pv_equations.specs.Flow.{Kind, Return, Throw, Dest, To, End, Exit, InChain, Flow, Heads}
+use Rattle.pv_loops.specs.Ranks.{Heads}
+use Rattle.pv_equations.specs.Flow.{Kind, Return, Throw, Dest, To, End, Exit, InChain, Flow}
 use Rattle.pv_equations.specs.Equations.{Node, Back, Finish, Returning, Leaving, Place, On, Again, Header, Gone, Ended, Seen, Values, leaf, AtPlace, IsExit, true_exp, false_exp}
 use Rattle.pv_equations.proofs.Cited.{About, about}
 use Rattle.pv_flow.specs.declared.block.Exit as code

@@ -4,7 +4,8 @@ use Rattle.std.proofs.lemmas.Option.{slice_get_within, slice_get-get_or}
 use Rattle.std.proofs.lemmas.List.{get_or-set_other}
 use Rattle.std.proofs.Math.ListN.{length-set}
 use Rattle.std.specs.Bool.{Decides}
-use Rattle.pv_equations.specs.Flow.{Dest, To, End, Flow, Heads}
+use Rattle.pv_loops.specs.Ranks.{Heads}
+use Rattle.pv_equations.specs.Flow.{Dest, To, End, Flow}
 use Rattle.pv_equations.specs.Equations.{Target, Finish, Hits, Ahead, now, later}
 use Rattle.pv_flow.specs.declared.block.Exit as code
 use Rattle.pv_flow.specs.declared.block.Exit.TheVariants as dest

@@ -3,7 +3,8 @@ use Rattle.std.proofs.Common.{◌≡◌, ◌≢◌, ℕ, zero, suc, ◌+◌, ◌
 use Rattle.std.specs.Prelude.{Result, Ok, Err, IfOk, slice_index}
 use Rattle.std.proofs.lemmas.Option.{slice_get-get_or, slice_get_within}
 use Rattle.std.proofs.lemmas.List.{get_or-set_same, get_or-set_other}
-use Rattle.pv_equations.specs.Flow.{Flow, Heads}
+use Rattle.pv_loops.specs.Ranks.{Heads}
+use Rattle.pv_equations.specs.Flow.{Flow}
 use Rattle.pv_equations.specs.Equations.{Values, OfToken, first_of_region, first_loops, tree_of}
 use Rattle.pv_value.specs.declared.memory.Memory.{Memory}
 use Rattle.pv_decide.specs.declared.site.Site.{Site}

@@ -1,7 +1,8 @@
 -- How a walk goes over the blocks; private to this crate.
 use Rattle.std.specs.Prelude.{◌≡◌, ◌≢◌, ◌⊎◌, ℕ, ◌-◌, ◌<◌, ◌≤◌, Bool, true, false, List, [], ◌∷◌, ◌++◌, length, Option, Some, slice_get, slice_index}
 use Rattle.pv_equations.specs.Exp.{Exp}
-use Rattle.pv_equations.specs.Flow.{Flow, Heads, Shape}
+use Rattle.pv_loops.specs.Ranks.{Heads}
+use Rattle.pv_equations.specs.Flow.{Flow, Shape}
 use Rattle.pv_equations.specs.Equations.{Joins, Values, IsExit, OfToken, Ahead, tree_of}
 use Rattle.pv_decide.specs.declared.site.Site.{Site}
 use Rattle.pv_decide.specs.declared.aim.Scope as scope

@@ -7,8 +7,8 @@ use Rattle.pv_flow.specs.Edges.{edges_of}
 use Rattle.pv_loops.specs.declared.forest.Forest.{Forest}
 use Rattle.pv_loops.specs.Shapes.{IsShape}
 use Rattle.pv_loops.specs.Forests.{IsForest}
-use Rattle.pv_loops.specs.Ranks.{around, IsOrdered}
-use Rattle.pv_equations.specs.Flow.{Flow, Heads, Shape}
+use Rattle.pv_loops.specs.Ranks.{around, IsOrdered, Heads}
+use Rattle.pv_equations.specs.Flow.{Flow, Shape}
 use Rattle.pv_equations.specs.Equations.{Values, tree_of}
 use Rattle.pv_decide.specs.declared.aim.Scope.{Scope}
 use Rattle.pv_decide.specs.declared.aim.Scope.TheVariants as scope

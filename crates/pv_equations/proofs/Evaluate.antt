@@ -7,7 +7,8 @@ use Rattle.pv_graph.specs.Ops as ops
 use Rattle.pv_graph.specs.Ops.{shape}
 use Rattle.pv_graph.specs.Walks.{In, open_kids}
 use Rattle.pv_equations.specs.Exp.{Exp, Exps, Name, Over, NoExp, Then, one, two, three, listed, made}
-use Rattle.pv_equations.specs.Flow.{Part, Parts, Slot, Of, NoPart, More, put, put_all, Return, Throw, Dest, To, End, Exit, Chain, Leave, Test, Flow, Heads}
+use Rattle.pv_loops.specs.Ranks.{Heads}
+use Rattle.pv_equations.specs.Flow.{Part, Parts, Slot, Of, NoPart, More, put, put_all, Return, Throw, Dest, To, End, Exit, Chain, Leave, Test, Flow}
 use Rattle.pv_equations.specs.Equations.{Target, Node, Back, Finish, Returning, Leaving, Place, On, Again, Header, Gone, Ended, Seen, Joins, IsChain, Values, outs, token_out, token_outs, leaf, AtPlace, IsExit, IsTree, OfToken, FreeIn, theta, name, entered, begun, kid, first_kid, tree_of, first_of_region, first_loops, or_else, Given, never_exp, true_exp, false_exp, at_start, AreEquations}
 use Rattle.pv_equations.specs.Root.{root_of}
 use Rattle.pv_equations.proofs.Search.{below}

@@ -14,7 +14,8 @@ use Rattle.pv_denote.specs.Means.{Means}
 use Rattle.pv_denote.proofs.Cited.{at_same, at_other}
 use Rattle.pv_equations.proofs.Lands.{lands_once, lands_on, lands_in, lands_header, lands_gone}
 use Rattle.pv_equations.specs.Exp.{Exp, Exps, Over, NoExp, Then, one, two, three, listed, made}
-use Rattle.pv_equations.specs.Flow.{Part, Parts, Slot, Of, NoPart, More, put, put_all, PartIs, PartsAre, Kind, Return, Dest, To, End, Exit, Chain, Leave, Test, InChain, Flow, TokenPart, kept, calls, Heads, Edge, Shape, Chooses, Steps, Runs, ends, goes, Starts}
+use Rattle.pv_loops.specs.Ranks.{Heads}
+use Rattle.pv_equations.specs.Flow.{Part, Parts, Slot, Of, NoPart, More, put, put_all, PartIs, PartsAre, Kind, Return, Dest, To, End, Exit, Chain, Leave, Test, InChain, Flow, TokenPart, kept, calls, Edge, Shape, Chooses, Steps, Runs, ends, goes, Starts}
 use Rattle.pv_equations.specs.Equations.{Target, Node, Back, Finish, Returning, Leaving, Place, On, Again, Header, Gone, Ended, Lands, beside, enters, again, header, leaves, gone, Seen, Joins, IsChain, Values, outs, token_out, token_outs, leaf, AtPlace, IsExit, Hits, Ahead, now, later, OfToken, IsTree, first_of_region, first_loops, tree_of, or_else, Given, FreeIn, unit_exp, never_exp, true_exp, false_exp, at_start, AreEquations, first_kid}
 use Rattle.pv_equations.specs.Meaning.{Meaning}
 

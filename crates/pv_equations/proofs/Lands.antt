@@ -1,6 +1,6 @@
 -- An exit comes to one place, and to which.
 use Rattle.std.proofs.Common.{◌≡◌, ◌≢◌, ℕ, suc, ◌+◌, ◌≤◌, List, [], ◌∷◌, ◌++◌, length, refl, sym, ap, ◌∙◌, subst, arith, length-append, append-nil, le_refl}
-use Rattle.pv_equations.specs.Flow.{Heads}
+use Rattle.pv_loops.specs.Ranks.{Heads}
 use Rattle.pv_equations.specs.Equations.{Place, On, Again, Header, Gone, Lands, beside, enters, again, header, leaves, gone}
 
 longer : (A : List ℕ) (h : ℕ) (B : List ℕ) → A ≡ B → A ≢ h ∷ B

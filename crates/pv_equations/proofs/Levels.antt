@@ -10,7 +10,8 @@ use Rattle.pv_denote.specs.Denote.{Value}
 use Rattle.pv_graph.specs.Walks.{In, open_kids}
 use Rattle.pv_denote.proofs.Cited.{den_makes, value_once, value_says, not_free}
 use Rattle.pv_equations.specs.Exp.{Exp, Exps, Name, Over, NoExp, Then, one, two, three, listed, made}
-use Rattle.pv_equations.specs.Flow.{Part, Parts, Slot, Of, NoPart, More, put, put_all, Return, Throw, Exit, Chain, Leave, Test, InChain, Flow, Heads, Shape}
+use Rattle.pv_loops.specs.Ranks.{Heads}
+use Rattle.pv_equations.specs.Flow.{Part, Parts, Slot, Of, NoPart, More, put, put_all, Return, Throw, Exit, Chain, Leave, Test, InChain, Flow, Shape}
 use Rattle.pv_equations.specs.Equations.{Target, Node, Back, Finish, Returning, Leaving, Place, On, Header, Gone, Ended, Seen, Joins, IsChain, Values, outs, token_out, token_outs, leaf, AtPlace, IsExit, IsTree, first_of_region, first_loops, tree_of, Given, form_of, FreeIn, theta, name, entered, begun, kid, never_exp, true_exp, false_exp, AreEquations, first_kid}
 use Rattle.pv_equations.specs.Meaning.{Meaning}
 use Rattle.pv_equations.proofs.Follow.{Later, seen_to}

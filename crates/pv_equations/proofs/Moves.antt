@@ -1,7 +1,8 @@
 -- Where an edge of a flow comes to, seen from each region.
 use Rattle.std.proofs.Common.{◌≡◌, ◌≢◌, ℕ, suc, ◌+◌, ◌<◌, ◌≤◌, List, [], ◌∷◌, ◌++◌, length, ◌⊎◌, inl, inr, ⊎_elim, refl, sym, ap, ◌∙◌, subst, subst₂, append-nil, append_assoc, length-append, arith}
 use Rattle.pv_equations.proofs.Lands.{same_or_longer, lands_on, lands_in, lands_header, lands_again, lands_gone}
-use Rattle.pv_equations.specs.Flow.{Dest, To, End, Exit, InChain, Flow, Heads, Edge, Shape}
+use Rattle.pv_loops.specs.Ranks.{Heads}
+use Rattle.pv_equations.specs.Flow.{Dest, To, End, Exit, InChain, Flow, Edge, Shape}
 use Rattle.pv_equations.specs.Equations.{Place, On, Again, Header, Gone, Ended, Lands, Seen}
 use Rattle.pv_equations.proofs.Follow.{seen_once}
 

@@ -15,7 +15,8 @@ use Rattle.pv_denote.specs.Denote.{numbers}
 use Rattle.pv_value.specs.Worlds as worlds
 use Rattle.pv_value.specs.declared.name.Sym.{Sym}
 use Rattle.pv_equations.specs.Exp.{Exp, Over, NoExp, two, three, listed, made}
-use Rattle.pv_equations.specs.Flow.{Part, Parts, call_token, put, put_all, PartIs, PartsAre, Kind, Dest, To, End, Exit, InChain, Flow, TokenPart, kept, calls, Heads, Shape, Chain, Leave, Test, Chooses, Steps, Left, Ends, Fails, Waits, Runs, ends, goes, Starts, Runnable}
+use Rattle.pv_loops.specs.Ranks.{Heads}
+use Rattle.pv_equations.specs.Flow.{Part, Parts, call_token, put, put_all, PartIs, PartsAre, Kind, Dest, To, End, Exit, InChain, Flow, TokenPart, kept, calls, Shape, Chain, Leave, Test, Chooses, Steps, Left, Ends, Fails, Waits, Runs, ends, goes, Starts, Runnable}
 use Rattle.pv_equations.specs.Equations.{Target, Node, Back, Finish, Leaving, Place, On, Again, Header, Gone, Ended, Seen, Joins, IsChain, IsExit, Values, outs, leaf, token_out, token_outs, AtPlace, IsTree, tree_of, never_exp, true_exp, false_exp, AreEquations, first_kid}
 use Rattle.pv_equations.specs.Meaning.{Meaning}
 use Rattle.pv_equations.proofs.Moves.{snoc_same, Goes, move}

@@ -5,7 +5,8 @@ use Rattle.pv_graph.specs.declared.node.Op.TheVariants as op
 use Rattle.pv_graph.specs.Ops as ops
 use Rattle.pv_graph.specs.Walks.{In, open_kids}
 use Rattle.pv_equations.specs.Exp.{Exp, Exps, Name, Over, NoExp, Then, one, two, listed, made}
-use Rattle.pv_equations.specs.Flow.{Part, Parts, Slot, Of, NoPart, More, put, put_all, Flow, Heads}
+use Rattle.pv_loops.specs.Ranks.{Heads}
+use Rattle.pv_equations.specs.Flow.{Part, Parts, Slot, Of, NoPart, More, put, put_all, Flow}
 use Rattle.pv_equations.specs.Equations.{Values, outs, token_out, token_outs, FreeIn, theta, name, entered, begun, kid, unit_exp, AreTrees}
 
 pub heads_dec : (A : List ℕ) (m : ℕ) → Heads A m ⊎ (Heads A m → ⊥)

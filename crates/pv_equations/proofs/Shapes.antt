@@ -1,7 +1,8 @@
 -- Whether a small flow has the shape of a flow, computed by the checker; then its equations have a solution.
 use Rattle.std.proofs.Common.{◌≡◌, ◌≢◌, ℕ, zero, suc, ◌<◌, ◌≤◌, Bool, true, false, not, ◌&&◌, ◌||◌, List, [], ◌∷◌, ◌++◌, length, ◌⊎◌, inl, inr, ⊎_elim, refl, sym, ap, ◌∙◌, subst, subst₂, arith, ◌==◌, nat_le}
 use Rattle.std.proofs.lemmas.Bool.{leb-true, le-leb}
-use Rattle.pv_equations.specs.Flow.{Part, Parts, Slot, Of, NoPart, More, NamesBelow, AllBelow, Dest, To, End, Exit, InChain, InTests, Flow, TokenPart, kept as same_token, Heads, Edge, LeadsBack, turns, passes, Shape, Compact, IsFinite}
+use Rattle.pv_loops.specs.Ranks.{Heads}
+use Rattle.pv_equations.specs.Flow.{Part, Parts, Slot, Of, NoPart, More, NamesBelow, AllBelow, Dest, To, End, Exit, InChain, InTests, Flow, TokenPart, kept as same_token, Edge, LeadsBack, turns, passes, Shape, Compact, IsFinite}
 use Rattle.pv_equations.specs.Equations.{Values, AreEquations}
 use Rattle.pv_equations.proofs.Tests.{same_number, number_self, and_parts, or_parts, not_both, same_list, same_list_true, ends_with, ends_true, ends_self, member, heads_by, heads_true, heads_false}
 use Rattle.pv_equations.proofs.Exists.{solution}

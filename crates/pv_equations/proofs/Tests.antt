@@ -3,7 +3,7 @@ use Rattle.std.proofs.Common.{◌≡◌, ◌≢◌, ℕ, suc, Bool, true, false,
 use Rattle.std.proofs.lemmas.Bool.Decides.{Decides-eqb}
 use Rattle.pv_graph.specs.declared.node.Op.{Op}
 use Rattle.pv_equations.specs.Exp.{Exp, Exps, Name, Over, NoExp, Then}
-use Rattle.pv_equations.specs.Flow.{Heads}
+use Rattle.pv_loops.specs.Ranks.{Heads}
 use Rattle.pv_equations.proofs.Decide.{Code, of_op, op_of, op_back}
 
 pub same_number : (a b : ℕ) → (a == b) ≡ true → a ≡ b

@@ -6,7 +6,8 @@ use Rattle.pv_graph.specs.Forms.{Form, form}
 use Rattle.pv_graph.specs.Unfold as trees
 use Rattle.pv_graph.specs.Unfold.{Tree, trees_of, tree_at, unfold_at, UnfoldsAs}
 use Rattle.pv_equations.specs.Exp.{Exp, Exps, Name, Over, NoExp, Then}
-use Rattle.pv_equations.specs.Flow.{Flow, Heads, Shape, Compact}
+use Rattle.pv_loops.specs.Ranks.{Heads}
+use Rattle.pv_equations.specs.Flow.{Flow, Shape, Compact}
 use Rattle.pv_equations.specs.Equations.{Target, Node, Back, Finish, Returning, Leaving, Values, form_of, tree_of, or_else, first_of_region, first_loops, Given, never_exp, first_kid, AreTrees, AreEquations}
 use Rattle.pv_equations.specs.Root.{root_of}
 use Rattle.pv_equations.proofs.Same.{heads_dec, Done, Names, AllNames, LoopsAgree, names_under}

@@ -15,7 +15,8 @@ use Rattle.pv_graph.specs.Ops.{shape}
 use Rattle.pv_graph.specs.Forms.{Form, form}
 use Rattle.pv_graph.specs.Walks.{In, open_kids}
 use Rattle.pv_equations.specs.Exp.{Exp, Exps, Name, Over, NoExp, one, two, three, listed, made}
-use Rattle.pv_equations.specs.Flow.{Part, put, Kind, Return, Dest, To, End, Exit, Chain, Leave, Test, InChain, Flow, Heads}
+use Rattle.pv_loops.specs.Ranks.{Heads}
+use Rattle.pv_equations.specs.Flow.{Part, put, Kind, Return, Dest, To, End, Exit, Chain, Leave, Test, InChain, Flow}
 
 -- what a tree of a region is for
 pub data Target : Type 0 where

@@ -7,6 +7,7 @@ use Rattle.pv_value.specs.declared.name.Sym.{Sym}
 use Rattle.pv_value.specs.declared.world.World.{World}
 use Rattle.pv_value.specs.declared.outcome.Input.{Input}
 use Rattle.pv_value.specs.declared.outcome.Val.{Val}
+use Rattle.pv_loops.specs.Ranks.{Heads}
 use Rattle.pv_graph.specs.declared.node.Op.{Op}
 use Rattle.pv_graph.specs.declared.node.Op.TheVariants as op
 use Rattle.pv_graph.specs.Ops.{plain, shape}
@@ -89,10 +90,6 @@ call_token s ps = Of op.Both refl (More (Slot 0) (More (Of (op.CallEnd s) refl p
 pub data TokenPart : Part → Type 0 where
   kept : TokenPart (Slot 0)
   calls : (s : Sym) (ps : Parts) → TokenPart (call_token s ps)
-
--- m is the header of the innermost of the loops
-abbrev pub Heads : List ℕ → ℕ → Type 0
-Heads A m = (B : List ℕ) × (A ≡ m ∷ B)
 
 -- an edge from b to m leaves the loops C around b and stays in the others, D. It goes back to the header of D, or on to a block of
 -- higher rank that is not the entry: one that is in D and in no other loop, or the header of a loop in D

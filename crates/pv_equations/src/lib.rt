@@ -1,8 +1,8 @@
 //! What the values in a method are, as equations.
 //!
-//! This layer stands on `pv_graph` and `pv_denote`. It speaks of a method as a flow (`specs/Flow`): blocks
-//! with tests and exits, the loops around them, and runs from block to block, whatever the instructions
-//! are. `Exp` has the expressions in which the loops' thetas are names, `Equations` says which expression
+//! This layer stands on `pv_graph` and `pv_denote`, and takes from `pv_loops` what heads the loops around
+//! a block (`Heads`). It speaks of a method as a flow (`specs/Flow`): blocks with tests and exits, the
+//! loops around them, and runs from block to block, whatever the instructions are. `Exp` has the expressions in which the loops' thetas are names, `Equations` says which expression
 //! each slot at each block is, and `Root` gives the root of a method and the outcome of a run. There is
 //! no code: a crate that builds graphs of methods shows that its nodes unfold as the equations say.
 //!

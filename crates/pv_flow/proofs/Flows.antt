@@ -4,6 +4,7 @@ use Rattle.std.specs.Prelude.{◌↔◌, slice_get, Contains}
 use Rattle.std.specs.List.{AllZip}
 use Rattle.std.proofs.lemmas.Bool.{cases_lt}
 use Rattle.std.proofs.lemmas.Option.{slice_get_within}
+use Rattle.pv_list.proofs.Cited.{found}
 use Rattle.pv_frame.specs.declared.action.Action.{Action}
 use Rattle.pv_frame.specs.declared.program.Program.{Program}
 use Rattle.pv_frame.specs.Effects.{successors}
@@ -20,7 +21,7 @@ use Rattle.pv_flow.specs.Blocks as begin
 use Rattle.pv_flow.specs.Edges.{targets_of, edges_of, Edge, FromEntry, entry, along}
 use Rattle.pv_flow.specs.Laws.{StandsIn, GoesToNext}
 use Rattle.pv_flow.proofs.Departing.{goes_to_successors}
-use Rattle.pv_flow.proofs.Spans.{at_within, before_no_begin, inside_at, inside_reached}
+use Rattle.pv_flow.proofs.Spans.{before_no_begin, inside_at, inside_reached}
 
 -- ---- exits and edges
 
@@ -116,7 +117,7 @@ module _ (p : Program) (blocks : List Block) (flow : IsFlow p blocks) where
   entry_number n (b, at, e) = elim (cases_lt 0 n) [
     | inl more ↦
         let within = slice_get_within blocks n b at in
-        let start = at_within blocks 0 (omega arith) in
+        let start = found blocks 0 (omega arith) in
         let less = flow.ascend 0 n start.0 b more start.1 at in
         absurd (omega (arith, e))
     | inr le ↦ omega arith
@@ -192,7 +193,7 @@ module _ (p : Program) (blocks : List Block) (flow : IsFlow p blocks) where
 
   pub edges_reach : (n : ℕ) → n < length blocks → FromEntry (edges_of blocks) n
   edges_reach n lt =
-      let b = at_within blocks n lt in
+      let b = found blocks n lt in
       let is = flow.each n b.0 b.1 in
       let found = home b.0.first is.reached in
       subst (FromEntry (edges_of blocks)) (one_number found.0 n b.0.first found.1 (begins_there n b.0.first (b.0, b.1, refl))) found.2

@@ -4,6 +4,7 @@ use Rattle.std.specs.Prelude.{slice_get, Contains}
 use Rattle.std.specs.List.{AllZip}
 use Rattle.std.proofs.lemmas.List.{take_more, take_all}
 use Rattle.std.proofs.lemmas.Option.{slice_get_within, slice_get-get_or}
+use Rattle.pv_list.proofs.Cited.{partner}
 use Rattle.pv_frame.specs.declared.action.Action.{Action}
 use Rattle.pv_frame.specs.declared.frame.Frame.{Frame}
 use Rattle.pv_frame.specs.declared.program.Program.{Program}
@@ -42,13 +43,6 @@ zip_left R (w ∷ xs) [] n y all is = elim all [ ]
 zip_left R (w ∷ xs) (z ∷ ys) zero y all is = let same : z ≡ y = cc in (w, refl, subst (R w) same all.0)
 zip_left R (w ∷ xs) (z ∷ ys) (suc n) y all is = zip_left R xs ys n y all.1 is
 
-zip_right : {A B : Type 0} (R : A → B → Type 0) (xs : List A) (ys : List B) (n : ℕ) (x : A) → AllZip R xs ys → slice_get xs n ≡ Some x → (y : B) × (slice_get ys n ≡ Some y) × R x y
-zip_right R [] [] n x all is = no_some x is
-zip_right R [] (z ∷ ys) n x all is = elim all [ ]
-zip_right R (w ∷ xs) [] n x all is = elim all [ ]
-zip_right R (w ∷ xs) (z ∷ ys) zero x all is = let same : w ≡ x = cc in (z, refl, subst (λ (v : _). R v z) same all.0)
-zip_right R (w ∷ xs) (z ∷ ys) (suc n) x all is = zip_right R xs ys n x all.1 is
-
 zip_map : {A B : Type 0} (R : A → B → Type 0) (f : A → B) (xs : List A) → ((x : A) → Contains xs x → R x (f x)) → AllZip R xs (map f xs)
 zip_map R f [] each = tt
 zip_map R f (x ∷ xs) each = (each x (contains_first x xs), zip_map R f xs (λ y among. each y (contains_more x y xs among)))
@@ -63,7 +57,7 @@ module _ (p : Program) (fs : List (Option Frame)) (well_typed : AreFrames p fs) 
       let f = reached_frame p fs well_typed.agrees j reached in
       let within = slice_get_within fs j (Some f.0) f.1 in
       let head : IsHead begins fs j = record { begin = marks.all j begin (omega (arith, marks.one_each, well_typed.one_each)); frame = f.0; there = f.1 } in
-      let b = zip_right (IsMade p numbers) places blocks (get_or numbers j 0) j made (heads.all j within head) in
+      let b = partner (IsMade p numbers) places blocks (get_or numbers j 0) j made (heads.all j within head) in
       (b.0, b.1, b.2.place)
 
   first_reached : (n k : ℕ) → slice_get places n ≡ Some k → Reached p k

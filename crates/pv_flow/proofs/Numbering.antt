@@ -4,15 +4,12 @@ use Rattle.std.specs.Prelude.{◌⊎◌, is_some, slice_get}
 use Rattle.std.proofs.lemmas.Bool.{cases_lt, false≢true}
 use Rattle.std.proofs.lemmas.List.{length_push, get_or_append_left, get_or_push}
 use Rattle.std.proofs.lemmas.Option.{slice_get_within, slice_get-get_or, slice_get_read, get_or_from_slice_get}
+use Rattle.pv_list.proofs.Cited.{get_last}
 use Rattle.pv_frame.specs.declared.frame.Frame.{Frame}
 use Rattle.pv_frame.proofs.Cited.{some_of, no_some}
 use Rattle.pv_flow.specs.Finding.{IsHead, AreHeads}
 
 -- ---- an element at the end of a list
-
-pub get_pushed : {A : Type 0} (xs : List A) (x : A) → slice_get (xs ++ x ∷ []) (length xs) ≡ Some x
-get_pushed [] x = refl
-get_pushed (y ∷ xs) x = get_pushed xs x
 
 pub get_before : {A : Type 0} (xs ys : List A) (m : ℕ) (x : A) → slice_get xs m ≡ Some x → slice_get (xs ++ ys) m ≡ Some x
 get_before [] ys m x is = no_some x is
@@ -103,6 +100,6 @@ module _ (begins : List Bool) (frames : List (Option Frame)) (n : ℕ) (places n
       | inr ge ↦
           let e : k ≡ n = omega arith in
           subst (λ (i : ℕ). slice_get (places ++ n ∷ []) (get_or (numbers ++ length places ∷ []) i 0) ≡ Some i) (sym e)
-          (ap (slice_get (places ++ n ∷ [])) new_number ∙ get_pushed places n)
+          (ap (slice_get (places ++ n ∷ [])) new_number ∙ get_last places n)
     ];
   }

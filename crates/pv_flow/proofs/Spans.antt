@@ -3,6 +3,7 @@ use Rattle.std.proofs.Common.{◌≡◌, ℕ, zero, suc, ◌+◌, ◌<◌, ◌�
 use Rattle.std.specs.Prelude.{◌⊎◌, slice_get, Contains}
 use Rattle.std.proofs.lemmas.Bool.{cases_lt}
 use Rattle.std.proofs.lemmas.Option.{slice_get_within}
+use Rattle.pv_list.proofs.Cited.{found}
 use Rattle.pv_frame.specs.declared.action.Action.{Action}
 use Rattle.pv_frame.specs.declared.frame.Frame.{Frame}
 use Rattle.pv_frame.specs.declared.program.Program.{Program}
@@ -16,11 +17,6 @@ use Rattle.pv_flow.specs.Blocks.{Begins, IsSpan}
 use Rattle.pv_flow.specs.Blocks as blocks
 use Rattle.pv_flow.specs.Finding.{AreBegins, IsHead, IsLast, HasLast}
 use Rattle.pv_flow.proofs.Departing.{goes_on}
-
-pub at_within : {A : Type 0} (xs : List A) (k : ℕ) → k < length xs → (x : A) × (slice_get xs k ≡ Some x)
-at_within [] k lt = absurd (omega arith)
-at_within (x ∷ xs) zero lt = (x, refl)
-at_within (x ∷ xs) (suc k) lt = at_within xs k (omega arith)
 
 -- ---- an instruction before a place where no block begins
 
@@ -39,7 +35,7 @@ next_reached p k a reached at none =
 
 module _ (p : Program) (first last : ℕ) (span : IsSpan p first last) (action : Action) (ends : IsAt p last action) where
   pub inside_at : (k : ℕ) → k ≤ last → (a : Action) × IsAt p k a
-  inside_at k le = let within = slice_get_within p.actions last action ends in at_within p.actions k (omega arith)
+  inside_at k le = let within = slice_get_within p.actions last action ends in found p.actions k (omega arith)
 
   pub inside_reached : Reached p first → (k : ℕ) → first ≤ k → k ≤ last → Reached p k
   inside_reached reached zero le in_span = let e : first ≡ 0 = omega arith in subst (Reached p) e reached
@@ -84,7 +80,7 @@ module _ (p : Program) (begins : List Bool) (marks : AreBegins p begins) where
       | inr unmarked ↦
           let f = reached_frame p fs well_typed.agrees k reached in
           let within = frame_within k f.0 f.1 in
-          let here = at_within p.actions k within in
+          let here = found p.actions k within in
           let begins_not = λ (b : Begins p (suc k)). unmarked (marks.all (suc k) b (omega (arith, marks.one_each))) in
           last_from left first (suc k) (omega arith) (omega arith) (next_reached p k here.0 reached here.1 begins_not)
           (λ j lt le' marked. elim (cases_lt k j) [

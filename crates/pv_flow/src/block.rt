@@ -1,6 +1,6 @@
 //! Blocks of instructions, and where they are left.
 
-use pv_frame::Items;
+use pv_list::Listed;
 
 /// How a block is left: to the block of this number, or out of the method.
 #[derive(Clone, Copy, Debug, PartialEq, Eq)]
@@ -24,11 +24,11 @@ pub struct Block {
     /// The place of the last, which is the first itself in a block of one instruction.
     pub last: u32,
     /// How the last instruction leaves the block, in the order of its tests.
-    pub exits: Items<Exit>,
+    pub exits: Listed<Exit>,
 }
 
 /// The blocks of a method that are reached, in the order of the code.
 #[derive(Debug, Drop)]
 pub struct Flow {
-    pub blocks: Items<Block>,
+    pub blocks: Listed<Block>,
 }

@@ -13,7 +13,7 @@ use pv_frame::{Cause, CauseKind, Refused, Typed};
 use std::alloc::{AllocError, Global};
 
 /// The most blocks that may be reached.
-const MOST_BLOCKS: usize = 512;
+pub const MOST_BLOCKS: usize = 512;
 
 /// The block that begins at a place that is reached, by the marks where blocks begin and the numbers of
 /// the blocks at places.
@@ -45,7 +45,7 @@ fn block(
 ///
 /// A block begins at place 0, at each target, also of an instruction that isn't reached, and after each
 /// instruction that branches, ends the method or can throw. The cause is `Blocks` at 0 exactly where
-/// more than 512 blocks are reached. `Memory` says nothing of the method; it also comes where there are
+/// more than `MOST_BLOCKS` are reached. `Memory` says nothing of the method; it also comes where there are
 /// as many instructions as a `u32` can count, or more.
 pub fn blocks(alloc: Global, typed: &Typed) -> Result<Flow, Refused>
     requires { AreFrames typed.now.program typed.now.frames }

@@ -4,7 +4,7 @@
 //! This layer stands on `pv_frame`, whose `Typed` it reads: what each instruction does, and which are
 //! reached. `specs/Exits` has the exits of instructions in the order of their tests, `specs/Blocks` what a
 //! block and the flow of a program are, and `specs/Answers` what there is to answer. The layers above use
-//! `blocks`: it is Ok with the flow exactly where at most 512 blocks are reached, and else names the cause
+//! `blocks`: it is Ok with the flow exactly where at most `MOST_BLOCKS` are reached, and else names the cause
 //! `Blocks`. `Flow::edges` gives for each block the blocks to which its exits go (`specs/Edges`).
 //!
 //! `specs/Laws` has what follows for every flow, which the layers above use too:
@@ -31,5 +31,5 @@ mod head;
 mod laws;
 
 pub use block::{Block, Exit, Flow};
-pub use flow::blocks;
+pub use flow::{MOST_BLOCKS, blocks};
 pub use laws::{law_blocks, law_cover, law_edges, law_exits, law_one};

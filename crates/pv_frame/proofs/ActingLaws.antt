@@ -2,7 +2,7 @@
 use Rattle.std.proofs.Common.{◌≡◌, ℕ, ◌+◌, ◌≤◌, ◌<◌, ℤ, pos, ◌+ℤ◌, List, [], ◌∷◌, ◌++◌, length, get_or, drop, refl, sym, ap, ◌∙◌, subst, inl, inr, arith, append_assoc, ◌^◌, ◌≤ℤ◌, w32, w64, FitsSigned, to_z, of_z}
 use Rattle.std.proofs.lemmas.Int.{ints, to_z-of_z, to_z_pos}
 use Rattle.std.proofs.lemmas.List.{drop_more, drop_all, append-nil}
-use Rattle.std.specs.Prelude.{◌≢◌, ◌⊎◌, ◌==◌, ok_or, option_map, IsSome, if◌then◌else◌, true, false, Option, Some, None, Result}
+use Rattle.std.specs.Prelude.{◌⊎◌, ◌==◌, option_map, IsSome, if◌then◌else◌, true, false, Option, Some, None}
 use Rattle.std.specs.Option.{option_or}
 use Rattle.std.proofs.Common.{rules}
 use Rattle.pv_value.specs.declared.name.Sym.{Sym}
@@ -10,18 +10,14 @@ use Rattle.pv_value.specs.declared.descriptor.JType.{JType}
 use Rattle.pv_value.specs.declared.descriptor.Descriptor.{Descriptor}
 use Rattle.pv_value.specs.Descriptors.{IsFieldType, IsMethodType}
 use Rattle.pv_value.specs.declared.receiver.Form.{Form}
-use Rattle.pv_value.proofs.Cited.{field_type_once}
 use Rattle.pv_pool.specs.declared.constant.Member.{Member}
 use Rattle.pv_insn.specs.declared.insn.Case.{Case}
 use Rattle.pv_frame.specs.declared.action.Action.{Action}
 use Rattle.pv_frame.specs.declared.cause.CauseKind.TheVariants as kind
-use Rattle.pv_frame.specs.declared.stop.Stop.{Stop}
-use Rattle.pv_frame.specs.declared.stop.Stop.TheVariants as stop
 use Rattle.pv_frame.specs.declared.used.Use.TheVariants as used
-use Rattle.pv_frame.specs.Actions.{cases_from, row_of, field_rows, form_rows, MayName, IsFloatless, IsFloatlessMethod}
-use Rattle.pv_frame.specs.Causes.{HasFloatType, NamesWell}
-use Rattle.pv_frame.specs.Acting.{IsAccessOr}
-use Rattle.pv_frame.proofs.ActionLaws.{apart, no_float_method, not_static}
+use Rattle.pv_frame.specs.Actions.{cases_from, row_of, field_rows, form_rows, MayName, IsFloatless, IsFloatlessMethod, UsesMember}
+use Rattle.pv_frame.specs.Causes.{AccessesFields, NamesWell, IsCauseWith}
+use Rattle.pv_frame.proofs.ActionLaws.{apart, not_static}
 use Rattle.pv_frame.proofs.Complete.{field_row}
 use Rattle.pv_frame.proofs.FrameLaws.{some_of, no_some}
 
@@ -87,61 +83,54 @@ is_some_at None x e = absurd (cc)
 
 -- ---- members
 
-abbrev pub NamesBadly : ℕ → Member → Type 0
-NamesBadly opcode m = (HasFloatType m.sym.desc → ⊥) × (NamesWell opcode (used.Member m) → ⊥)
+-- an instruction that names a field is an access of fields, or it names badly
+pub bad_field : (opcode : ℕ) (m : Member) (t : JType) → IsFieldType m.sym.desc t → (AccessesFields opcode × (m.kind ≡ 9) → ⊥) → NamesWell opcode (used.Member m) → ⊥
+bad_field opcode m t typed other (inl (a, (tag, b))) = other (a, tag)
+bad_field opcode m t typed other (inr (inl (a, (tag, (d, is))))) = apart m.sym.desc t d typed is
+bad_field opcode m t typed other (inr (inr n)) = apart m.sym.desc t n.method.1.0 typed n.method.1.1
 
-no_float_field : (text : List ℕ) (t : JType) → IsFieldType text t → IsFloatless t → HasFloatType text → ⊥
-no_float_field text t typed floatless (inl (u, is, float)) = float (subst IsFloatless (field_type_once text t u typed is) floatless)
-no_float_field text t typed floatless (inr (d, is, float)) = apart text t d typed is
-
-pub bad_tag : (opcode : ℕ) (m : Member) (t : JType) → IsFieldType m.sym.desc t → IsFloatless t → m.kind ≢ 9 → NamesBadly opcode m
-bad_tag opcode m t typed floatless other = (no_float_field m.sym.desc t typed floatless, named)
-  where
-    named : NamesWell opcode (used.Member m) → ⊥
-    named (inl (a, (tag, b))) = other tag
-    named (inr (inl (a, (tag, (d, is))))) = apart m.sym.desc t d typed is
-    named (inr (inr n)) = apart m.sym.desc t n.method.1.0 typed n.method.1.1
-
-bad_access : (opcode : ℕ) (m : Member) (t : JType) → IsFieldType m.sym.desc t → IsFloatless t → row_of field_rows opcode ≡ None → NamesBadly opcode m
-bad_access opcode m t typed floatless none = (no_float_field m.sym.desc t typed floatless, named)
-  where
-    named : NamesWell opcode (used.Member m) → ⊥
-    named (inl (a, b)) = let row = (field_row opcode a).1 in cc
-    named (inr (inl (a, (tag, (d, is))))) = apart m.sym.desc t d typed is
-    named (inr (inr n)) = apart m.sym.desc t n.method.1.0 typed n.method.1.1
-
-pub bad_call : (opcode : ℕ) (m : Member) (d : Descriptor) → IsMethodType m.sym.desc d → IsFloatlessMethod d → row_of form_rows opcode ≡ None → ((opcode ≡ 184) × ((m.kind ≡ 10) ⊎ (m.kind ≡ 11)) → ⊥) → NamesBadly opcode m
-bad_call opcode m d typed floatless none other = (no_float_method m.sym.desc d typed floatless, named)
-  where
-    named : NamesWell opcode (used.Member m) → ⊥
-    named (inl (a, (tag, (t, is)))) = apart m.sym.desc t d is typed
-    named (inr (inl (a, (tag, b)))) = other (a, tag)
-    named (inr (inr n)) = no_some n.form (sym none ∙ n.row)
+-- one that names a method, and is no call on a receiver, is invokestatic
+pub bad_call : (opcode : ℕ) (m : Member) (d : Descriptor) → IsMethodType m.sym.desc d → row_of form_rows opcode ≡ None → ((opcode ≡ 184) × ((m.kind ≡ 10) ⊎ (m.kind ≡ 11)) → ⊥) → NamesWell opcode (used.Member m) → ⊥
+bad_call opcode m d typed none other (inl (a, (tag, (t, is)))) = apart m.sym.desc t d is typed
+bad_call opcode m d typed none other (inr (inl (a, (tag, b)))) = other (a, tag)
+bad_call opcode m d typed none other (inr (inr n)) = no_some n.form (sym none ∙ n.row)
 
 -- a call on a receiver that may not name the member
-pub bad_call_on : (opcode : ℕ) (form : Form) (m : Member) (d : Descriptor) → row_of form_rows opcode ≡ Some form → IsMethodType m.sym.desc d → IsFloatlessMethod d → (MayName form m.kind → ⊥) → NamesBadly opcode m
-bad_call_on opcode form m d row typed floatless other = (no_float_method m.sym.desc d typed floatless, named)
-  where
-    named : NamesWell opcode (used.Member m) → ⊥
-    named (inl (a, (tag, (t, is)))) = apart m.sym.desc t d is typed
-    named (inr (inl (a, (tag, b)))) = not_static opcode form row a
-    named (inr (inr n)) = other (subst (λ (f : Form). MayName f m.kind) (some_of _ _ (sym n.row ∙ row)) n.method.0)
+pub bad_call_on : (opcode : ℕ) (form : Form) (m : Member) (d : Descriptor) → row_of form_rows opcode ≡ Some form → IsMethodType m.sym.desc d → (MayName form m.kind → ⊥) → NamesWell opcode (used.Member m) → ⊥
+bad_call_on opcode form m d row typed other (inl (a, (tag, (t, is)))) = apart m.sym.desc t d is typed
+bad_call_on opcode form m d row typed other (inr (inl (a, (tag, b)))) = not_static opcode form row a
+bad_call_on opcode form m d row typed other (inr (inr n)) = other (subst (λ (f : Form). MayName f m.kind) (some_of _ _ (sym n.row ∙ row)) n.method.0)
 
-pub bad_text : (opcode : ℕ) (m : Member) → ((t : JType) → IsFieldType m.sym.desc t → ⊥) → ((d : Descriptor) → IsMethodType m.sym.desc d → ⊥) → NamesBadly opcode m
-bad_text opcode m no_field no_method = (float, named)
-  where
-    float : HasFloatType m.sym.desc → ⊥
-    float (inl (t, is, h)) = no_field t is
-    float (inr (d, is, h)) = no_method d is
+pub bad_text : (opcode : ℕ) (m : Member) → ((t : JType) → IsFieldType m.sym.desc t → ⊥) → ((d : Descriptor) → IsMethodType m.sym.desc d → ⊥) → NamesWell opcode (used.Member m) → ⊥
+bad_text opcode m no_field no_method (inl (a, (tag, (t, is)))) = no_field t is
+bad_text opcode m no_field no_method (inr (inl (a, (tag, (d, is))))) = no_method d is
+bad_text opcode m no_field no_method (inr (inr n)) = no_method n.method.1.0 n.method.1.1
 
-    named : NamesWell opcode (used.Member m) → ⊥
-    named (inl (a, (tag, (t, is)))) = no_field t is
-    named (inr (inl (a, (tag, (d, is))))) = no_method d is
-    named (inr (inr n)) = no_method n.method.1.0 n.method.1.1
+-- ---- members with floats
 
-pub field_answer : (opcode : ℕ) (m : Member) (t : JType) → IsFieldType m.sym.desc t → IsFloatless t → m.kind ≡ 9 → (r : Result Action Stop) → r ≡ ok_or (option_map (λ (access : JType → Sym → Action). access t m.sym) (row_of field_rows opcode)) (stop.Cause kind.Code) → IsAccessOr opcode m r
-field_answer opcode m t typed floatless tag r is =
-    elim (row_of field_rows opcode) as (λ row. row_of field_rows opcode ≡ row → r ≡ ok_or (option_map (λ (access : JType → Sym → Action). access t m.sym) row) (stop.Cause kind.Code) → IsAccessOr opcode m r) [
-      | None ↦ λ none e. subst (IsAccessOr opcode m) (sym e) (bad_access opcode m t typed floatless none)
-      | Some access ↦ λ row e. subst (IsAccessOr opcode m) (sym e) (inl (record { kind = tag; type = t; typed = typed; floatless = floatless; access = access; row = row; is = refl }))
-    ] refl is
+pub float_field : (opcode : ℕ) (m : Member) (t : JType) → IsFieldType m.sym.desc t → AccessesFields opcode × (m.kind ≡ 9) → (IsFloatless t → ⊥) → IsCauseWith opcode (used.Member m) kind.Float
+float_field opcode m t typed (accesses, tag) float = (inl (accesses, (tag, (t, typed))), inl (t, typed, float))
+
+pub float_call : (opcode : ℕ) (m : Member) (d : Descriptor) → IsMethodType m.sym.desc d → (opcode ≡ 184) × ((m.kind ≡ 10) ⊎ (m.kind ≡ 11)) → (IsFloatlessMethod d → ⊥) → IsCauseWith opcode (used.Member m) kind.Float
+float_call opcode m d typed (static, tag) float = (inr (inl (static, (tag, (d, typed)))), inr (d, typed, float))
+
+pub float_call_on : (opcode : ℕ) (form : Form) (m : Member) (d : Descriptor) → row_of form_rows opcode ≡ Some form → IsMethodType m.sym.desc d → MayName form m.kind → (IsFloatlessMethod d → ⊥) → IsCauseWith opcode (used.Member m) kind.Float
+float_call_on opcode form m d row typed may float = (inr (inr (record { form = form; row = row; method = (may, (d, typed)) })), inr (d, typed, float))
+
+-- ---- an access of a field
+
+-- what the table gives for it
+abbrev pub IsFieldRow : ℕ → JType → Sym → Option Action → Type 0
+IsFieldRow opcode t s found = found ≡ option_map (λ (access : JType → Sym → Action). access t s) (row_of field_rows opcode)
+
+field_found : (opcode : ℕ) (t : JType) (s : Sym) (found : Option Action) → IsFieldRow opcode t s found → (x : JType → Sym → Action) → row_of field_rows opcode ≡ Some x → found ≡ Some (x t s)
+field_found opcode t s found is x row = is ∙ ap (option_map (λ (access : JType → Sym → Action). access t s)) row
+
+pub has_field_row : (opcode : ℕ) (t : JType) (s : Sym) (found : Option Action) → AccessesFields opcode → IsFieldRow opcode t s found → IsSome found
+has_field_row opcode t s found accesses is = let row = field_row opcode accesses in is_some_at found (row.0 t s) (field_found opcode t s found is row.0 row.1)
+
+pub field_answer : (opcode : ℕ) (m : Member) (t : JType) → IsFieldType m.sym.desc t → IsFloatless t → AccessesFields opcode × (m.kind ≡ 9) → (s : Sym) → s ≡ m.sym → (found : Option Action) → IsFieldRow opcode t s found → (a : Action) → found ≡ Some a → UsesMember opcode m a
+field_answer opcode m t typed floatless (accesses, tag) s same found is a some =
+    let row = field_row opcode accesses in
+    let made : a ≡ row.0 t s = some_of _ _ (sym some ∙ field_found opcode t s found is row.0 row.1) in
+    inl (record { kind = tag; type = t; typed = typed; floatless = floatless; access = row.0; row = row.1; is = made ∙ ap (row.0 t) same })

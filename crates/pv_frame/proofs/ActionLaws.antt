@@ -165,25 +165,25 @@ no_float_method text d is floatless (inl (t, typed, float)) = apart text t d typ
 no_float_method text d is floatless (inr (e, typed, float)) = float (subst IsFloatlessMethod (method_type_once text d e is typed) floatless)
 
 clean_member : (opcode : ℕ) (m : Member) (a : Action) (k : CauseKind) → UsesMember opcode m a → IsCauseWith opcode (used.Member m) k → ⊥
-clean_member opcode m a kind.Float (inl p) h = no_float_field opcode m a p h
-clean_member opcode m a kind.Float (inr (inl p)) h = no_float_method m.sym.desc p.desc p.typed p.floatless h
-clean_member opcode m a kind.Float (inr (inr p)) h = no_float_method m.sym.desc p.desc p.typed p.floatless h
-clean_member opcode m a kind.Code (inl p) h = h.1 (inl (accesses opcode p.access p.row, (p.kind, (p.type, p.typed))))
-clean_member opcode m a kind.Code (inr (inl p)) h = h.1 (inr (inl (p.invokestatic, (p.kind, (p.desc, p.typed)))))
-clean_member opcode m a kind.Code (inr (inr p)) h = h.1 (inr (inr (record { form = p.form; row = p.row; method = (p.kind, (p.desc, p.typed)) })))
-clean_member opcode m a kind.Constant p h = h.2
+clean_member opcode m a kind.Float (inl p) h = no_float_field opcode m a p h.1
+clean_member opcode m a kind.Float (inr (inl p)) h = no_float_method m.sym.desc p.desc p.typed p.floatless h.1
+clean_member opcode m a kind.Float (inr (inr p)) h = no_float_method m.sym.desc p.desc p.typed p.floatless h.1
+clean_member opcode m a kind.Code (inl p) h = h (inl (accesses opcode p.access p.row, (p.kind, (p.type, p.typed))))
+clean_member opcode m a kind.Code (inr (inl p)) h = h (inr (inl (p.invokestatic, (p.kind, (p.desc, p.typed)))))
+clean_member opcode m a kind.Code (inr (inr p)) h = h (inr (inr (record { form = p.form; row = p.row; method = (p.kind, (p.desc, p.typed)) })))
+clean_member opcode m a kind.Constant p h = h.1
 clean_member opcode m a k p h = elim h [ ]
 
 clean_constant : (pool : List Entry) (opcode : ℕ) (c : Constant) (a : Action) (k : CauseKind) → LoadsConstant pool opcode c a → IsCauseWith opcode (used.Constant c) k → ⊥
-clean_constant pool opcode (constant.Int n) a kind.Code p h = h.1 p.0
-clean_constant pool opcode (constant.Text i) a kind.Code p h = h.1 p.0
-clean_constant pool opcode (constant.Long n) a kind.Code p h = h.1 p.0
-clean_constant pool opcode (constant.Int n) a kind.Float p h = h
-clean_constant pool opcode (constant.Text i) a kind.Float p h = h
-clean_constant pool opcode (constant.Long n) a kind.Float p h = h
-clean_constant pool opcode (constant.Int n) a kind.Constant p h = h.2
-clean_constant pool opcode (constant.Text i) a kind.Constant p h = h.2
-clean_constant pool opcode (constant.Long n) a kind.Constant p h = h.2
+clean_constant pool opcode (constant.Int n) a kind.Code p h = h p.0
+clean_constant pool opcode (constant.Text i) a kind.Code p h = h p.0
+clean_constant pool opcode (constant.Long n) a kind.Code p h = h p.0
+clean_constant pool opcode (constant.Int n) a kind.Float p h = h.1
+clean_constant pool opcode (constant.Text i) a kind.Float p h = h.1
+clean_constant pool opcode (constant.Long n) a kind.Float p h = h.1
+clean_constant pool opcode (constant.Int n) a kind.Constant p h = h.1
+clean_constant pool opcode (constant.Text i) a kind.Constant p h = h.1
+clean_constant pool opcode (constant.Long n) a kind.Constant p h = h.1
 clean_constant pool opcode constant.Float a k p h = elim p [ ]
 clean_constant pool opcode constant.Double a k p h = elim p [ ]
 clean_constant pool opcode (constant.Other tag) a k p h = elim p [ ]

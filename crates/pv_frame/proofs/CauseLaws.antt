@@ -4,6 +4,7 @@ use Rattle.std.specs.Prelude.{◌≢◌, ◌==◌, if◌then◌else◌}
 use Rattle.std.specs.List.{AllZip, AllByRecursion}
 use Rattle.pv_value.proofs.Cited.{method_type_once}
 use Rattle.pv_pool.specs.declared.entry.Entry.{Entry}
+use Rattle.pv_pool.specs.declared.constant.Constant.TheVariants as constant
 use Rattle.pv_class.specs.declared.file.ClassFile.{ClassFile}
 use Rattle.pv_class.specs.declared.file.Method.{Method}
 use Rattle.pv_class.specs.declared.file.Code.{Code}
@@ -20,10 +21,11 @@ use Rattle.pv_frame.specs.declared.cause.CauseKind.TheVariants as kind
 use Rattle.pv_frame.specs.declared.cause.Cause.{Cause}
 use Rattle.pv_frame.specs.Actions.{IsFloatlessMethod, use_of}
 use Rattle.pv_frame.specs.declared.used.Use.{Use}
+use Rattle.pv_frame.specs.declared.used.Use.TheVariants as used
 use Rattle.pv_frame.specs.declared.program.Program.{Program}
 use Rattle.pv_frame.specs.Programs.{Does, IsProgramOf}
 use Rattle.pv_frame.specs.Frames.{HasFrames}
-use Rattle.pv_frame.specs.Causes.{IsCauseWith, IsCauseOf, HasNoCause, address_of, IsFirst, cause, Row, handler, synchronized, long_code, slots, float, bad_code, instruction, untyped, IsRefused, IsAccepted}
+use Rattle.pv_frame.specs.Causes.{NamesFloat, NamesOther, IsCauseWith, IsCauseOf, HasNoCause, address_of, IsFirst, cause, Row, handler, synchronized, long_code, slots, float, bad_code, instruction, untyped, IsRefused, IsAccepted}
 use Rattle.pv_frame.proofs.FrameLaws.{some_of}
 use Rattle.pv_frame.proofs.ActionLaws.{one_list, clean}
 
@@ -88,17 +90,28 @@ accepted_or_refused file m p c bytes a r = no_row file m p r.code r.number c byt
 
 -- ---- one cause
 
+-- a constant that isn't accepted is no float
+other_or_float : (u : Use) → NamesOther u → NamesFloat u → ⊥
+other_or_float (used.Constant (constant.Other tag)) p q = q
+other_or_float (used.Constant constant.Float) p q = p
+other_or_float (used.Constant constant.Double) p q = p
+other_or_float (used.Constant (constant.Int n)) p q = p
+other_or_float (used.Constant (constant.Long n)) p q = p
+other_or_float (used.Constant (constant.Text i)) p q = p
+other_or_float (used.Member m) p q = p
+other_or_float used.None p q = p
+
 -- an instruction has one cause
 one_with : (opcode : ℕ) (u : Use) (k l : CauseKind) → IsCauseWith opcode u k → IsCauseWith opcode u l → k ≡ l
 one_with opcode u kind.Float kind.Float p q = refl
 one_with opcode u kind.Code kind.Code p q = refl
 one_with opcode u kind.Constant kind.Constant p q = refl
-one_with opcode u kind.Float kind.Code p q = absurd (q.0 p)
-one_with opcode u kind.Float kind.Constant p q = absurd (q.0 p)
-one_with opcode u kind.Code kind.Float p q = absurd (p.0 q)
-one_with opcode u kind.Constant kind.Float p q = absurd (p.0 q)
-one_with opcode u kind.Code kind.Constant p q = absurd (p.1 q.1)
-one_with opcode u kind.Constant kind.Code p q = absurd (q.1 p.1)
+one_with opcode u kind.Float kind.Code p q = absurd (q p.0)
+one_with opcode u kind.Code kind.Float p q = absurd (p q.0)
+one_with opcode u kind.Code kind.Constant p q = absurd (p q.0)
+one_with opcode u kind.Constant kind.Code p q = absurd (q p.0)
+one_with opcode u kind.Constant kind.Float p q = absurd (other_or_float u p.1 q.1)
+one_with opcode u kind.Float kind.Constant p q = absurd (other_or_float u q.1 p.1)
 one_with opcode u kind.Float l p q = elim q [ ]
 one_with opcode u kind.Code l p q = elim q [ ]
 one_with opcode u kind.Constant l p q = elim q [ ]

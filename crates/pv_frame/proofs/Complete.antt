@@ -131,20 +131,20 @@ Neither pool o u = ((a : Action) → ActsWith pool o u a → ⊥) × ((k : Cause
 
 member_well : (pool : List Entry) (o : ℕ) (m : Member) → Neither pool o (used.Member m) → NamesWell o (used.Member m) → ⊥
 member_well pool o m n (inl (accesses, (tag, (t, typed)))) = elim (float_or_not t) [
-  | inr float ↦ n.1 kind.Float (inl (t, typed, float))
+  | inr float ↦ n.1 kind.Float (inl (accesses, (tag, (t, typed))), inl (t, typed, float))
   | inl floatless ↦
       let row = field_row o accesses in
       n.0 (row.0 t m.sym) (inl (record { kind = tag; type = t; typed = typed; floatless = floatless; access = row.0; row = row.1; is = refl }))
 ]
 member_well pool o m n (inr (inl (is, (kinds, (d, typed))))) = elim (method_or_not d) [
-  | inr float ↦ n.1 kind.Float (inr (d, typed, float))
+  | inr float ↦ n.1 kind.Float (inr (inl (is, (kinds, (d, typed)))), inr (d, typed, float))
   | inl floatless ↦ n.0 (act.Call d m.sym) (inr (inl (record { invokestatic = is; kind = kinds; desc = d; typed = typed; floatless = floatless; is = refl })))
 ]
 member_well pool o m n (inr (inr w)) =
     let d = w.method.1.0 in
     let typed = w.method.1.1 in
     elim (method_or_not d) [
-      | inr float ↦ n.1 kind.Float (inr (d, typed, float))
+      | inr float ↦ n.1 kind.Float (inr (inr w), inr (d, typed, float))
       | inl floatless ↦ n.0 (act.CallOn (with_receiver d) (receiver_sym w.form m.sym)) (inr (inr (record { form = w.form; row = w.row; kind = w.method.0; desc = d; typed = typed; floatless = floatless; is = refl })))
     ]
 
@@ -152,15 +152,15 @@ well : (pool : List Entry) (o : ℕ) (u : Use) → ((j : ℕ) → u ≡ used.Con
 well pool o (used.Constant (constant.Int i)) texts n w = n.0 (act.Push (num.Int i)) (w, refl)
 well pool o (used.Constant (constant.Long i)) texts n w = n.0 (act.Push (num.Long i)) (w, refl)
 well pool o (used.Constant (constant.Text j)) texts n w = let text = texts j refl in n.0 (act.Literal text.0) (w, (text.0, text.1, refl))
-well pool o (used.Constant constant.Float) texts n w = n.1 kind.Float w
-well pool o (used.Constant constant.Double) texts n w = n.1 kind.Float w
-well pool o (used.Constant (constant.Other tag)) texts n w = n.1 kind.Constant ((λ h. h), w, tt)
+well pool o (used.Constant constant.Float) texts n w = n.1 kind.Float (w, tt)
+well pool o (used.Constant constant.Double) texts n w = n.1 kind.Float (w, tt)
+well pool o (used.Constant (constant.Other tag)) texts n w = n.1 kind.Constant (w, tt)
 well pool o (used.Member m) texts n w = member_well pool o m n w
 well pool o used.None texts n w = w
 
 -- that an instruction with an index neither acts nor has a cause is impossible
 with_use : (pool : List Entry) (o : ℕ) (u : Use) → ((j : ℕ) → u ≡ used.Constant (constant.Text j) → (text : List ℕ) × (text_under pool j ≡ Some text)) → Neither pool o u → ⊥
-with_use pool o u texts n = n.1 kind.Code ((λ float. n.1 kind.Float float), (λ w. well pool o u texts n w))
+with_use pool o u texts n = n.1 kind.Code (λ w. well pool o u texts n w)
 
 text_of_use : (pool : List Entry) (o i j : ℕ) → HasTexts pool → use_of pool (insn.Pool o i) ≡ used.Constant (constant.Text j) → (text : List ℕ) × (text_under pool j ≡ Some text)
 text_of_use pool o i j texts e =

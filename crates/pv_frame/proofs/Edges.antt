@@ -7,13 +7,14 @@ use Rattle.std.proofs.lemmas.List.Sums.{sum_by-set}
 use Rattle.std.proofs.lemmas.List.Elements.{Contains-append_left, Contains-append_right, Contains-push}
 use Rattle.std.proofs.lemmas.Option.{slice_get_within, get_or_from_slice_get}
 use Rattle.std.proofs.Math.ListN.{length-set}
+use Rattle.pv_list.proofs.Cited.{all_push, all_map}
 use Rattle.pv_frame.specs.declared.frame.Frame.{Frame}
 use Rattle.pv_frame.specs.declared.stop.Untyped.{Untyped}
 use Rattle.pv_frame.specs.declared.stop.Untyped.TheVariants as untyped
 use Rattle.pv_frame.specs.Frames.{Flows, IsFrameAt, LeadsTo}
 use Rattle.pv_frame.specs.Inferring.{FoundOr, weight_of, weight, HaveLocals, Below, Follows, Clashes, merged, SameStack}
 use Rattle.pv_frame.proofs.FrameLaws.{flows_flows, some_of}
-use Rattle.pv_frame.proofs.Lists.{all_push, all_map, all_front, all_parts, equal_or_not, get_set, get_set_other, contains_first}
+use Rattle.pv_frame.proofs.Lists.{all_front, all_parts, equal_or_not, get_set, get_set_other, contains_first}
 use Rattle.pv_frame.proofs.Meeting.{Meets, flows_itself, merged_meets}
 
 -- ---- edges and the frames that they lead to

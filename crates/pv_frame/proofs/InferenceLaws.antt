@@ -5,6 +5,7 @@ use Rattle.std.specs.List.{AllByRecursion}
 use Rattle.std.proofs.lemmas.List.{length-replicate}
 use Rattle.std.proofs.lemmas.List.Elements.{Contains-push_cases}
 use Rattle.std.proofs.lemmas.Option.{slice_get_within, slice_get_read}
+use Rattle.pv_list.proofs.Cited.{all_map}
 use Rattle.pv_pool.specs.Readers.{◌>>=◌}
 use Rattle.pv_frame.specs.declared.sort.Sort.{Sort}
 use Rattle.pv_frame.specs.declared.sort.Sort.TheVariants as sort
@@ -21,7 +22,7 @@ use Rattle.pv_frame.specs.declared.stop.Untyped.TheVariants as untyped
 use Rattle.pv_frame.specs.Inferring.{FoundOr, weight, HaveLocals, Within, Follows, Clashes, Inferring, Visits}
 use Rattle.pv_frame.proofs.FrameLaws.{some_of, no_some, if_some, framed, goes_from}
 use Rattle.pv_frame.proofs.Inferred.{typed_goes, leads_nowhere}
-use Rattle.pv_frame.proofs.Lists.{all_map, contains_first, contains_more, contains_cases, contains_none}
+use Rattle.pv_frame.proofs.Lists.{contains_first, contains_more, contains_cases, contains_none}
 use Rattle.pv_frame.proofs.Edges.{leads_from, leads_below}
 
 -- ---- the number of locals stays

@@ -3,6 +3,7 @@ use Rattle.std.proofs.Common.{◌≡◌, ℕ, zero, suc, ◌<◌, List, [], ◌�
 use Rattle.std.specs.Prelude.{◌⊎◌, slice_get, Contains}
 use Rattle.std.specs.List.{AllZip, AllByRecursion}
 use Rattle.std.proofs.lemmas.Option.{slice_get_within}
+use Rattle.pv_list.proofs.Cited.{same_lists}
 use Rattle.pv_frame.specs.declared.sort.Sort.{Sort}
 use Rattle.pv_frame.specs.declared.action.Action.{Action}
 use Rattle.pv_frame.specs.declared.action.Action.TheVariants as act
@@ -59,15 +60,6 @@ all_less_both (s ∷ l) (t ∷ m) p q =
 
 flows_both : (f g : Frame) → Flows f g → Flows g f → f ≡ g
 flows_both f g p q = λ i. record { stack = q.stack i; locals = all_less_both f.locals g.locals p.locals q.locals i }
-
-same_lists : {A : Type 0} (xs ys : List A) → ((k : ℕ) → slice_get xs k ≡ slice_get ys k) → xs ≡ ys
-same_lists [] [] h = refl
-same_lists [] (y ∷ ys) h = no_some y (h 0)
-same_lists (x ∷ xs) [] h = no_some x (sym (h 0))
-same_lists (x ∷ xs) (y ∷ ys) h =
-    let head = some_of _ _ (h 0) in
-    let tail = same_lists xs ys (λ k. h (suc k)) in
-    cc (head, tail)
 
 -- past the end of one list is past the end of one that is as long
 past : {A : Type 0} (xs ys : List A) (k : ℕ) (x : A) → length xs ≡ length ys → slice_get xs k ≡ None → slice_get ys k ≡ Some x → ⊥

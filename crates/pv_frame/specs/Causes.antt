@@ -73,12 +73,12 @@ refused_by opcode = refused_in refused_rows opcode
 abbrev pub HasFloatType : List ℕ → Type 0
 HasFloatType text = ((t : JType) × IsFieldType text t × ¬ IsFloatless t) ⊎ ((d : Descriptor) × IsMethodType text d × ¬ IsFloatlessMethod d)
 
--- ldc or ldc_w of a float, ldc2_w of a double; a member whose descriptor has one
-abbrev pub NamesFloat : ℕ → Use → Type 0
-NamesFloat opcode (used.Constant constant.Float) = IsTrue (loads_narrow opcode)
-NamesFloat opcode (used.Constant constant.Double) = IsTrue (loads_wide opcode)
-NamesFloat opcode (used.Member m) = HasFloatType m.sym.desc
-NamesFloat opcode _ = ⊥
+-- a Float or a Double; a member whose descriptor has a float or a double
+abbrev pub NamesFloat : Use → Type 0
+NamesFloat (used.Constant constant.Float) = Unit {0}
+NamesFloat (used.Constant constant.Double) = Unit {0}
+NamesFloat (used.Member m) = HasFloatType m.sym.desc
+NamesFloat _ = ⊥
 
 -- a Fieldref with a field descriptor
 abbrev pub IsField : Member → Type 0
@@ -122,11 +122,11 @@ abbrev pub NamesOther : Use → Type 0
 NamesOther (used.Constant (constant.Other tag)) = Unit {0}
 NamesOther _ = ⊥
 
--- of an accepted instruction with an index: a float before a wrong index, and that before a constant that isn't accepted
+-- of an accepted instruction with an index, in their order: the index doesn't name what the instruction asks for, or it does and names a constant that isn't accepted, or a float
 abbrev pub IsCauseWith : ℕ → Use → CauseKind → Type 0
-IsCauseWith opcode u kind.Float = NamesFloat opcode u
-IsCauseWith opcode u kind.Code = ¬ NamesFloat opcode u × ¬ NamesWell opcode u
-IsCauseWith opcode u kind.Constant = ¬ NamesFloat opcode u × NamesWell opcode u × NamesOther u
+IsCauseWith opcode u kind.Code = ¬ NamesWell opcode u
+IsCauseWith opcode u kind.Constant = NamesWell opcode u × NamesOther u
+IsCauseWith opcode u kind.Float = NamesWell opcode u × NamesFloat u
 IsCauseWith opcode u _ = ⊥
 
 -- an instruction of this pool has this cause

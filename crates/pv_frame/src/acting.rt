@@ -5,7 +5,7 @@ ghost use Rattle.std.specs.Option.{option_map};
 ghost use Rattle.std.specs.List.{AllByRecursion};
 ghost use Rattle.pv_value.specs.Descriptors.{IsFieldType, IsMethodType};
 ghost use Rattle.pv_frame.specs.Actions.{local_rows, branch_rows, field_rows, form_rows, row_of, MayName, cases_from, loads_narrow, loads_wide, use_of, IsUse, IsFloatless, IsFloatlessMethod};
-ghost use Rattle.pv_frame.specs.Causes.{refused_by, NamesConstant};
+ghost use Rattle.pv_frame.specs.Causes.{refused_by, AccessesFields, NamesConstant};
 ghost use Rattle.pv_frame.specs.Acting.{HasItsText, IsActionWithOr, IsAccessOr, IsActionOr, IsFirstOf, AreActing, OnCause};
 ghost use Rattle.pv_pool.specs.Pools.{Refers};
 ghost use Rattle.pv_insn.proofs.Cited.{IsFormed};
@@ -13,12 +13,12 @@ ghost use Rattle.pv_frame.specs.declared.used.Use.TheVariants as used;
 
 use crate::action::{Action, Comparison, Test};
 use crate::cause::{CauseKind, Refused};
-use crate::items::Items;
 use crate::plain::plain;
 use crate::sort::Sort;
 use crate::stop::Stop;
 use crate::used::Use;
 use pv_insn::{Case, Insn, Placed};
+use pv_list::Listed;
 use pv_pool::{Constant, Member, Pool};
 use pv_value::{
     Descriptor, Form, JType, Memory, Name, Num, Sym, read_descriptor, read_field_type, receiver_sym,
@@ -196,7 +196,7 @@ fn copied_sym(alloc: Global, sym: &Sym) -> Result<Sym, Memory>
 }
 
 /// The cases of a tableswitch from its lowest number on.
-fn cases_from(alloc: Global, low: i32, targets: &[u32]) -> Result<Items<Case>, AllocError>
+fn cases_from(alloc: Global, low: i32, targets: &[u32]) -> Result<Listed<Case>, AllocError>
     requires { (low +ℤ pos (length targets.now)) ≤ℤ pos (2 ^ 31) }
     ensures { IfOk result (λ cases. cases ≡ cases_from low targets.now) }
 {
@@ -231,19 +231,26 @@ fn load_constant(alloc: Global, pool: &Pool, opcode: u8, constant: Constant) -> 
     }
 }
 
+/// Whether it is getstatic, putstatic, getfield or putfield with a Fieldref, by the opcode and the tag.
+fn accesses_field(opcode: u8, kind: u8) -> bool
+    ensures { IsTrue result ↔ (AccessesFields opcode × (kind ≡ 9)) }
+{
+    matches!(opcode, 178..=181) && kind == FIELD
+}
+
 /// What an access of a field of this type does, or its cause.
 fn access_field(alloc: Global, opcode: u8, member: &Member, field: JType) -> Result<Action, Stop>
     requires { IsFieldType member.now.sym.desc field }
     ensures { IsAccessOr opcode member.now result }
 {
+    if !accesses_field(opcode, member.kind) {
+        return Err(Stop::Cause(CauseKind::Code));
+    }
     if !is_floatless(field) {
         return Err(Stop::Cause(CauseKind::Float));
     }
-    if member.kind != FIELD {
-        return Err(Stop::Cause(CauseKind::Code));
-    }
     let sym = copied_sym(alloc, &member.sym)?;
-    field_access(opcode, field, sym).ok_or(Stop::Cause(CauseKind::Code))
+    Ok(field_access(opcode, field, sym).unwrap())
 }
 
 /// Whether it is invokestatic with a Methodref or InterfaceMethodref, by the opcode and the tag.
@@ -286,11 +293,13 @@ fn call_on(
 ) -> Result<Action, Stop>
     requires form { row_of form_rows opcode ≡ Some form }
     requires typed { IsMethodType member.now.sym.desc desc.now }
-    requires floatless { IsFloatlessMethod desc.now }
     ensures { IsAccessOr opcode member.now result }
 {
     if !may_name(form, member.kind) {
         return Err(Stop::Cause(CauseKind::Code));
+    }
+    if !is_floatless_method(desc) {
+        return Err(Stop::Cause(CauseKind::Float));
     }
     let with_receiver = desc.with_receiver(alloc)?;
     let sym = receiver_sym(alloc, form, &member.sym)?;
@@ -302,14 +311,14 @@ fn call(alloc: Global, opcode: u8, member: &Member, desc: Descriptor) -> Result<
     requires { IsMethodType member.now.sym.desc desc }
     ensures { IsAccessOr opcode member.now result }
 {
-    if !is_floatless_method(&desc) {
-        return Err(Stop::Cause(CauseKind::Float));
-    }
     if let Some(form) = form_of_call(opcode) {
         return call_on(alloc, opcode, form, member, &desc);
     }
     if !calls_static(opcode, member.kind) {
         return Err(Stop::Cause(CauseKind::Code));
+    }
+    if !is_floatless_method(&desc) {
+        return Err(Stop::Cause(CauseKind::Float));
     }
     Ok(Action::Call(desc, copied_sym(alloc, &member.sym)?))
 }

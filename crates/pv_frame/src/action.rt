@@ -1,8 +1,8 @@
 //! What instructions do (JVMS 6.5).
 
-use crate::items::Items;
 use crate::sort::Sort;
 use pv_insn::Case;
+use pv_list::Listed;
 use pv_value::{Descriptor, JType, Kind, Name, Num, ScalarOp, Sym};
 
 /// An instruction that moves values of the operand stack without looking at them.
@@ -73,7 +73,7 @@ pub enum Action {
     /// A branch.
     Jump(u32),
     /// A switch: the default target, and the cases.
-    Switch(u32, Items<Case>),
+    Switch(u32, Listed<Case>),
     /// A return: of a value of a sort, or of none.
     Give(Option<Sort>),
     /// athrow.

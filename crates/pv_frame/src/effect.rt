@@ -5,10 +5,10 @@ ghost use Rattle.pv_value.specs.Operations as operation;
 ghost use Rattle.pv_frame.specs.Effects.{sort_of, sort_of_type, sort_of_kind, sort_of_word, sorts_given, test_takes, takes, gives, successors};
 
 use crate::action::{Action, Test};
-use crate::items::Items;
 use crate::sort::Sort;
 use pv_insn::Case;
-use pv_value::{JType, JTypes, Kind, Num, ScalarOp};
+use pv_list::Listed;
+use pv_value::{JType, Kind, Num, ScalarOp};
 use std::alloc::{AllocError, Global};
 
 /// The sort of a number.
@@ -104,7 +104,7 @@ fn test_takes(test: Test) -> &'static [Sort]
 }
 
 /// The sorts of parameters.
-fn parameter_sorts(alloc: Global, params: &JTypes) -> Result<Vec<Sort>, AllocError>
+fn parameter_sorts(alloc: Global, params: &Listed<JType>) -> Result<Vec<Sort>, AllocError>
     ensures { IfOk result (λ v. v.items ≡ map sort_of_type params.now) }
 {
     let mut sorts = Vec::new(alloc);
@@ -204,7 +204,7 @@ pub(crate) fn successors(alloc: Global, place: u32, action: &Action) -> Result<V
 }
 
 /// The default target of a switch, and the targets of its cases.
-fn switch_targets(alloc: Global, default: u32, cases: &Items<Case>) -> Result<Vec<u32>, AllocError>
+fn switch_targets(alloc: Global, default: u32, cases: &Listed<Case>) -> Result<Vec<u32>, AllocError>
     ensures { IfOk result (λ v. v.items ≡ default ∷ map (λ c. c.target) cases.now) }
 {
     let mut targets = [default].to_vec(alloc)?;

@@ -10,11 +10,11 @@ ghost use Rattle.pv_frame.specs.Inferring.{FoundOr, KnowsLess, met, merged, Same
 use crate::action::Action;
 use crate::effect::{gives, sort_of_type, takes};
 use crate::frame::Frame;
-use crate::items::Items;
 use crate::program::Program;
 use crate::sort::Sort;
 use crate::stack::{below, fits, has_room, holds, moved, set_local};
 use crate::stop::Untyped;
+use pv_list::Listed;
 use pv_value::JType;
 use std::alloc::{AllocError, Global};
 
@@ -232,7 +232,7 @@ pub(crate) fn entry_frame(alloc: Global, program: &Program) -> Result<Frame, Unt
     }
     locals.resize(room, Sort::Unknown)?;
     Ok(Frame {
-        stack: Items::from(Vec::new(alloc)),
+        stack: Listed::from(Vec::new(alloc)),
         locals: locals.into(),
     })
 }

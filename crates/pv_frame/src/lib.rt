@@ -10,7 +10,7 @@
 //! Frames are inferred from the entry along edges, place by place: `specs/Inferring` says what holds
 //! of the frames so far. It, `Acting`, `Stacking`, `Stops` and `Rows` are private to this crate.
 //!
-//! This layer stands on `pv_value`, `pv_pool`, `pv_insn` and `pv_class`. The layers above use
+//! This layer stands on `pv_value`, `pv_list`, `pv_pool`, `pv_insn` and `pv_class`. The layers above use
 //! `infer`: it is Ok exactly where the method is accepted, with its program and the frames that have
 //! the fewest unknown locals, and else names the first cause and its address (`specs/Answers`).
 #![tactic(auto)]
@@ -22,7 +22,6 @@ mod effect;
 mod flow;
 mod frame;
 mod inference;
-mod items;
 mod plain;
 mod program;
 mod sort;
@@ -36,7 +35,6 @@ pub use action::{Action, Comparison, Move, Test};
 pub use cause::{Cause, CauseKind, Refused};
 pub use frame::Frame;
 pub use inference::{LONGEST_CODE, MOST_SLOTS, infer};
-pub use items::Items;
 pub use program::Program;
 pub use sort::Sort;
 pub use typed::Typed;

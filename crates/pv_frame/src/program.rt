@@ -1,14 +1,14 @@
 //! What there is to run of a method.
 
 use crate::action::Action;
-use crate::items::Items;
+use pv_list::Listed;
 use pv_value::Descriptor;
 
 /// What there is to run of a method (JVMS 2.6, 4.6, 4.7.3).
 #[derive(Drop)]
 pub struct Program {
     /// What the instructions do, in the order of the code.
-    pub actions: Items<Action>,
+    pub actions: Listed<Action>,
     /// Whether the method has a `this`: ACC_STATIC isn't set.
     pub instance: bool,
     /// The types of its parameters without `this`, and of its result.

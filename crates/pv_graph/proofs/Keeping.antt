@@ -26,6 +26,18 @@ kept_same g after old new prepared is e same =
 nothing_prepared : (nodes : List Node) (p : Prepared) {X : Type 0} → None ≡ Some p → X
 nothing_prepared nodes p e = absurd (cc)
 
+-- copies of the nodes and sorts, with numbers of their own
+pub copied : (nodes nodes' : List Node) (sorts sorts' : List OpSort) (open_ : Bool) (base : ℕ) (prepared : Option Prepared) (old new : Numbers) → IsKept (graph_of nodes sorts open_ base prepared) old prepared → nodes' ≡ nodes → sorts' ≡ sorts → IsIndex nodes new
+    → IsKept (graph_of nodes' sorts' open_ base None) new None
+copied nodes nodes' sorts sorts' open_ base prepared old new is e f index =
+    subst (λ (xs : List Node). IsKept (graph_of xs sorts' open_ base None) new None) (sym e)
+    (subst (λ (ss : List OpSort). IsKept (graph_of nodes ss open_ base None) new None) (sym f)
+    (record {
+      graph = record { long = is.graph.long; small = is.graph.small; base = is.graph.base; open_ = is.graph.open_; sorted = is.graph.sorted; early = is.graph.early; late = is.graph.late; ranged = is.graph.ranged };
+      index = index;
+      tables = λ p none. nothing_prepared nodes p none;
+    }))
+
 -- a node more, which has its number
 pub kept_push : (g after : Graph) (old new : Numbers) (prepared : Option Prepared) (node : Node) (s : OpSort) → IsKept g old prepared
     → IsAbsent g.nodes node → (IsOpen node → ⊥) → HasSort g.sorts node.op node.kids s → IsRanged node.op → length g.nodes + 1 < 2 ^ 32 → Renumbers old new node (length g.nodes)

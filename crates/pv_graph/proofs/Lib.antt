@@ -12,6 +12,8 @@ pub mod Keeping
 pub mod Tying
 pub mod Reaching
 pub mod Marking
+pub mod After
+pub mod Knowing
 pub mod TieLaws
 pub mod FiniteTrees
 pub mod Basing

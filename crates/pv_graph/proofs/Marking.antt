@@ -1,5 +1,5 @@
 -- What the marks of a search say.
-use Rattle.std.specs.Prelude.{◌≡◌, ◌↔◌, ℕ, zero, suc, ◌+◌, ◌<◌, ◌≤◌, Bool, true, false, not, ◌||◌, ◌==◌, List, [], ◌∷◌, ◌++◌, length, Option, Some, None, ◌-◌, slice_get, slice_set, IsTrue, Vec, refl, if◌then◌else◌}
+use Rattle.std.specs.Prelude.{◌≡◌, ◌↔◌, ℕ, zero, suc, ◌+◌, ◌<◌, ◌≤◌, Bool, true, false, not, ◌||◌, ◌==◌, List, [], ◌∷◌, ◌++◌, map, length, Option, Some, None, ◌-◌, slice_get, slice_set, IsTrue, Vec, refl, if◌then◌else◌}
 use Rattle.std.proofs.Common.{inl, inr, sym, ap, ◌∙◌, subst, arith, get_or, take, length-append, replicate}
 use Rattle.std.proofs.lemmas.Option.{slice_get_within, same_Some}
 use Rattle.std.proofs.lemmas.List.{take_more, length-take-le}
@@ -19,6 +19,7 @@ use Rattle.pv_graph.specs.Graphs.{Graph, form_at, IsGraph}
 use Rattle.pv_graph.specs.Walks.{In, open_kids, Free, here, below, Reaches, itself, along, IsSettled}
 use Rattle.pv_graph.specs.Reach.{begins, follows, Uses, IsUse, IsMarked, AreUses, Passes, Hits, AreReached, IsBegun, AreBegun, AreOut, Leads, there, through, AreMarked, IsSearched, KidsWithin, AllKidsWithin}
 use Rattle.pv_graph.specs.Reach as hits
+use Rattle.pv_graph.specs.Calls.{AreFreeMarks, AreSettledMarks}
 use Rattle.pv_graph.proofs.NodeLaws.{node_at, form_there, kid_within}
 use Rattle.pv_graph.proofs.Tying.{set_same, set_other, set_length, equal_or_not}
 use Rattle.pv_graph.proofs.Reaching.{in_front, in_last, in_cases}
@@ -129,15 +130,15 @@ out_free len assumed out is n lt free = by (found out n (let y = is.long in omeg
 
 -- ---- a depth that is free
 
-begins_theta : (d : ℕ) (o : Op) → begins (look.Free d) o ≡ true → shape o ≡ theta d
+pub begins_theta : (d : ℕ) (o : Op) → begins (look.Free d) o ≡ true → shape o ≡ theta d
 begins_theta d (op.Theta e) b = (let same : e ≡ d = grind (arith, nat_tests) in ap theta same)
 begins_theta d o b = absurd (cc)
 
-theta_begins : (d : ℕ) (o : Op) → shape o ≡ theta d → begins (look.Free d) o ≡ true
+pub theta_begins : (d : ℕ) (o : Op) → shape o ≡ theta d → begins (look.Free d) o ≡ true
 theta_begins d (op.Theta e) s = (let same : e ≡ d = cc in grind (arith, nat_tests))
 theta_begins d o s = absurd (cc)
 
-in_place : {A : Type 0} → (ks : List A) (p : ℕ) (k : A) → slice_get ks p ≡ Some k → In ks k
+pub in_place : {A : Type 0} → (ks : List A) (p : ℕ) (k : A) → slice_get ks p ≡ Some k → In ks k
 in_place [] p k e = absurd (let z = e in cc)
 in_place (l ∷ ks) zero k e = inl (same_Some l k e)
 in_place (l ∷ ks) (suc p) k e = inr (in_place ks p k e)
@@ -179,12 +180,12 @@ open_eval : (d e : ℕ) (ks : List ℕ) → open_kids d (eval e) ks ≡ eval_kid
 open_eval d e [] = refl
 open_eval d e (a ∷ ks) = refl
 
-open_in : (d : ℕ) (o : Op) (ks : List ℕ) (p k : ℕ) → slice_get ks p ≡ Some k → follows (look.Free d) o p ≡ true → In (open_kids d (shape o) ks) k
+pub open_in : (d : ℕ) (o : Op) (ks : List ℕ) (p k : ℕ) → slice_get ks p ≡ Some k → follows (look.Free d) o p ≡ true → In (open_kids d (shape o) ks) k
 open_in d (op.Eval e) ks p k at f = subst (λ (xs : List ℕ). In xs k) (sym (open_eval d e ks)) (eval_in (e == d) ks p k at f)
 open_in d (op.Pass e) ks p k at f = pass_in (e == d) ks p k at f
 open_in d o ks p k at f = in_place ks p k at
 
-open_place : (d : ℕ) (o : Op) (ks : List ℕ) (k : ℕ) → In (open_kids d (shape o) ks) k → (p : ℕ) × (slice_get ks p ≡ Some k) × (follows (look.Free d) o p ≡ true)
+pub open_place : (d : ℕ) (o : Op) (ks : List ℕ) (k : ℕ) → In (open_kids d (shape o) ks) k → (p : ℕ) × (slice_get ks p ≡ Some k) × (follows (look.Free d) o p ≡ true)
 open_place d (op.Eval e) ks k m = eval_place (e == d) ks k (subst (λ (xs : List ℕ). In xs k) (open_eval d e ks) m)
 open_place d (op.Pass e) ks k m = pass_place (e == d) ks k m
 open_place d o ks k m = let r = place_of ks k m in (r.0, r.1, refl)
@@ -245,6 +246,9 @@ kid_places kids n h p k e = h k (in_place kids p k e)
 pub all_within : (g : Graph) → IsGraph g → AllKidsWithin g.nodes (length g.nodes)
 all_within g is m node at = kid_places node.kids (length g.nodes) (λ k i. kid_within g is m k node at i)
 
+pub all_from_0 : (g : Graph) → IsGraph g → AllKidsWithin g.nodes (0 + length g.nodes)
+all_from_0 g is m node at p k e = let z = all_within g is m node at p k e in omega arith
+
 pub free_says : (g : Graph) (d n : ℕ) (marks : List Bool) (b : Bool) → IsSearched g.nodes [] (look.Free d) marks → slice_get marks n ≡ Some b → IsTrue b ↔ Free (form_at g.nodes) d n
 free_says g d n marks b is at = (
   (λ t. leads_free g.nodes is.out is.are d n ((is.marked.says n).0 (at ∙ ap Some t))),
@@ -261,6 +265,25 @@ settled_says g assumed n marks b is at = ((λ t. settled g.nodes is.out assumed 
     clear : (b : Bool) → slice_get marks n ≡ Some b → IsSettled (form_at g.nodes) assumed n → not b ≡ true
     clear true at calm = absurd (unsettled g.nodes is.out assumed is.are n ((is.marked.says n).0 at) calm)
     clear false at calm = refl
+
+pub free_marks : (g : Graph) (d : ℕ) (marks : List Bool) → IsSearched g.nodes [] (look.Free d) marks → AreFreeMarks g d marks
+free_marks g d marks is = record { long = is.marked.long; says = λ n b at. free_says g d n marks b is at }
+
+-- the other marks
+not_marks : (marks : List Bool) (n : ℕ) (b : Bool) → slice_get (map not marks) n ≡ Some b → (c : Bool) × (slice_get marks n ≡ Some c) × (not c ≡ b)
+not_marks [] n b at = absurd (cc)
+not_marks (c ∷ marks) zero b at = (c, refl, same_Some (not c) b at)
+not_marks (c ∷ marks) (suc n) b at = not_marks marks n b at
+
+not_long : (marks : List Bool) → length (map not marks) ≡ length marks
+not_long [] = refl
+not_long (c ∷ marks) = ap suc (not_long marks)
+
+pub settled_marks : (g : Graph) (assumed : List ℕ) (marks others : List Bool) → IsSearched g.nodes assumed look.All marks → others ≡ map not marks → AreSettledMarks g assumed others
+settled_marks g assumed marks others is e = subst (AreSettledMarks g assumed) (sym e) (record {
+  long = not_long marks ∙ is.marked.long;
+  says = λ n b at. let r = not_marks marks n b at in subst (λ (c : Bool). IsTrue c ↔ IsSettled (form_at g.nodes) assumed n) r.2 (settled_says g assumed n marks r.0 is r.1);
+})
 
 -- the searches of depths so far
 abbrev pub Searches : List Node → List (Vec Bool Global) → Type 0
@@ -282,7 +305,7 @@ depth_is : (d : ℕ) (o : Op) (ss : List OpSort) (s : OpSort) → shape o ≡ th
 depth_is d (op.Theta e) ss s same over = (let one : e ≡ d = cc in ap is_depth (sym one) ∙ some_if (is_depth e) (alike ss) s over)
 depth_is d o ss s same over = absurd (cc)
 
-in_depths : (d : ℕ) → is_depth d ≡ true → (1 ≤ d) × (d ≤ 16)
+pub in_depths : (d : ℕ) → is_depth d ≡ true → (1 ≤ d) × (d ≤ 16)
 in_depths d e = (grind (arith, nat_tests), grind (arith, nat_tests))
 
 pub free_depth : (g : Graph) → IsGraph g → (d n : ℕ) → Free (form_at g.nodes) d n → (1 ≤ d) × (d ≤ 16)

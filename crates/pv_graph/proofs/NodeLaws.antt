@@ -56,7 +56,7 @@ pub unfold_of : (nodes : List Node) (n m : ℕ) (node : Node) → slice_get node
 unfolding unfold_at
 unfold_of nodes n m node is = ap (λ (q : Option (Form ℕ)). tree_at q (unfold_at (form_at nodes) m)) (form_there nodes n node is)
 
-low_or_high : (n m : ℕ) → (n < m) ⊎ (m ≤ n)
+pub low_or_high : (n m : ℕ) → (n < m) ⊎ (m ≤ n)
 low_or_high n m = grind arith
 
 -- kids are in the graph

@@ -1,5 +1,5 @@
 -- The search for the nodes that reach some nodes: what it keeps.
-use Rattle.std.specs.Prelude.{◌≡◌, ◌⊎◌, ◌↔◌, ℕ, zero, suc, ◌+◌, ◌<◌, ◌≤◌, Bool, true, false, List, [], ◌∷◌, ◌++◌, length, Some, slice_get, slice_set, Vec, refl}
+use Rattle.std.specs.Prelude.{◌≡◌, ◌⊎◌, ◌↔◌, ℕ, zero, suc, ◌+◌, ◌-◌, ◌<◌, ◌≤◌, Bool, true, false, List, [], ◌∷◌, ◌++◌, length, Some, slice_get, slice_set, Vec, refl}
 use Rattle.std.specs.declared.alloc.Global.{Global}
 use Rattle.std.proofs.Common.{inl, inr, sym, ap, ◌∙◌, subst, arith, get_or, take, length-append}
 use Rattle.std.proofs.lemmas.Option.{slice_get_within, slice_get_read, same_Some}
@@ -9,7 +9,7 @@ use Rattle.pv_graph.specs.declared.reach.Use.{Use}
 use Rattle.pv_graph.specs.declared.reach.Look.{Look}
 use Rattle.pv_graph.proofs.Elements.{push_cases, get_front, get_last}
 use Rattle.pv_graph.specs.Walks.{In}
-use Rattle.pv_graph.specs.Reach.{follows, Uses, IsUse, Grows, IsMarked, AreStarts, Passes, unmarked, Spreads, Hits, begin, along, AreReached, AreUses}
+use Rattle.pv_graph.specs.Reach.{follows, Uses, IsUse, Gains, Grows, IsMarked, AreStarts, Passes, unmarked, Spreads, Hits, begin, along, AreReached, AreUsesFrom, AreUses}
 use Rattle.pv_graph.proofs.Tying.{set_same, set_other, set_length, equal_or_not}
 
 -- the marked nodes reach a start; the starts are marked, and what passes on from a marked node is, unless that waits
@@ -39,56 +39,76 @@ in_cases (z ∷ xs) y x (inr m) = elim (in_cases xs y x m) [ inl n ↦ inl (inr 
 
 -- ---- the places of kids
 
-pub grows_none : (uses : Uses) (node : ℕ) → Grows uses uses node []
-grows_none uses node k u = ((λ h. inl h), (λ h. elim h [ inl x ↦ x | inr e ↦ absurd (let z = e.1 in cc) ]))
+pub grows_none : (first : ℕ) (uses : Uses) (node : ℕ) → Grows first uses uses node []
+grows_none first uses node k u = ((λ h. inl h), (λ h. elim h [ inl x ↦ x | inr e ↦ absurd (let z = e.1 in cc) ]))
 
-module _ (old mid : Uses) (node : ℕ) (kids : List ℕ) (i : ℕ) (lt : i < length kids) (us us' : Vec Use Global) (at : slice_get mid (get_or kids i 0) ≡ Some us) (more : us'.items ≡ us.items ++ record { node = node; place = i } ∷ []) where
+-- one place more, of the node that is j places after the first
+module _ (mid : Uses) (j : ℕ) (us us' : Vec Use Global) (v : Use) (at : slice_get mid j ≡ Some us) (more : us'.items ≡ us.items ++ v ∷ []) where
+  there : slice_get (slice_set mid j us') j ≡ Some us'
+  there = set_same mid j us' (slice_get_within mid j us at)
+
+  added : IsUse (slice_set mid j us') j v
+  added = (us', there, subst (λ (vs : List Use). In vs v) (sym more) (in_last us.items v))
+
+  keep : (k : ℕ) (u : Use) → IsUse mid k u → IsUse (slice_set mid j us') k u
+  keep k u h = elim (equal_or_not k j) [
+    | inl same ↦
+        let one : h.0 ≡ us = same_Some h.0 us (sym h.1 ∙ ap (slice_get mid) same ∙ at) in
+        (us', ap (slice_get (slice_set mid j us')) same ∙ there, subst (λ (vs : List Use). In vs u) (sym more) (in_front us.items v u (subst (λ (w : Vec Use Global). In w.items u) one h.2)))
+    | inr ne ↦ (h.0, set_other mid j us' k ne ∙ h.1, h.2)
+  ]
+
+  split_use : (k : ℕ) (u : Use) → IsUse (slice_set mid j us') k u → IsUse mid k u ⊎ ((k ≡ j) × (v ≡ u))
+  split_use k u h = elim (equal_or_not k j) [
+    | inl same ↦
+        let one : h.0 ≡ us' = same_Some h.0 us' (sym h.1 ∙ ap (slice_get (slice_set mid j us')) same ∙ there) in
+        elim (in_cases us.items v u (subst (λ (vs : List Use). In vs u) more (subst (λ (w : Vec Use Global). In w.items u) one h.2))) [
+          | inl m ↦ inl (us, ap (slice_get mid) same ∙ at, m)
+          | inr e ↦ inr (same, e)
+        ]
+    | inr ne ↦ inl (h.0, sym (set_other mid j us' k ne) ∙ h.1, h.2)
+  ]
+
+  pub gains_set : (first kid : ℕ) → first ≤ kid → j ≡ kid - first → Gains first mid (slice_set mid j us') kid v
+  gains_set first kid le is k u = (
+    (λ h. elim (split_use k u h) [ inl m ↦ inl m | inr e ↦ inr (omega (arith, le, is, e.0), e.1) ]),
+    (λ h. elim h [
+      | inl m ↦ keep k u m
+      | inr e ↦
+          let same : k ≡ j = omega (arith, le, is, e.0) in
+          subst (λ (x : Use). IsUse (slice_set mid j us') k x) e.1 (subst (λ (i : ℕ). IsUse (slice_set mid j us') i v) (sym same) added)
+    ]),
+  )
+
+-- a kid before the first
+pub gains_none : (first : ℕ) (uses : Uses) (kid : ℕ) (v : Use) → kid < first → Gains first uses uses kid v
+gains_none first uses kid v lt k u = ((λ h. inl h), (λ h. elim h [ inl x ↦ x | inr e ↦ absurd (omega (arith, lt, e.0)) ]))
+
+module _ (first : ℕ) (old mid new : Uses) (node : ℕ) (kids : List ℕ) (i : ℕ) (lt : i < length kids) where
   abbrev kid : ℕ
   kid = get_or kids i 0
 
   abbrev placed : Use
   placed = record { node = node; place = i }
 
-  there : slice_get (slice_set mid kid us') kid ≡ Some us'
-  there = set_same mid kid us' (slice_get_within mid kid us at)
-
-  keep : (k : ℕ) (u : Use) → IsUse mid k u → IsUse (slice_set mid kid us') k u
-  keep k u h = elim (equal_or_not k kid) [
-    | inl same ↦
-        let one : h.0 ≡ us = same_Some h.0 us (sym h.1 ∙ ap (slice_get mid) same ∙ at) in
-        (us', ap (slice_get (slice_set mid kid us')) same ∙ there, subst (λ (vs : List Use). In vs u) (sym more) (in_front us.items placed u (subst (λ (v : Vec Use Global). In v.items u) one h.2)))
-    | inr ne ↦ (h.0, set_other mid kid us' k ne ∙ h.1, h.2)
-  ]
-
-  split_use : (k : ℕ) (u : Use) → IsUse (slice_set mid kid us') k u → IsUse mid k u ⊎ ((k ≡ kid) × (placed ≡ u))
-  split_use k u h = elim (equal_or_not k kid) [
-    | inl same ↦
-        let one : h.0 ≡ us' = same_Some h.0 us' (sym h.1 ∙ ap (slice_get (slice_set mid kid us')) same ∙ there) in
-        elim (in_cases us.items placed u (subst (λ (vs : List Use). In vs u) more (subst (λ (v : Vec Use Global). In v.items u) one h.2))) [
-          | inl m ↦ inl (us, ap (slice_get mid) same ∙ at, m)
-          | inr e ↦ inr (same, e)
-        ]
-    | inr ne ↦ inl (h.0, sym (set_other mid kid us' k ne) ∙ h.1, h.2)
-  ]
-
   short : length (take i kids) ≡ i
   short = length-take-le i kids (omega arith)
 
-  pub grows_more : Grows old mid node (take i kids) → Grows old (slice_set mid kid us') node (take (i + 1) kids)
-  grows_more is k u = subst (λ (ks : List ℕ). IsUse (slice_set mid kid us') k u ↔ (IsUse old k u ⊎ ((u.node ≡ node) × (slice_get ks u.place ≡ Some k)))) (sym (take_more kids i 0 lt)) (
-    (λ h. elim (split_use k u h) [
-      | inl m ↦ elim ((is k u).0 m) [ inl x ↦ inl x | inr e ↦ inr (e.0, get_front (take i kids) kid u.place (slice_get_within (take i kids) u.place k e.1) ∙ e.1) ]
+  pub grows_more : Grows first old mid node (take i kids) → Gains first mid new kid placed → Grows first old new node (take (i + 1) kids)
+  grows_more is gains k u = subst (λ (ks : List ℕ). IsUse new k u ↔ (IsUse old k u ⊎ ((u.node ≡ node) × (slice_get ks u.place ≡ Some (first + k))))) (sym (take_more kids i 0 lt)) (
+    (λ h. elim ((gains k u).0 h) [
+      | inl m ↦ elim ((is k u).0 m) [ inl x ↦ inl x | inr e ↦ inr (e.0, get_front (take i kids) kid u.place (slice_get_within (take i kids) u.place (first + k) e.1) ∙ e.1) ]
       | inr e ↦
           let place : u.place ≡ length (take i kids) = sym (ap (λ (v : Use). v.place) e.1) ∙ sym short in
-          inr (sym (ap (λ (v : Use). v.node) e.1), ap (slice_get (take i kids ++ kid ∷ [])) place ∙ get_last (take i kids) kid ∙ ap Some (sym e.0))
+          inr (sym (ap (λ (v : Use). v.node) e.1), ap (slice_get (take i kids ++ kid ∷ [])) place ∙ get_last (take i kids) kid ∙ ap Some e.0)
     ]),
     (λ h. elim h [
-      | inl x ↦ keep k u ((is k u).1 (inl x))
-      | inr e ↦ elim (push_cases (take i kids) kid k u.place e.1) [
-        | inl x ↦ keep k u ((is k u).1 (inr (e.0, x)))
+      | inl x ↦ (gains k u).1 (inl ((is k u).1 (inl x)))
+      | inr e ↦ elim (push_cases (take i kids) kid (first + k) u.place e.1) [
+        | inl x ↦ (gains k u).1 (inl ((is k u).1 (inr (e.0, x))))
         | inr y ↦
             let same : placed ≡ u = ap (λ (n : ℕ). record { node = n; place = i }) (sym e.0) ∙ ap (λ (p : ℕ). record { node = u.node; place = p }) (sym short ∙ sym y.0) in
-            (us', ap (slice_get (slice_set mid kid us')) (sym y.1) ∙ there, subst (λ (vs : List Use). In vs u) (sym more) (subst (λ (v : Use). In (us.items ++ placed ∷ []) v) same (in_last us.items placed)))
+            (gains k u).1 (inr (y.1, same))
       ]
     ]),
   )
@@ -265,16 +285,16 @@ none_more uses v e none k u h = elim (push_cases uses v h.0 k h.1) [
 
 -- ---- the places of all kids
 
--- the places of the kids of the first nodes
-abbrev pub AreUsesOf : List Node → List Bool → ℕ → Uses → Type 0
-AreUsesOf nodes out i uses = (k : ℕ) (u : Use) → IsUse uses k u ↔ ((node : Node) × (slice_get nodes u.node ≡ Some node) × (slice_get out u.node ≡ Some false) × (slice_get node.kids u.place ≡ Some k) × (u.node < i))
+-- the places of the kids of the first of these nodes
+abbrev pub AreUsesOf : ℕ → List Node → List Bool → ℕ → Uses → Type 0
+AreUsesOf first nodes out i uses = (k : ℕ) (u : Use) → IsUse uses k u ↔ ((node : Node) × (slice_get nodes u.node ≡ Some node) × (slice_get out u.node ≡ Some false) × (slice_get node.kids u.place ≡ Some (first + k)) × (u.node < i))
 
-low_or_last : (n i : ℕ) → n < i + 1 → (n < i) ⊎ (n ≡ i)
+pub low_or_last : (n i : ℕ) → n < i + 1 → (n < i) ⊎ (n ≡ i)
 low_or_last n i lt = grind arith
 
-module _ (nodes : List Node) (out : List Bool) (i : ℕ) (node : Node) (b : Bool) (at : slice_get nodes i ≡ Some node) (out_at : slice_get out i ≡ Some b) where
+module _ (first : ℕ) (nodes : List Node) (out : List Bool) (i : ℕ) (node : Node) (b : Bool) (at : slice_get nodes i ≡ Some node) (out_at : slice_get out i ≡ Some b) where
   -- a node that isn't left out
-  pub uses_more : (old new : Uses) → b ≡ false → AreUsesOf nodes out i old → Grows old new i node.kids → AreUsesOf nodes out (i + 1) new
+  pub uses_more : (old new : Uses) → b ≡ false → AreUsesOf first nodes out i old → Grows first old new i node.kids → AreUsesOf first nodes out (i + 1) new
   uses_more old new clear are grows k u = (
     (λ h. elim ((grows k u).0 h) [
       | inl x ↦ let r = (are k u).0 x in (r.0, r.1, r.2, r.3, omega (arith, r.4))
@@ -284,12 +304,12 @@ module _ (nodes : List Node) (out : List Bool) (i : ℕ) (node : Node) (b : Bool
       | inl low ↦ (grows k u).1 (inl ((are k u).1 (r.0, r.1, r.2, r.3, low)))
       | inr last ↦
           let same : r.0 ≡ node = same_Some r.0 node (sym r.1 ∙ ap (slice_get nodes) last ∙ at) in
-          (grows k u).1 (inr (last, subst (λ (x : Node). slice_get x.kids u.place ≡ Some k) same r.3))
+          (grows k u).1 (inr (last, subst (λ (x : Node). slice_get x.kids u.place ≡ Some (first + k)) same r.3))
     ]),
   )
 
   -- a node that is left out
-  pub uses_same : (uses : Uses) → b ≡ true → AreUsesOf nodes out i uses → AreUsesOf nodes out (i + 1) uses
+  pub uses_same : (uses : Uses) → b ≡ true → AreUsesOf first nodes out i uses → AreUsesOf first nodes out (i + 1) uses
   uses_same uses left are k u = (
     (λ h. let r = (are k u).0 h in (r.0, r.1, r.2, r.3, omega (arith, r.4))),
     (λ r. elim (low_or_last u.node i r.4) [
@@ -298,14 +318,22 @@ module _ (nodes : List Node) (out : List Bool) (i : ℕ) (node : Node) (b : Bool
     ]),
   )
 
-pub uses_begin : (nodes : List Node) (out : List Bool) (uses : Uses) → ((k : ℕ) (u : Use) → IsUse uses k u → ⊥) → AreUsesOf nodes out 0 uses
-uses_begin nodes out uses none k u = ((λ h. absurd (none k u h)), (λ r. absurd (omega (arith, r.4))))
+pub uses_begin : (first : ℕ) (nodes : List Node) (out : List Bool) (uses : Uses) → ((k : ℕ) (u : Use) → IsUse uses k u → ⊥) → AreUsesOf first nodes out 0 uses
+uses_begin first nodes out uses none k u = ((λ h. absurd (none k u h)), (λ r. absurd (omega (arith, r.4))))
 
-pub uses_end : (nodes : List Node) (out : List Bool) (i : ℕ) (uses : Uses) → length nodes ≤ i → AreUsesOf nodes out i uses → AreUses nodes out uses
-uses_end nodes out i uses all are k u = (
+pub uses_end : (first : ℕ) (nodes : List Node) (out : List Bool) (i : ℕ) (uses : Uses) → length nodes ≤ i → AreUsesOf first nodes out i uses → AreUsesFrom first nodes out uses
+uses_end first nodes out i uses all are k u = (
   (λ h. let r = (are k u).0 h in (r.0, r.1, r.2, r.3)),
   (λ r. (are k u).1 (r.0, r.1, r.2, r.3, (let z = slice_get_within nodes u.node r.0 r.1 in omega arith))),
 )
 
 pub none_in_empty : (uses : Uses) → uses ≡ [] → (k : ℕ) (u : Use) → IsUse uses k u → ⊥
 none_in_empty uses e k u h = absurd (let z = sym (ap (λ (xs : Uses). slice_get xs k) e) ∙ h.1 in cc)
+
+-- the places of the kids of all nodes
+pub uses_all : (nodes : List Node) (out : List Bool) (uses : Uses) → AreUsesFrom 0 nodes out uses → AreUses nodes out uses
+uses_all nodes out uses are k u =
+    let none : 0 + k ≡ k = omega arith in (
+      (λ h. let r = (are k u).0 h in (r.0, r.1, r.2, r.3 ∙ ap Some none)),
+      (λ r. (are k u).1 (r.0, r.1, r.2, r.3 ∙ ap Some (sym none))),
+    )

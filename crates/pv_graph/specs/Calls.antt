@@ -1,6 +1,6 @@
 -- What the calls of a graph require and ensure. Above each group stands the Rust signature with its
 -- clauses; out of memory is the one answer that no clause ties to a cause.
-use Rattle.std.specs.Prelude.{◌≡◌, ◌≢◌, ◌⊎◌, ℕ, ◌+◌, ◌<◌, Bool, true, false, List, [], ◌∷◌, ◌++◌, length, Some, slice_get, slice_set, if◌then◌else◌}
+use Rattle.std.specs.Prelude.{◌≡◌, ◌≢◌, ◌⊎◌, ◌↔◌, IsTrue, ℕ, ◌+◌, ◌<◌, Bool, true, false, List, [], ◌∷◌, ◌++◌, length, Some, slice_get, slice_set, if◌then◌else◌}
 use Rattle.std.specs.List.{AllByRecursion}
 use Rattle.pv_graph.specs.declared.node.Op.{Op}
 use Rattle.pv_graph.specs.declared.node.Op.TheVariants as op
@@ -139,12 +139,21 @@ pub record IsBase (g : Graph) (nodes : List Node) : Type 0 where
   pub base : g.base ≡ length nodes
   pub graph : IsGraph g
 
--- ---- Graph::free(&self, alloc: Global, n: NodeId, d: u32) -> Result<bool, Memory>
+-- ---- Graph::free_marks(&self, alloc: Global, d: u32) -> Result<Vec<bool>, Memory>
+--        ensures { IfOk result (λ marks. AreFreeMarks self.now d marks.items) }
+--      Graph::settled_marks(&self, alloc: Global, assumed: &[NodeId]) -> Result<Vec<bool>, Memory>
+--        ensures { IfOk result (λ marks. AreSettledMarks self.now assumed.now marks.items) }
+--      Graph::free(&self, alloc: Global, n: NodeId, d: u32) -> Result<bool, Memory>
 --        requires { n < length self.now.nodes }
 --        ensures { IfOk result (λ yes. IsTrue yes ↔ IsFree self.now d n) }
---      Graph::settled(&self, alloc: Global, n: NodeId, e: &Endings) -> Result<bool, Memory>
+--      Graph::settled(&self, alloc: Global, n: NodeId, assumed: &[NodeId]) -> Result<bool, Memory>
 --        requires { n < length self.now.nodes }
---        ensures { IfOk result (λ yes. IsTrue yes ↔ IsSettledIn self.now e.now n) }
+--        ensures { IfOk result (λ yes. IsTrue yes ↔ IsSettledIn self.now assumed.now n) }
+--      Graph::free_growing(&mut self, alloc: Global, n: NodeId, d: u32) -> Result<bool, Memory>
+--        requires there { n < length self.old.nodes }
+--        requires depth { IsTrue (is_depth d) }
+--        ensures yes { IfOk result (λ yes. IsTrue yes ↔ IsFree self.old d n) }
+--        ensures same { self.new ≡ self.old }
 --      Graph::prepare(&mut self, alloc: Global) -> Result<(), Memory>
 --        ensures ok { OnOk result (self.new ≡ record self.old { is_prepared = true }) }
 --        ensures err { OnErr result (IsSame self.old self.new) }
@@ -162,3 +171,14 @@ IsFree g d n = Free (form_at g.nodes) d n
 
 abbrev pub IsSettledIn : Graph → List ℕ → ℕ → Type 0
 IsSettledIn g assumed n = IsSettled (form_at g.nodes) assumed n
+
+-- a mark for each node, which says whether this is so of it
+pub record AreMarksOf (g : Graph) (P : ℕ → Type 0) (marks : List Bool) : Type 0 where
+  pub long : length marks ≡ length g.nodes
+  pub says : (n : ℕ) (b : Bool) → slice_get marks n ≡ Some b → IsTrue b ↔ P n
+
+abbrev pub AreFreeMarks : Graph → ℕ → List Bool → Type 0
+AreFreeMarks g d marks = AreMarksOf g (IsFree g d) marks
+
+abbrev pub AreSettledMarks : Graph → List ℕ → List Bool → Type 0
+AreSettledMarks g assumed marks = AreMarksOf g (IsSettledIn g assumed) marks

@@ -1,11 +1,13 @@
--- A graph as it is kept: with the numbers of its nodes, and with what `prepare` has found.
+-- A graph as it is kept: with the numbers of its nodes, with what `prepare` has found, and with what is known of its first nodes.
 use Rattle.std.specs.Prelude.{◌≡◌, ◌+◌, ℕ, Bool, List, [], length, Option, Some, slice_get, is_some, Vec}
 use Rattle.std.specs.declared.alloc.Global.{Global}
 use Rattle.pv_graph.specs.declared.node.Node.{Node}
 use Rattle.pv_graph.specs.declared.node.OpSort.{OpSort}
 use Rattle.pv_graph.specs.declared.prepared.Prepared.{Prepared}
 use Rattle.pv_graph.specs.declared.reach.Look.TheVariants as look
+use Rattle.pv_graph.specs.declared.known.Known.{Known}
 use Rattle.pv_graph.specs.Reach.{IsSearched}
+use Rattle.pv_graph.specs.Known.{AreKnown}
 use Rattle.pv_graph.specs.Graphs.{Graph, IsGraph}
 use Rattle.pv_graph.specs.Index.{Numbers, IsIndex}
 
@@ -24,3 +26,8 @@ pub record IsKept (g : Graph) (numbers : Numbers) (prepared : Option Prepared) :
   pub graph : IsGraph g
   pub index : IsIndex g.nodes numbers
   pub tables : (p : Prepared) → prepared ≡ Some p → IsPrepared g.nodes p
+
+-- .. with the depths that are known to be free in its first nodes
+pub record IsStored (g : Graph) (numbers : Numbers) (prepared : Option Prepared) (known : Known) : Type 0 where
+  pub kept : IsKept g numbers prepared
+  pub free : AreKnown g.nodes known

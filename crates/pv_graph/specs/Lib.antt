@@ -13,5 +13,6 @@ pub mod SortCode
 pub mod Index
 pub mod Kept
 pub mod Reach
+pub mod Known
 -- the vocabulary of private functions
 pub mod Base

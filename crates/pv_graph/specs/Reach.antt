@@ -1,5 +1,5 @@
 -- Which nodes reach some nodes along kids, as it is found: the places of each kid, and the marks of nodes.
-use Rattle.std.specs.Prelude.{◌≡◌, ◌⊎◌, ◌↔◌, ℕ, suc, ◌+◌, ◌<◌, Bool, true, false, not, ◌||◌, ◌==◌, List, [], ◌∷◌, length, Some, slice_get, Vec}
+use Rattle.std.specs.Prelude.{◌≡◌, ◌⊎◌, ◌↔◌, ℕ, suc, ◌+◌, ◌<◌, ◌≤◌, Bool, true, false, not, ◌||◌, ◌==◌, IsTrue, List, [], ◌∷◌, ◌++◌, length, Some, slice_get, Vec}
 use Rattle.std.specs.declared.alloc.Global.{Global}
 use Rattle.pv_graph.specs.declared.node.Op.{Op}
 use Rattle.pv_graph.specs.declared.node.Op.TheVariants as op
@@ -9,7 +9,8 @@ use Rattle.pv_graph.specs.declared.reach.Look.{Look}
 use Rattle.pv_graph.specs.declared.reach.Look.TheVariants as look
 use Rattle.pv_graph.specs.Ops.{may_not_end}
 use Rattle.pv_graph.specs.SortCode.{is_source}
-use Rattle.pv_graph.specs.Walks.{In}
+use Rattle.pv_graph.specs.Walks.{In, Free}
+use Rattle.pv_graph.specs.Graphs.{form_at}
 
 -- a node with the operation is one to be reached; for a sort these differ
 abbrev pub begins : Look → Op → Bool
@@ -42,11 +43,19 @@ KidsWithin kids n = (p k : ℕ) → slice_get kids p ≡ Some k → k < n
 abbrev pub AllKidsWithin : List Node → ℕ → Type 0
 AllKidsWithin nodes n = (m : ℕ) (node : Node) → slice_get nodes m ≡ Some node → KidsWithin node.kids n
 
--- the places of the kids of a node, and those that were there
-abbrev pub Grows : Uses → Uses → ℕ → List ℕ → Type 0
-Grows old new node kids = (k : ℕ) (u : Use) → IsUse new k u ↔ (IsUse old k u ⊎ ((u.node ≡ node) × (slice_get kids u.place ≡ Some k)))
+-- a place of the kid, and those that were there; the uses are those of the nodes from `first` on
+abbrev pub Gains : ℕ → Uses → Uses → ℕ → Use → Type 0
+Gains first old new kid v = (k : ℕ) (u : Use) → IsUse new k u ↔ (IsUse old k u ⊎ ((kid ≡ first + k) × (v ≡ u)))
 
--- the places of the kids of the nodes that aren't left out
+-- the places of the kids of a node, and those that were there
+abbrev pub Grows : ℕ → Uses → Uses → ℕ → List ℕ → Type 0
+Grows first old new node kids = (k : ℕ) (u : Use) → IsUse new k u ↔ (IsUse old k u ⊎ ((u.node ≡ node) × (slice_get kids u.place ≡ Some (first + k))))
+
+-- the places of the kids of these nodes, which stand from `first` on, but for those of nodes that are left out
+abbrev pub AreUsesFrom : ℕ → List Node → List Bool → Uses → Type 0
+AreUsesFrom first nodes out uses = (k : ℕ) (u : Use) → IsUse uses k u ↔ ((node : Node) × (slice_get nodes u.node ≡ Some node) × (slice_get out u.node ≡ Some false) × (slice_get node.kids u.place ≡ Some (first + k)))
+
+-- .. of all nodes
 abbrev pub AreUses : List Node → List Bool → Uses → Type 0
 AreUses nodes out uses = (k : ℕ) (u : Use) → IsUse uses k u ↔ ((node : Node) × (slice_get nodes u.node ≡ Some node) × (slice_get out u.node ≡ Some false) × (slice_get node.kids u.place ≡ Some k))
 
@@ -116,3 +125,28 @@ pub record IsSearched (nodes : List Node) (assumed : List ℕ) (l : Look) (marks
   pub out : List Bool
   pub are : AreOut (length nodes) assumed out
   pub marked : AreMarked nodes out l marks
+
+-- ---- the nodes after the first ones, of which it is known whether they are marked
+
+-- a kid that counts is one of the first nodes, and marked
+abbrev pub IsMet : List Bool → Look → Op → List ℕ → Type 0
+IsMet known l o kids = (p : ℕ) × (k : ℕ) × (slice_get kids p ≡ Some k) × IsMarked known k × (follows l o p ≡ true)
+
+abbrev pub BeginsOrMeets : List Bool → Look → Node → Type 0
+BeginsOrMeets known l node = (begins l node.op ≡ true) ⊎ IsMet known l node.op node.kids
+
+abbrev pub IsBegunAfter : List Bool → List Node → Look → ℕ → Type 0
+IsBegunAfter known nodes l n = (node : Node) × (slice_get nodes n ≡ Some node) × BeginsOrMeets known l node
+
+pub record AreBegunAfter (known : List Bool) (nodes : List Node) (l : Look) (starts : List Bool) : Type 0 where
+  pub long : length starts ≡ length nodes
+  pub says : (n : ℕ) → IsMarked starts n ↔ IsBegunAfter known nodes l n
+
+-- marks of the first nodes: whether the depth is free in each
+pub record AreFree (nodes : List Node) (d : ℕ) (marks : List Bool) : Type 0 where
+  pub low : length marks ≤ length nodes
+  pub says : (n : ℕ) (b : Bool) → slice_get marks n ≡ Some b → IsTrue b ↔ Free (form_at nodes) d n
+
+-- with these marks after those of the first nodes, all nodes are marked
+abbrev pub AreFreeAfter : List Node → List Bool → ℕ → List Bool → Type 0
+AreFreeAfter nodes known d found = AreFree nodes d known → (length (known ++ found) ≡ length nodes) × AreFree nodes d (known ++ found)

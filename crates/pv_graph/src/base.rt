@@ -141,7 +141,7 @@ fn all_uses(alloc: Global, nodes: &[Node]) -> Result<Vec<Vec<Use>>, AllocError>
     ensures { IfOk result (λ uses. AreAllUses nodes.now uses.items) }
 {
     let out = left_out(alloc, nodes.len(), &[])?;
-    let uses = uses_of(alloc, nodes, &out)?;
+    let uses = uses_of(alloc, 0, nodes, &out)?;
     Ok(uses)
 }
 

@@ -7,14 +7,15 @@ ghost use Rattle.pv_graph.specs.Nodes.{node_of, AreTied, IsOpen, IsAbsent};
 ghost use Rattle.pv_graph.specs.Index.{IsIndex};
 ghost use Rattle.pv_graph.specs.Reach.{IsSearched};
 ghost use Rattle.pv_graph.specs.Ops.{HasSort, is_depth};
-ghost use Rattle.pv_graph.specs.Calls.{AreNodes, AreSorts, Added, FitsOver, Begun, HaveItsSort, HaveOneSort, IsBase, IsDistinct, IsFinished, IsFree, IsOpenTheta, IsSame, IsSettledIn, LeavesNoSortOpen, MayAdd, Sealed, Tied, empty_graph};
+ghost use Rattle.pv_graph.specs.Calls.{AreFreeMarks, AreNodes, AreSettledMarks, AreSorts, Added, FitsOver, Begun, HaveItsSort, HaveOneSort, IsBase, IsDistinct, IsFinished, IsFree, IsOpenTheta, IsSame, IsSettledIn, LeavesNoSortOpen, MayAdd, Sealed, Tied, empty_graph};
 
 use crate::base::{base_sorts, see_ranges};
 use crate::fault::GraphFault;
 use crate::index::Index;
+use crate::known::Known;
 use crate::node::{Node, NodeId, Op, OpSort};
 use crate::prepared::{Prepared, prepared_of};
-use crate::reach::{Look, left_out, marks_of, uses_of};
+use crate::reach::{Look, left_out, marks_of, negated, uses_of};
 use crate::sort::{sort_of, sorts_of};
 use pv_value::Memory;
 use std::alloc::Global;
@@ -33,17 +34,18 @@ pub struct Graph {
     is_open: bool,
     base: u32,
     prepared: Option<Prepared>,
+    known: Known,
 }
 
 impl Model for Graph {
     ghost use Rattle.pv_graph.specs.Graphs as graphs;
-    ghost use Rattle.pv_graph.specs.Kept.{graph_of, IsKept};
+    ghost use Rattle.pv_graph.specs.Kept.{graph_of, IsStored};
 
     ghost Value = { graphs.Graph };
 
     ghost view = { λ g. graph_of g.nodes.items g.sorts.items g.is_open g.base g.prepared };
 
-    ghost invariant = { λ g. IsKept (graph_of g.nodes.items g.sorts.items g.is_open g.base g.prepared) g.index.numbers g.prepared };
+    ghost invariant = { λ g. IsStored (graph_of g.nodes.items g.sorts.items g.is_open g.base g.prepared) g.index.numbers g.prepared g.known };
 }
 
 // Makes room for one more node, of which there are then fewer than 2^32.
@@ -145,6 +147,7 @@ impl Graph {
             is_open: true,
             base: 0,
             prepared: None,
+            known: Known::new(alloc),
         }
     }
 
@@ -233,6 +236,7 @@ impl Graph {
         let node = Node::new(alloc, Op::Theta(d), &[])?;
         reserve(&mut self.nodes, &mut self.sorts)?;
         let n = self.nodes.len() as NodeId;
+        self.known.begin(n)?;
         put(&mut self.nodes, &mut self.sorts, node, sort);
         self.prepared = None;
         self.base = n + 1;
@@ -263,6 +267,7 @@ impl Graph {
         let least = self.index.least(&node, n);
         self.index.insert(copy, least)?;
         self.nodes[n as usize] = node;
+        self.known.forget(n);
         self.prepared = None;
         Ok(())
     }
@@ -293,6 +298,7 @@ impl Graph {
             is_open: self.is_open,
             base: self.base,
             prepared: None,
+            known: Known::new(alloc),
         })
     }
 
@@ -320,6 +326,7 @@ impl Graph {
             index,
             is_open: false,
             prepared: None,
+            known: Known::new(alloc),
         })
     }
 
@@ -328,9 +335,25 @@ impl Graph {
         ensures { IfOk result (λ marks. IsSearched self.now.nodes assumed.now look marks.items) }
     {
         let out = left_out(alloc, self.nodes.len(), assumed)?;
-        let uses = uses_of(alloc, &self.nodes, &out)?;
+        let uses = uses_of(alloc, 0, &self.nodes, &out)?;
         let marks = marks_of(alloc, &self.nodes, &out, &uses, look)?;
         Ok(marks)
+    }
+
+    /// For each node whether a depth is free in it. Its time is linear in the number of nodes and kids.
+    pub fn free_marks(&self, alloc: Global, d: u32) -> Result<Vec<bool>, Memory>
+        ensures { IfOk result (λ marks. AreFreeMarks self.now d marks.items) }
+    {
+        self.marks(alloc, &[], Look::Free(d))
+    }
+
+    /// For each node whether it is settled, with some nodes assumed to end. Its time is linear in the
+    /// number of nodes, kids and assumed nodes.
+    pub fn settled_marks(&self, alloc: Global, assumed: &[NodeId]) -> Result<Vec<bool>, Memory>
+        ensures { IfOk result (λ marks. AreSettledMarks self.now assumed.now marks.items) }
+    {
+        let unsettled = self.marks(alloc, assumed, Look::All)?;
+        Ok(negated(alloc, &unsettled)?)
     }
 
     /// Whether a depth is free in a node. Its time is linear in the number of nodes and kids.
@@ -338,7 +361,7 @@ impl Graph {
         requires { n < length self.now.nodes }
         ensures { IfOk result (λ yes. IsTrue yes ↔ IsFree self.now d n) }
     {
-        let free = self.marks(alloc, &[], Look::Free(d))?;
+        let free = self.free_marks(alloc, d)?;
         Ok(free[n as usize])
     }
 
@@ -348,8 +371,24 @@ impl Graph {
         requires { n < length self.now.nodes }
         ensures { IfOk result (λ yes. IsTrue yes ↔ IsSettledIn self.now assumed.now n) }
     {
-        let unsettled = self.marks(alloc, assumed, Look::All)?;
-        Ok(!unsettled[n as usize])
+        let settled = self.settled_marks(alloc, assumed)?;
+        Ok(settled[n as usize])
+    }
+
+    /// Whether a depth is free in a node, while the graph grows: what it finds is kept, and a later call
+    /// looks only at nodes that were added or may have changed since.
+    pub fn free_growing(&mut self, alloc: Global, n: NodeId, d: u32) -> Result<bool, Memory>
+        requires there { n < length self.old.nodes }
+        requires depth { IsTrue (is_depth d) }
+        ensures yes { IfOk result (λ yes. IsTrue yes ↔ IsFree self.old d n) }
+        ensures same { self.new ≡ self.old }
+    {
+        if let Some(yes) = self.known.mark(d, n) {
+            return Ok(yes);
+        }
+        self.known.learn(alloc, &self.nodes, d)?;
+        let marks = &self.known.marks[d as usize - 1];
+        Ok(marks[n as usize])
     }
 
     /// Keeps for every node what `free_now` and `settled_now` answer, until the next node is added or

@@ -160,6 +160,16 @@ impl Model for Kids {
     ghost view = { λ k. k.items.items };
 }
 
+impl From<Vec<NodeId>> for Kids {
+    ghost use Rattle.std.specs.Prelude.{◌≡◌};
+
+    ghost from_gives = { λ items kids. kids ≡ items.items };
+
+    fn from(items: Vec<NodeId>) -> Kids {
+        Kids { items }
+    }
+}
+
 impl Kids {
     /// The list of these nodes.
     pub fn new(alloc: Global, items: &[NodeId]) -> Result<Kids, Memory>

@@ -26,7 +26,7 @@ pub(crate) fn prepared_of(alloc: Global, nodes: &[Node]) -> Result<Prepared, All
 {
     let out = left_out(alloc, nodes.len(), &[])?;
     let out = out.as_slice();
-    let uses = uses_of(alloc, nodes, out)?;
+    let uses = uses_of(alloc, 0, nodes, out)?;
     let uses = uses.as_slice();
     let mut free = Vec::new(alloc);
     for d in 0..DEPTHS {

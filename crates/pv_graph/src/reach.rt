@@ -1,8 +1,8 @@
 //! Which nodes reach some nodes along kids, found from the reached ones back to those that name them.
 
-ghost use Rattle.std.specs.Prelude.{◌≡◌, ◌↔◌, ◌<◌, ℕ, Some, length, slice_get, IfOk, OnOk, vec_len, ◌^◌};
+ghost use Rattle.std.specs.Prelude.{◌≡◌, ◌↔◌, ◌<◌, ◌≤◌, ◌+◌, IsTrue, ℕ, Some, true, not, map, length, slice_get, IfOk, OnOk, vec_len, ◌^◌};
 ghost use Rattle.pv_graph.specs.Walks.{In};
-ghost use Rattle.pv_graph.specs.Reach.{AllKidsWithin, AreBegun, AreMarked, AreOut, AreReached, AreStarts, AreUses, Grows, IsUse, KidsWithin, Spreads, begins, follows};
+ghost use Rattle.pv_graph.specs.Reach.{AllKidsWithin, AreBegun, AreBegunAfter, AreFreeAfter, AreMarked, AreOut, AreReached, AreStarts, AreUses, AreUsesFrom, BeginsOrMeets, Gains, Grows, IsMarked, IsMet, IsUse, KidsWithin, Spreads, begins, follows};
 
 use crate::node::{Node, NodeId, Op};
 use std::alloc::{AllocError, Global};
@@ -50,34 +50,55 @@ impl Look {
     }
 }
 
-// Adds the places of a node's kids.
-fn add_uses(uses: &mut Vec<Vec<Use>>, node: NodeId, kids: &[NodeId]) -> Result<(), AllocError>
-    requires { KidsWithin kids.now (vec_len uses.old) }
+// Adds a place of a kid, if the kid is one from `first` on.
+fn add_use(uses: &mut Vec<Vec<Use>>, first: usize, kid: NodeId, u: Use) -> Result<(), AllocError>
+    requires { kid < first + vec_len uses.old }
     ensures len { vec_len uses.new ≡ vec_len uses.old }
-    ensures grows { OnOk result (Grows uses.old.items uses.new.items node kids.now) }
+    ensures gains { OnOk result (Gains first uses.old.items uses.new.items kid u) }
+{
+    let kid = kid as usize;
+    if kid < first {
+        return Ok(());
+    }
+    uses[kid - first].push(u)?;
+    Ok(())
+}
+
+// Adds the places of a node's kids, of those from `first` on.
+fn add_uses(
+    uses: &mut Vec<Vec<Use>>,
+    first: usize,
+    node: NodeId,
+    kids: &[NodeId],
+) -> Result<(), AllocError>
+    requires { KidsWithin kids.now (first + vec_len uses.old) }
+    ensures len { vec_len uses.new ≡ vec_len uses.old }
+    ensures grows { OnOk result (Grows first uses.old.items uses.new.items node kids.now) }
 {
     for (place, kid) in kids.iter().enumerate() {
-        uses[*kid as usize].push(Use { node, place })?;
+        add_use(uses, first, *kid, Use { node, place })?;
     }
     Ok(())
 }
 
-// For each node the places at which it is a kid, in nodes that aren't left out.
+// For each of the nodes from `first` on the places at which it is a kid, in those of these nodes that aren't
+// left out.
 pub(crate) fn uses_of(
     alloc: Global,
+    first: usize,
     nodes: &[Node],
     out: &[bool],
 ) -> Result<Vec<Vec<Use>>, AllocError>
     requires few { length nodes.now < 2 ^ 32 }
     requires out { length out.now ≡ length nodes.now }
-    requires within { AllKidsWithin nodes.now (length nodes.now) }
+    requires within { AllKidsWithin nodes.now (first + length nodes.now) }
     ensures len { IfOk result (λ uses. vec_len uses ≡ length nodes.now) }
-    ensures uses { IfOk result (λ uses. AreUses nodes.now out.now uses.items) }
+    ensures uses { IfOk result (λ uses. AreUsesFrom first nodes.now out.now uses.items) }
 {
     let mut uses = no_uses(alloc, nodes.len())?;
     for (n, node) in nodes.iter().enumerate() {
         if !out[n] {
-            add_uses(&mut uses, n as NodeId, node.kids.as_slice())?;
+            add_uses(&mut uses, first, n as NodeId, node.kids.as_slice())?;
         }
     }
     Ok(uses)
@@ -205,4 +226,84 @@ pub(crate) fn marks_of(
     let starts = starts_of(alloc, nodes, out, look)?;
     let marks = reaching(alloc, nodes, uses, look, &starts)?;
     Ok(marks)
+}
+
+// The other marks.
+pub(crate) fn negated(alloc: Global, marks: &[bool]) -> Result<Vec<bool>, AllocError>
+    ensures { IfOk result (λ others. others.items ≡ map not marks.now) }
+{
+    marks.iter().map(|mark| !*mark).collect(alloc)
+}
+
+// Whether a node is one of the first ones, and marked.
+fn is_marked(known: &[bool], n: NodeId) -> bool
+    ensures { IsTrue result ↔ IsMarked known.now n }
+{
+    let n = n as usize;
+    n < known.len() && known[n]
+}
+
+// Whether the kid at this place counts, and is one of the first nodes and marked.
+fn is_met_at(known: &[bool], look: Look, op: &Op, place: usize, kid: NodeId) -> bool
+    ensures { IsTrue result ↔ (IsMarked known.now kid × (follows look op.now place ≡ true)) }
+{
+    is_marked(known, kid) && look.follows(op, place)
+}
+
+// Whether a kid counts that is one of the first nodes and marked.
+fn is_met(known: &[bool], look: Look, op: &Op, kids: &[NodeId]) -> bool
+    ensures { IsTrue result ↔ IsMet known.now look op.now kids.now }
+{
+    for (place, kid) in kids.iter().enumerate() {
+        if is_met_at(known, look, op, place, *kid) {
+            return true;
+        }
+    }
+    false
+}
+
+// Whether a node is to be reached, or has a kid among the first nodes that counts and is marked.
+fn is_start(known: &[bool], look: Look, node: &Node) -> bool
+    ensures { IsTrue result ↔ BeginsOrMeets known.now look node.now }
+{
+    look.begins(&node.op) || is_met(known, look, &node.op, node.kids.as_slice())
+}
+
+// The nodes to be reached among those after the first ones, and those with a kid among the first ones that counts and
+// is marked.
+fn starts_after(
+    alloc: Global,
+    known: &[bool],
+    nodes: &[Node],
+    look: Look,
+) -> Result<Vec<bool>, AllocError>
+    ensures { IfOk result (λ starts. AreBegunAfter known.now nodes.now look starts.items) }
+{
+    let mut starts = Vec::new(alloc);
+    for node in nodes {
+        starts.push(is_start(known, look, node))?;
+    }
+    Ok(starts)
+}
+
+/// The nodes after the first ones in which a depth is free, where it is known of the first ones. Its time is linear in
+/// the number of the nodes after the first ones, and of their kids.
+pub(crate) fn free_after(
+    alloc: Global,
+    nodes: &[Node],
+    known: &[bool],
+    d: u32,
+) -> Result<Vec<bool>, AllocError>
+    requires few { length nodes.now < 2 ^ 32 }
+    requires within { AllKidsWithin nodes.now (length nodes.now) }
+    requires known { length known.now ≤ length nodes.now }
+    ensures { IfOk result (λ found. AreFreeAfter nodes.now known.now d found.items) }
+{
+    let first = known.len();
+    let rest = &nodes[first..];
+    let out = left_out(alloc, rest.len(), &[])?;
+    let uses = uses_of(alloc, first, rest, &out)?;
+    let starts = starts_after(alloc, known, rest, Look::Free(d))?;
+    let found = reaching(alloc, rest, &uses, Look::Free(d), &starts)?;
+    Ok(found)
 }

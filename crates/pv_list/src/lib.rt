@@ -1,8 +1,8 @@
 //! Lists that own their elements.
 //!
 //! This layer stands on `std` alone. A `Listed` is a vector that upper layers see as the list of its
-//! elements, so that their definitions speak of lists. They use that it is made of a vector (`from`)
-//! and gives its elements in order (`as_slice`).
+//! elements, so that their definitions speak of lists. They use that it is made of a vector (`from`),
+//! shows its elements in order (`as_slice`) and gives the vector back (`into_vec`).
 #![tactic(auto)]
 
 use std::marker::Model;
@@ -39,5 +39,12 @@ impl<T> Listed<T> {
         ensures { result.now ≡ self.now }
     {
         &self.items
+    }
+
+    /// The vector of the elements.
+    pub fn into_vec(self) -> Vec<T>
+        ensures { result.items ≡ self }
+    {
+        self.items
     }
 }

@@ -3,6 +3,7 @@ use Rattle.std.proofs.Common.{◌≡◌, ℕ, zero, suc, ◌<◌, Bool, true, fa
 use Rattle.std.specs.Prelude.{◌⊎◌, slice_get, option_map, if◌then◌else◌, nat_lt, Contains}
 use Rattle.std.specs.List.{AllZip}
 use Rattle.std.proofs.lemmas.Option.{slice_get_within}
+use Rattle.pv_list.proofs.Cited.{found}
 use Rattle.pv_pool.specs.Readers.{◌>>=◌}
 use Rattle.pv_frame.specs.declared.sort.Sort.{Sort}
 use Rattle.pv_frame.specs.declared.sort.Sort.TheVariants as sort
@@ -57,11 +58,6 @@ pub needed_less : (p : Program) (k x : ℕ) (s t : Sort) → IsNeededSort p k x 
 needed_less p k x s t n = less_way {L = Live p k x} s t (λ l. inl (n.live l)) (λ d. inr (n.dead d))
 
 -- ---- locals by their places
-
-pub slice_some : {A : Type 0} (xs : List A) (i : ℕ) → i < length xs → (x : A) × (slice_get xs i ≡ Some x)
-slice_some [] i h = absurd (omega arith)
-slice_some (x ∷ xs) zero h = (x, refl)
-slice_some (x ∷ xs) (suc i) h = slice_some xs i (omega arith)
 
 pub all_less : (l m : List Sort) → length l ≡ length m → ((x : ℕ) (s t : Sort) → slice_get l x ≡ Some s → slice_get m x ≡ Some t → Less s t) → AllZip Less l m
 all_less [] [] long each = tt
@@ -140,7 +136,7 @@ module _ (p : Program) (k : ℕ) (l m : List Sort) (long : length l ≡ length m
         | None ↦ λ _ h. absurd (cc)
         | Some u ↦ λ is h.
             let within = slice_get_within l x u is in
-            let other = slice_some m x (omega (arith, within)) in
+            let other = found m x (omega (arith, within)) in
             let one : other.0 ≡ u = (needed x u other.0 is other.1).live live in
             ap (λ (o : Option Sort). holds o s) (other.1 ∙ ap Some one) ∙ h
       ] refl h

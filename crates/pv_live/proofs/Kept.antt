@@ -4,6 +4,7 @@ use Rattle.std.specs.Prelude.{slice_get, option_map, if◌then◌else◌, Contai
 use Rattle.std.proofs.lemmas.List.{length-replicate}
 use Rattle.std.proofs.lemmas.Option.{slice_get_within, slice_get-get_or, get_or_from_slice_get, slice_get_read}
 use Rattle.std.proofs.lemmas.Slice.Zip.{AllZip-long}
+use Rattle.pv_list.proofs.Cited.{found}
 use Rattle.pv_pool.specs.Readers.{◌>>=◌}
 use Rattle.pv_frame.specs.declared.sort.Sort.{Sort}
 use Rattle.pv_frame.specs.declared.sort.Sort.TheVariants as sort
@@ -17,7 +18,6 @@ use Rattle.pv_frame.specs.Frames.{same, holds, pushed, padded_sorts, passed_to, 
 use Rattle.pv_frame.proofs.Cited.{Less, some_of, no_some, if_some, framed, all_contains, typed_goes, leads_nowhere, reached_frame, contains_none}
 use Rattle.pv_live.specs.Needed.{IsNeededAt, AreNeeded}
 use Rattle.pv_live.specs.Marks.{IsMarked, KnowLive, AreKept, IsKeptOption, AreKeptFrames, HasLocals, Match}
-use Rattle.pv_live.proofs.Agree.{slice_some}
 use Rattle.pv_live.proofs.Rows.{each_push}
 
 -- ---- the frames of a method have its number of locals
@@ -144,7 +144,7 @@ are_needed p rows seen frames held kept e d know is others = record {
   long = all.long;
   each = λ k f g here there.
       let within = slice_get_within frames k f here in
-      let row = slice_some rows k (omega (arith, within, know.table.long, is.well_typed.one_each)) in
+      let row = found rows k (omega (arith, within, know.table.long, is.well_typed.one_each)) in
       at k f g row.0 row.1 here (all.each k row.0 f g row.1 here there);
 }
   where

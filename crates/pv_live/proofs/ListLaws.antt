@@ -4,6 +4,7 @@ use Rattle.std.specs.Prelude.{slice_get, sum_by, Contains}
 use Rattle.std.specs.List.{AllByRecursion}
 use Rattle.std.proofs.lemmas.Option.{slice_get_within}
 use Rattle.std.proofs.lemmas.Slice.Zip.{AllZip-long}
+use Rattle.pv_list.proofs.Cited.{same_lists, found}
 use Rattle.pv_frame.specs.declared.sort.Sort.{Sort}
 use Rattle.pv_frame.specs.declared.action.Action.{Action}
 use Rattle.pv_frame.specs.declared.program.Program.{Program}
@@ -15,7 +16,7 @@ use Rattle.pv_frame.specs.Frames.{entry_frame, frame_after, Flows, Finds, IsFram
 use Rattle.pv_frame.proofs.Cited.{Less, some_of, no_some, inferred_once, contains_first, contains_more}
 use Rattle.pv_live.specs.Live.{Live}
 use Rattle.pv_live.specs.Needed.{IsNeededFrame, IsNeededAt, AreNeeded}
-use Rattle.pv_live.proofs.Agree.{less_way, either_way, slice_some, all_less, less_at, after_needed}
+use Rattle.pv_live.proofs.Agree.{less_way, either_way, all_less, less_at, after_needed}
 
 all_among : {A : Type 0} (P Q : A → Type 0) (xs : List A) → ((x : A) → Contains xs x → P x → Q x) → AllByRecursion P xs → AllByRecursion Q xs
 all_among P Q [] f all = tt
@@ -32,8 +33,8 @@ flows_needed p j h after f g flows n stack long live =
       stack = n.stack ∙ flows.stack ∙ sym stack;
       locals = all_less after.locals g.locals (omega (arith, n.long, same, long)) (λ x s t here there.
           let within = slice_get_within after.locals x s here in
-          let r = slice_some h.locals x (omega (arith, within, long)) in
-          let u = slice_some f.locals x (omega (arith, within, long, same)) in
+          let r = found h.locals x (omega (arith, within, long)) in
+          let u = found f.locals x (omega (arith, within, long, same)) in
           let sort = n.locals x u.0 t u.1 there in
           less_way {L = Live p j x} s t (λ l. elim (less_at h.locals f.locals flows.locals x r.0 u.0 r.1 u.1) [
             | inl e ↦ inl (sort.live l ∙ e ∙ sym (live x r.0 s r.1 here l))
@@ -58,7 +59,7 @@ module _ (p : Program) (frames : List (Option Frame)) (n : AreNeeded p frames) w
   needed_at : (k : ℕ) (f : Frame) → IsFrameAt n.inferred k f → Needed k f
   needed_at k f at =
       let within = slice_get_within n.inferred k (Some f) at in
-      let here = slice_some frames k (omega (arith, within, n.long)) in
+      let here = found frames k (omega (arith, within, n.long)) in
       elim here.0 as (λ o. slice_get frames k ≡ Some o → Needed k f) [
         | None ↦ λ e. absurd (n.each k (Some f) None at e)
         | Some g ↦ λ e. record { frame = g; there = e; is = n.each k (Some f) (Some g) at e }
@@ -67,7 +68,7 @@ module _ (p : Program) (frames : List (Option Frame)) (n : AreNeeded p frames) w
   inferred_at : (k : ℕ) (g : Frame) → IsFrameAt frames k g → Inferred k g
   inferred_at k g at =
       let within = slice_get_within frames k (Some g) at in
-      let here = slice_some n.inferred k (omega (arith, within, n.long)) in
+      let here = found n.inferred k (omega (arith, within, n.long)) in
       elim here.0 as (λ o. slice_get n.inferred k ≡ Some o → Inferred k g) [
         | None ↦ λ e. absurd (n.each k None (Some g) e at)
         | Some f ↦ λ e. record { frame = f; there = e; is = n.each k (Some f) (Some g) e at }
@@ -119,28 +120,19 @@ module _ (p : Program) (frames : List (Option Frame)) (n : AreNeeded p frames) w
 
 -- ---- one list
 
-same_lists : {A : Type 0} (xs ys : List A) → ((k : ℕ) → slice_get xs k ≡ slice_get ys k) → xs ≡ ys
-same_lists [] [] h = refl
-same_lists [] (y ∷ ys) h = no_some y (h 0)
-same_lists (x ∷ xs) [] h = no_some x (sym (h 0))
-same_lists (x ∷ xs) (y ∷ ys) h =
-    let head = some_of _ _ (h 0) in
-    let tail = same_lists xs ys (λ k. h (suc k)) in
-    cc (head, tail)
-
 same_locals : (p : Program) (k : ℕ) (f g h : Frame) → IsNeededFrame p k f g → IsNeededFrame p k f h → (x : ℕ) (o q : Option Sort) → slice_get g.locals x ≡ o → slice_get h.locals x ≡ q → o ≡ q
 same_locals p k f g h a b x None None d e = refl
 same_locals p k f g h a b x None (Some t) d e =
     let within = slice_get_within h.locals x t e in
-    let here = slice_some g.locals x (omega (arith, within, a.long, b.long)) in
+    let here = found g.locals x (omega (arith, within, a.long, b.long)) in
     no_some here.0 (sym d ∙ here.1)
 same_locals p k f g h a b x (Some s) None d e =
     let within = slice_get_within g.locals x s d in
-    let here = slice_some h.locals x (omega (arith, within, a.long, b.long)) in
+    let here = found h.locals x (omega (arith, within, a.long, b.long)) in
     no_some here.0 (sym e ∙ here.1)
 same_locals p k f g h a b x (Some s) (Some t) d e =
     let within = slice_get_within g.locals x s d in
-    let was = slice_some f.locals x (omega (arith, within, a.long)) in
+    let was = found f.locals x (omega (arith, within, a.long)) in
     let one = a.locals x was.0 s was.1 d in
     let two = b.locals x was.0 t was.1 e in
     ap Some (either_way {L = Live p k x} s t (λ l. one.live l ∙ sym (two.live l)) (λ l. one.dead l ∙ sym (two.dead l)))
@@ -168,9 +160,9 @@ needed_once p a b na nb =
   where
     same : (k : ℕ) (o q : Option (Option Frame)) → length b ≡ length na.inferred → ((k : ℕ) (f g : Option Frame) → slice_get na.inferred k ≡ Some f → slice_get b k ≡ Some g → IsNeededAt p k f g) → slice_get a k ≡ o → slice_get b k ≡ q → o ≡ q
     same k None None long each d e = refl
-    same k None (Some h) long each d e = let within = slice_get_within b k h e in let here = slice_some a k (omega (arith, within, long, na.long)) in no_some here.0 (sym d ∙ here.1)
-    same k (Some g) None long each d e = let within = slice_get_within a k g d in let here = slice_some b k (omega (arith, within, long, na.long)) in no_some here.0 (sym e ∙ here.1)
+    same k None (Some h) long each d e = let within = slice_get_within b k h e in let here = found a k (omega (arith, within, long, na.long)) in no_some here.0 (sym d ∙ here.1)
+    same k (Some g) None long each d e = let within = slice_get_within a k g d in let here = found b k (omega (arith, within, long, na.long)) in no_some here.0 (sym e ∙ here.1)
     same k (Some g) (Some h) long each d e =
         let within = slice_get_within a k g d in
-        let was = slice_some na.inferred k (omega (arith, within, na.long)) in
+        let was = found na.inferred k (omega (arith, within, na.long)) in
         ap Some (same_needed p k was.0 g h (na.each k was.0 g was.1 d) (each k was.0 h was.1 e))

@@ -6,7 +6,8 @@ ghost use Rattle.pv_live.specs.Needed.{AreNeeded};
 ghost use Rattle.pv_live.specs.Marks.{AreKept, IsKeptFrame, IsKeptOption, AreKeptFrames, HasLocals, Match};
 
 use crate::table::live_locals;
-use pv_frame::{Frame, Items, Sort, Typed};
+use pv_frame::{Frame, Sort, Typed};
+use pv_list::Listed;
 use pv_value::Memory;
 use std::alloc::{AllocError, Global};
 
@@ -56,7 +57,7 @@ fn kept_option(
 /// Frames with the locals that are marked at their places.
 fn kept_frames(
     alloc: Global,
-    rows: &[Items<bool>],
+    rows: &[Listed<bool>],
     frames: &[Option<Frame>],
 ) -> Result<Vec<Option<Frame>>, AllocError>
     requires { Match rows.now frames.now }

@@ -6,8 +6,9 @@ ghost use Rattle.pv_frame.specs.Effects.{successors};
 ghost use Rattle.pv_live.specs.Live.{Reads, Writes};
 ghost use Rattle.pv_live.specs.Marks.{IsMarked, Marks, MarkedAtOne, IsLiveIf, IsLiveBefore};
 
-use pv_frame::{Action, Items};
+use pv_frame::Action;
 use pv_insn::Case;
+use pv_list::Listed;
 use std::alloc::{AllocError, Global};
 
 /// Whether an action reads a local.
@@ -50,7 +51,7 @@ fn join(row: &mut [bool], other: &[bool])
 }
 
 /// Marks the locals that are marked at a place, where there is one.
-fn join_at(row: &mut [bool], rows: &[Items<bool>], place: usize)
+fn join_at(row: &mut [bool], rows: &[Listed<bool>], place: usize)
     ensures { Marks (MarkedAtOne rows.now (place ∷ [])) row.old row.new }
 {
     if let Some(other) = rows.get(place) {
@@ -59,7 +60,7 @@ fn join_at(row: &mut [bool], rows: &[Items<bool>], place: usize)
 }
 
 /// Marks the locals that are marked at the target of some case.
-fn join_cases(row: &mut [bool], rows: &[Items<bool>], cases: &[Case])
+fn join_cases(row: &mut [bool], rows: &[Listed<bool>], cases: &[Case])
     ensures { Marks (MarkedAtOne rows.now (map (λ c. c.target) cases.now)) row.old row.new }
 {
     for case in cases {
@@ -68,7 +69,7 @@ fn join_cases(row: &mut [bool], rows: &[Items<bool>], cases: &[Case])
 }
 
 /// Marks the locals that are marked at a place to which the action at this place may lead.
-fn join_next(row: &mut [bool], rows: &[Items<bool>], action: &Action, place: usize)
+fn join_next(row: &mut [bool], rows: &[Listed<bool>], action: &Action, place: usize)
     requires { place < length rows.now }
     ensures { Marks (MarkedAtOne rows.now (successors place action.now)) row.old row.new }
 {
@@ -99,7 +100,7 @@ pub(crate) fn no_marks(alloc: Global, locals: usize) -> Result<Vec<bool>, AllocE
 /// The locals that are marked after the action at a place: at a place to which it may lead.
 pub(crate) fn live_after(
     alloc: Global,
-    rows: &[Items<bool>],
+    rows: &[Listed<bool>],
     action: &Action,
     place: usize,
     locals: usize,

@@ -4,16 +4,17 @@ ghost use Rattle.std.specs.Prelude.{◌≡◌, ◌↔◌, ◌<◌, length, IfOk,
 ghost use Rattle.pv_live.specs.Marks.{IsTable, Visited, Swept, KnowLive};
 
 use crate::row::{live_after, live_before, no_marks};
-use pv_frame::{Items, Program};
+use pv_frame::Program;
+use pv_list::Listed;
 use std::alloc::{AllocError, Global};
 
 /// A table with no mark: a row for each place, of this many locals.
-fn no_rows(alloc: Global, places: usize, locals: usize) -> Result<Vec<Items<bool>>, AllocError>
+fn no_rows(alloc: Global, places: usize, locals: usize) -> Result<Vec<Listed<bool>>, AllocError>
     ensures { IfOk result (λ v. v.items ≡ replicate places (replicate locals false)) }
 {
     let mut rows = Vec::new(alloc);
     for _ in 0..places {
-        rows.push(Items::from(no_marks(alloc, locals)?))?;
+        rows.push(Listed::from(no_marks(alloc, locals)?))?;
     }
     Ok(rows)
 }
@@ -29,7 +30,7 @@ fn same_marks(first: &[bool], second: &[bool]) -> bool
 fn mark_at(
     alloc: Global,
     program: &Program,
-    rows: &mut Vec<Items<bool>>,
+    rows: &mut Vec<Listed<bool>>,
     place: usize,
 ) -> Result<bool, AllocError>
     requires table { IsTable program.now rows.old.items }
@@ -46,12 +47,12 @@ fn mark_at(
     if same_marks(&row, before) {
         return Ok(false);
     }
-    rows[place] = Items::from(row);
+    rows[place] = Listed::from(row);
     Ok(true)
 }
 
 /// Goes over all places, from the last to the first, and says whether it marked anything new.
-fn sweep(alloc: Global, program: &Program, rows: &mut Vec<Items<bool>>) -> Result<bool, AllocError>
+fn sweep(alloc: Global, program: &Program, rows: &mut Vec<Listed<bool>>) -> Result<bool, AllocError>
     requires { IsTable program.now rows.old.items }
     ensures table { IfOk result (λ _. IsTable program.now rows.new.items) }
     ensures swept { IfOk result
@@ -69,7 +70,7 @@ fn sweep(alloc: Global, program: &Program, rows: &mut Vec<Items<bool>>) -> Resul
 }
 
 /// The locals that are live at each place. It sweeps until nothing new is marked.
-pub(crate) fn live_locals(alloc: Global, program: &Program) -> Result<Vec<Items<bool>>, AllocError>
+pub(crate) fn live_locals(alloc: Global, program: &Program) -> Result<Vec<Listed<bool>>, AllocError>
     ensures { IfOk result (λ rows. KnowLive program.now rows.items) }
 {
     let places = program.actions.as_slice().len();

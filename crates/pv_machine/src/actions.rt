@@ -18,7 +18,8 @@ use crate::operations;
 use crate::operations::{computed, divided};
 use crate::state::State;
 use pv_frame::{Action, Move, Program, Sort, Test};
-use pv_value::{Descriptor, Fault, JType, JTypes, Kind, Memory, Num, Outcome, Sym, World};
+use pv_list::Listed;
+use pv_value::{Descriptor, Fault, JType, Kind, Memory, Num, Outcome, Sym, World};
 use std::alloc::Global;
 
 // The sort of the values of a type; of floats and doubles none is known.
@@ -112,7 +113,7 @@ fn takes(action: &Action) -> &'static [Sort]
 }
 
 // The sorts of parameters.
-fn parameter_sorts(alloc: Global, params: &JTypes) -> Result<Vec<Sort>, Memory>
+fn parameter_sorts(alloc: Global, params: &Listed<JType>) -> Result<Vec<Sort>, Memory>
     ensures { IfOk result (λ v. v.items ≡ map sort_of_type params.now) }
 {
     let mut sorts = Vec::new(alloc);

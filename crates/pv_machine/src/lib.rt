@@ -4,7 +4,9 @@
 //! of the operand stack, of which a long is one, locals, and the heap. A method ends with a return or
 //! with the first throw; a call that isn't in the table of the world leaves it as it is. `specs/Runs`
 //! says what runs keep: a method with typed frames is never stuck but at such a call, and ends in one
-//! way; `laws` has this as contracts.
+//! way. `specs/Callees` says what a run is over callees that are any partial function, and that the
+//! meaning of methods in worlds, each with finitely many replies, carries over to these. `laws` has all
+//! this as contracts.
 //!
 //! The code computes the definition: `Program::new` gives the program of a method exactly where
 //! `pv_frame` accepts it, `start` and `step` are the definition's, and `run` gives the outcome exactly

@@ -1,4 +1,4 @@
--- The names of an axiom, each found at its first place in the left side, where a node stands for it; private.
+-- What an axiom names of an operation, and each name found at its first place in the left side, where a node stands for it.
 use Rattle.std.specs.Prelude.{◌≡◌, ◌≢◌, ◌⊎◌, ℕ, length, pos, Bool, true, false, List, [], ◌∷◌, ◌++◌, map, Option, Some, None, ◌==◌, if◌then◌else◌}
 use Rattle.pv_value.specs.Spelled.{bind}
 use Rattle.pv_value.specs.declared.name.Sym.{Sym}
@@ -132,10 +132,6 @@ shown_of r = shown (view_of r) (seen r.left.now) r.at
 
 abbrev pub names_of : Reading → Names
 names_of r = found (view_of r) (seen r.left.now) r.at r.kids.now r.vars.now
-
--- the constant that an operation gives over constants
-abbrev pub fold_of : ScalarOp → List Num → Option Num
-fold_of o ns = bind (scalar_on o (takes o) (map val.Num ns)) (λ n. Some (num_of (gives o) n))
 
 -- an operation whose parameter the axiom names
 abbrev pub HasName : Head → Type 0

@@ -59,6 +59,10 @@ abbrev pub atom_of : Names → Atom → Num
 atom_of m (number c) = c
 atom_of m (named j) = m.constants j
 
+-- the constant that an operation gives over constants
+abbrev pub fold_of : ScalarOp → List Num → Option Num
+fold_of o ns = bind (scalar_on o (takes o) (map val.Num ns)) (λ n. Some (num_of (gives o) n))
+
 -- the number that an operation gives over these constants
 abbrev pub folded : Names → ScalarOp → List Atom → Option Num
 folded m o atoms = bind (scalar_on o (takes o) (map (λ a. val.Num (atom_of m a)) atoms)) (λ n. Some (num_of (gives o) n))

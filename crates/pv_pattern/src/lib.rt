@@ -7,10 +7,15 @@
 //!
 //! `instance` and `instance_now` say whether two nodes are an instance of an axiom whose left side binds all
 //! that the axiom names (`specs/Binding`): each name is found at its first place in the left side
-//! (`specs/Found`, for the proofs of this crate). `add_axioms` makes axioms of the rows of a table, which are
+//! (`specs/Found`). `add_axioms` makes axioms of the rows of a table, which are
 //! constants (`specs/Tables`).
+//!
+//! A layer that looks for instances also uses `op_number`, the number of an operation (`specs/Numbers`), by which it
+//! finds the nodes that a pattern may stand at; `head_name` and `fixed_op` of operations; and `folded`, `kind_type` and
+//! `field_type` of what a side makes of constants and types.
 #![tactic(auto)]
 
+mod folding;
 mod instances;
 pub mod laws;
 mod names;
@@ -19,7 +24,9 @@ mod pattern;
 mod stands;
 mod table;
 
+pub use folding::{field_type, folded, kind_type};
 pub use instances::{instance, instance_now};
-pub use names::NameId;
+pub use names::{NameId, fixed_op, head_name};
+pub use numbers::{OP_NUMBERS, op_number};
 pub use pattern::{Atom, Axiom, By, Each, Head, Pattern, Side};
 pub use table::{Row, Term, add_axioms};

@@ -2,7 +2,8 @@
 
 ghost use Rattle.std.specs.Prelude.{◌≡◌, ◌↔◌, IfSome, IsTrue, MatchOption, None, Some, map};
 ghost use Rattle.pv_graph.specs.Graphs.{form_at, form_of};
-ghost use Rattle.pv_pattern.specs.Found.{empty_symbol, head_name, is_name, kids_of, names_of, place, place_in, same_name, shown_of};
+ghost use Rattle.pv_pattern.specs.Found.{HasName, empty_symbol, head_name, is_name, kids_of, names_of, place, place_in, same_name, shown_of};
+ghost use Rattle.pv_pattern.specs.Patterns.{fixed};
 ghost use Rattle.pv_pattern.specs.Seen.{head_seen, listed, seen};
 
 use crate::pattern::{Head, Pattern};
@@ -30,8 +31,8 @@ pub(crate) struct Reading<'a> {
     pub(crate) vars: &'a [NodeId],
 }
 
-// What an axiom names of an operation.
-fn head_name(head: Head) -> Option<NameId>
+/// What an axiom names of an operation.
+pub fn head_name(head: Head) -> Option<NameId>
     ensures { result ≡ head_name (head_seen head) }
 {
     match head {
@@ -40,6 +41,29 @@ fn head_name(head: Head) -> Option<NameId>
             Some(NameId::Symbol(s))
         }
         Head::Load(k) | Head::Store(k) => Some(NameId::Kind(k)),
+        _ => None,
+    }
+}
+
+/// The operation of a head whose parameters are fixed; `None` where the axiom names the parameter.
+pub fn fixed_op(head: Head) -> Option<Op>
+    ensures { MatchOption result (HasName (head_seen head)) (λ op. head_seen head ≡ fixed op) }
+{
+    match head {
+        Head::Int(c) => Some(Op::Int(c)),
+        Head::Long(c) => Some(Op::Long(c)),
+        Head::Null => Some(Op::Null),
+        Head::This => Some(Op::This),
+        Head::Unit => Some(Op::Unit),
+        Head::Zero => Some(Op::Zero),
+        Head::Succ => Some(Op::Succ),
+        Head::Both => Some(Op::Both),
+        Head::Phi => Some(Op::Phi),
+        Head::Scalar(op) => Some(Op::Scalar(op)),
+        Head::Aeq => Some(Op::Aeq),
+        Head::Thrown => Some(Op::Thrown),
+        Head::IsClear => Some(Op::IsClear),
+        Head::Length => Some(Op::Length),
         _ => None,
     }
 }

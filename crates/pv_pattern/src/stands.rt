@@ -1,106 +1,19 @@
 //! Whether a pattern stands at a node.
 
-ghost use Rattle.std.specs.Prelude.{◌≡◌, ◌↔◌, ◌∷◌, [], IfSome, IsTrue, MatchOption, None, Some, map, slice_get};
+ghost use Rattle.std.specs.Prelude.{◌≡◌, ◌↔◌, IsTrue, MatchOption, Some, map, slice_get};
 ghost use Rattle.std.specs.List.{AllZip};
-ghost use Rattle.pv_value.specs.Operations.{IsOfWord, gives, takes};
 ghost use Rattle.pv_graph.specs.Forms.{form};
-ghost use Rattle.pv_denote.specs.Denote.{operand, num_of};
-ghost use Rattle.pv_value.specs.declared.outcome.Val.TheVariants as val;
-ghost use Rattle.pv_denote.specs.Words.{word_of};
-ghost use Rattle.pv_pattern.specs.Found.{HasName, IsNotUnder, fold_of, names_of, view_of};
-ghost use Rattle.pv_pattern.specs.Patterns.{fixed, over_each};
-ghost use Rattle.pv_value.specs.Spelled.{field_type};
-ghost use Rattle.pv_pattern.specs.Instances.{IsConstantAt, IsEach, Narrows, StandAll, Stands, atom_of, folded, head_op, kind_type, type_by};
+ghost use Rattle.pv_pattern.specs.Found.{HasName, IsNotUnder, names_of, view_of};
+ghost use Rattle.pv_pattern.specs.Patterns.{over_each};
+ghost use Rattle.pv_pattern.specs.Instances.{IsConstantAt, IsEach, Narrows, StandAll, Stands, atom_of, folded, head_op, type_by};
 ghost use Rattle.pv_pattern.specs.Seen.{atom_seen, by_seen, each_seen, head_seen, listed, seen};
 
-use crate::names::{Reading, is_same_op, node_at};
+use crate::folding::{field_type, folded, kind_type};
+use crate::names::{Reading, fixed_op, is_same_op, node_at};
 use crate::numbers::op_number;
 use crate::pattern::{Atom, By, Each, Head, Pattern};
-use pv_denote::{Operands, Word, gives, takes};
 use pv_graph::{NodeId, Op};
-use pv_value::{JType, Kind, Num, ScalarOp, read_field_type, scalar};
-
-// The number of a word.
-fn operand(word: Word, n: Num) -> Option<i64>
-    ensures number { result ≡ operand (word_of word) (val.Num n) }
-    ensures range { IfSome result (λ k. IsOfWord (word_of word) k) }
-{
-    match (word, n) {
-        (Word::Int, Num::Int(n)) => Some(i64::from(n)),
-        (Word::Long, Num::Long(n)) => Some(n),
-        _ => None,
-    }
-}
-
-fn num_of(word: Word, n: i64) -> Num
-    requires { IsOfWord (word_of word) n }
-    ensures { result ≡ num_of (word_of word) n }
-{
-    match word {
-        Word::Int => Num::Int(n as i32),
-        Word::Long => Num::Long(n),
-    }
-}
-
-// The constant that an operation on one number gives.
-fn fold1(op: ScalarOp, word: Word, a: Num) -> Option<Num>
-    requires { takes op ≡ word_of word ∷ [] }
-    ensures { result ≡ fold_of op (a ∷ []) }
-{
-    let n = scalar(op, operand(word, a)?, 0);
-    Some(num_of(gives(op), n))
-}
-
-// The constant that an operation on two numbers gives.
-fn fold2(op: ScalarOp, words: (Word, Word), a: Num, b: Num) -> Option<Num>
-    requires { takes op ≡ word_of words.0 ∷ word_of words.1 ∷ [] }
-    ensures { result ≡ fold_of op (a ∷ b ∷ []) }
-{
-    let first = operand(words.0, a)?;
-    let second = operand(words.1, b)?;
-    Some(num_of(gives(op), scalar(op, first, second)))
-}
-
-// The type of an array's elements; a byte array may be a boolean one.
-fn kind_type(kind: Kind) -> JType
-    ensures { result ≡ kind_type kind }
-{
-    match kind {
-        Kind::Int => JType::I,
-        Kind::Long => JType::J,
-        Kind::Ref => JType::A,
-        Kind::Byte => JType::B,
-        Kind::Char => JType::C,
-        Kind::Short => JType::S,
-    }
-}
-
-// The type of a field with this descriptor.
-fn field_type(desc: &[u8]) -> Option<JType>
-    ensures { result ≡ field_type desc.now }
-{
-    read_field_type(desc)
-}
-
-// The operation of a head whose parameters are fixed.
-fn fixed_op(head: Head) -> Option<Op>
-    ensures { MatchOption result (HasName (head_seen head)) (λ op. head_seen head ≡ fixed op) }
-{
-    match head {
-        Head::Int(c) => Some(Op::Int(c)),
-        Head::Long(c) => Some(Op::Long(c)),
-        Head::Null => Some(Op::Null),
-        Head::This => Some(Op::This),
-        Head::Unit => Some(Op::Unit),
-        Head::Zero => Some(Op::Zero),
-        Head::Succ => Some(Op::Succ),
-        Head::Both => Some(Op::Both),
-        Head::Phi => Some(Op::Phi),
-        Head::Scalar(op) => Some(Op::Scalar(op)),
-        Head::Aeq => Some(Op::Aeq),
-        _ => None,
-    }
-}
+use pv_value::{JType, Num, ScalarOp};
 
 impl Reading<'_> {
     fn atom(&self, atom: Atom) -> Num
@@ -116,11 +29,9 @@ impl Reading<'_> {
     fn folded(&self, op: ScalarOp, atoms: &[Atom]) -> Option<Num>
         ensures { result ≡ folded (names_of self.now) op (map atom_seen atoms.now) }
     {
-        match (takes(op), atoms) {
-            (Operands::One(word), [a]) => fold1(op, word, self.atom(*a)),
-            (Operands::Two(first, second), [a, b]) => {
-                fold2(op, (first, second), self.atom(*a), self.atom(*b))
-            }
+        match atoms {
+            [a] => folded(op, &[self.atom(*a)]),
+            [a, b] => folded(op, &[self.atom(*a), self.atom(*b)]),
             _ => None,
         }
     }

@@ -1,7 +1,6 @@
 pub mod Places
 pub mod Lists
 pub mod Naming
-pub mod Shown
 pub mod Partnering
 pub mod Judgements
 pub mod SameFlows

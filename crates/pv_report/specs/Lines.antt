@@ -1,6 +1,5 @@
 -- The lines of a report.
-use Rattle.std.specs.Prelude.{ℕ, ◌+◌, ◌/◌, ◌%◌, List, [], ◌∷◌, ◌++◌, codes, decimal, nat_lt, nat_le, ◌==◌, ◌&&◌, not, if◌then◌else◌}
-use Rattle.std.specs.List.{flat_map}
+use Rattle.std.specs.Prelude.{ℕ, List, [], ◌∷◌, ◌++◌, codes, decimal}
 use Rattle.pv_class.specs.declared.file.Method.{Method}
 use Rattle.pv_class.specs.declared.fault.ClassFault.{ClassFault}
 use Rattle.pv_class.specs.declared.fault.ClassFault.TheVariants as fault
@@ -9,23 +8,11 @@ use Rattle.pv_class.specs.declared.fault.PoolWord.TheVariants as pool
 use Rattle.pv_frame.specs.declared.cause.Cause.{Cause}
 use Rattle.pv_frame.specs.declared.cause.CauseKind.{CauseKind}
 use Rattle.pv_frame.specs.declared.cause.CauseKind.TheVariants as kind
+use Rattle.pv_token.specs.Spellings.{shown_bytes}
 use Rattle.pv_report.specs.declared.verdict.Side.{Side}
 use Rattle.pv_report.specs.declared.verdict.Side.TheVariants as side
 use Rattle.pv_report.specs.declared.verdict.Verdict.{Verdict}
 use Rattle.pv_report.specs.declared.verdict.Verdict.TheVariants as verdict
-
--- an upper-case hexadecimal digit
-abbrev pub hex_digit : ℕ → ℕ
-hex_digit n = if nat_lt n 10 then 48 + n else 55 + n
-
--- a byte from 0x21 to 0x7E other than % stands for itself, every other byte is % and two digits
-abbrev pub shown_byte : ℕ → List ℕ
-shown_byte b = if nat_le 0x21 b && nat_le b 0x7E && not (b == 37) then b ∷ [] else 37 ∷ hex_digit (b / 16) ∷ hex_digit (b % 16) ∷ []
-
--- the empty list is %-
-abbrev pub shown : List ℕ → List ℕ
-shown [] = codes "%-"
-shown (b ∷ bytes) = flat_map shown_byte (b ∷ bytes)
 
 abbrev pub side_word : Side → List ℕ
 side_word side.First = codes "first"
@@ -63,9 +50,9 @@ verdict_text (verdict.Refused s cause) = codes "refused " ++ side_word s ++ code
 verdict_text verdict.Equivalent = codes "equivalent"
 verdict_text verdict.Apart = codes "unknown apart"
 
--- what a line on a method begins with: its name and its descriptor
+-- what a line on a method begins with: its name and its descriptor, as they are shown
 abbrev pub method_text : List ℕ → List ℕ → List ℕ
-method_text name desc = shown name ++ codes " " ++ shown desc ++ codes " "
+method_text name desc = shown_bytes name ++ codes " " ++ shown_bytes desc ++ codes " "
 
 -- what is said of a method, without the line feed
 abbrev pub line_of : Method → Verdict → List ℕ

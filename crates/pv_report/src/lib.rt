@@ -1,7 +1,8 @@
 //! The report on two class files.
 //!
 //! This layer stands on `pv_build`, which converts two methods into one graph, on `pv_alike`, in which their roots
-//! are compared, and on those below them; that a root has the outcomes of its method is a law of `pv_runs`.
+//! are compared, and on those below them; that a root has the outcomes of its method is a law of `pv_runs`. `pv_token`
+//! shows names and writes numbers.
 //! `specs/` says which method is the partner of another (`Partners`), what the least graph of two methods' roots is
 //! (`Roots`), what is said of a method (`Verdicts`), what the lines are (`Lines`), what a report is (`Report`), and which
 //! numbers the statuses have (`Statuses`). The two files are read into a pair; then all verdicts are made, by the least

@@ -1,43 +1,39 @@
 //! The lines of a report.
 
-ghost use Rattle.std.specs.Prelude.{◌≡◌, ◌++◌, ◌<◌, OnOk};
-ghost use Rattle.pv_report.specs.Lines.{shown, shown_byte, hex_digit, side_word, kind_word, cause_text, verdict_text, method_text, line_of, line_text, pool_word, word_at, fault_text, bad_class};
+ghost use Rattle.std.specs.Prelude.{◌≡◌, ◌++◌, OnOk};
+ghost use Rattle.pv_report.specs.Lines.{side_word, kind_word, cause_text, verdict_text, method_text, line_of, line_text, pool_word, word_at, fault_text, bad_class};
 
 use crate::verdict::{Side, Verdict};
 use pv_class::{ClassFault, Method, PoolWord};
 use pv_frame::{Cause, CauseKind};
+use pv_token::{push_decimal, push_shown};
 use pv_value::Name;
 use std::alloc::{AllocError, Global};
 
 /// The line that says that a file has no reading, with its fault.
-pub fn push_bad_class(
-    alloc: Global,
-    out: &mut Vec<u8>,
-    side: Side,
-    fault: ClassFault,
-) -> Result<(), AllocError>
+pub fn push_bad_class(out: &mut Vec<u8>, side: Side, fault: ClassFault) -> Result<(), AllocError>
     ensures { OnOk result (out.new.items ≡ out.old.items ++ bad_class side fault) }
 {
     out.extend_from_slice(b"bad class ")?;
     out.extend_from_slice(side_word(side))?;
     out.extend_from_slice(b" ")?;
-    push_fault(alloc, out, fault)?;
+    push_fault(out, fault)?;
     out.extend_from_slice(b"\n")
 }
 
-fn push_fault(alloc: Global, out: &mut Vec<u8>, fault: ClassFault) -> Result<(), AllocError>
+fn push_fault(out: &mut Vec<u8>, fault: ClassFault) -> Result<(), AllocError>
     ensures { OnOk result (out.new.items ≡ out.old.items ++ fault_text fault) }
 {
     match fault {
-        ClassFault::Truncated(at) => push_word_at(alloc, out, b"truncated", at),
-        ClassFault::Magic(at) => push_word_at(alloc, out, b"magic", at),
-        ClassFault::Version(at) => push_word_at(alloc, out, b"version", at),
-        ClassFault::Pool(word, at) => push_word_at(alloc, out, pool_word(word), at),
-        ClassFault::Descriptor(at) => push_word_at(alloc, out, b"descriptor", at),
-        ClassFault::Code(at) => push_word_at(alloc, out, b"code", at),
-        ClassFault::Duplicate(at) => push_word_at(alloc, out, b"duplicate", at),
-        ClassFault::Trailing(at) => push_word_at(alloc, out, b"trailing", at),
-        ClassFault::TooLong(at) => push_word_at(alloc, out, b"too-long", at),
+        ClassFault::Truncated(at) => push_word_at(out, b"truncated", at),
+        ClassFault::Magic(at) => push_word_at(out, b"magic", at),
+        ClassFault::Version(at) => push_word_at(out, b"version", at),
+        ClassFault::Pool(word, at) => push_word_at(out, pool_word(word), at),
+        ClassFault::Descriptor(at) => push_word_at(out, b"descriptor", at),
+        ClassFault::Code(at) => push_word_at(out, b"code", at),
+        ClassFault::Duplicate(at) => push_word_at(out, b"duplicate", at),
+        ClassFault::Trailing(at) => push_word_at(out, b"trailing", at),
+        ClassFault::TooLong(at) => push_word_at(out, b"too-long", at),
         ClassFault::Memory => out.extend_from_slice(b"out of memory"),
     }
 }
@@ -53,13 +49,12 @@ fn pool_word(word: PoolWord) -> &'static [u8]
 }
 
 // A word and a place.
-fn push_word_at(alloc: Global, out: &mut Vec<u8>, word: &[u8], at: usize) -> Result<(), AllocError>
+fn push_word_at(out: &mut Vec<u8>, word: &[u8], at: usize) -> Result<(), AllocError>
     ensures { OnOk result (out.new.items ≡ out.old.items ++ word_at word.now at) }
 {
     out.extend_from_slice(word)?;
     out.extend_from_slice(b" at ")?;
-    let at = format!(in alloc; "{at}")?;
-    out.extend_from_slice(at.as_bytes())
+    push_decimal(out, at)
 }
 
 /// What is said of a method, and a line feed.
@@ -71,23 +66,28 @@ pub fn push_line(
 ) -> Result<(), AllocError>
     ensures { OnOk result (out.new.items ≡ out.old.items ++ line_text (line_of method.now verdict)) }
 {
-    push_method(out, &method.name, &method.desc)?;
-    push_verdict(alloc, out, verdict)?;
+    push_method(alloc, out, &method.name, &method.desc)?;
+    push_verdict(out, verdict)?;
     out.extend_from_slice(b"\n")
 }
 
 /// What a line on a method begins with.
-pub fn push_method(out: &mut Vec<u8>, name: &Name, desc: &Name) -> Result<(), AllocError>
+pub fn push_method(
+    alloc: Global,
+    out: &mut Vec<u8>,
+    name: &Name,
+    desc: &Name,
+) -> Result<(), AllocError>
     ensures { OnOk result (out.new.items ≡ out.old.items ++ method_text name.now desc.now) }
 {
-    push_shown(out, name.bytes())?;
+    push_shown(alloc, out, name.bytes())?;
     out.extend_from_slice(b" ")?;
-    push_shown(out, desc.bytes())?;
+    push_shown(alloc, out, desc.bytes())?;
     out.extend_from_slice(b" ")
 }
 
 /// The words of a verdict.
-pub fn push_verdict(alloc: Global, out: &mut Vec<u8>, verdict: Verdict) -> Result<(), AllocError>
+pub fn push_verdict(out: &mut Vec<u8>, verdict: Verdict) -> Result<(), AllocError>
     ensures { OnOk result (out.new.items ≡ out.old.items ++ verdict_text verdict) }
 {
     match verdict {
@@ -100,7 +100,7 @@ pub fn push_verdict(alloc: Global, out: &mut Vec<u8>, verdict: Verdict) -> Resul
             out.extend_from_slice(b"refused ")?;
             out.extend_from_slice(side_word(side))?;
             out.extend_from_slice(b" ")?;
-            push_cause(alloc, out, cause)
+            push_cause(out, cause)
         }
         Verdict::Equivalent => out.extend_from_slice(b"equivalent"),
         Verdict::Apart => out.extend_from_slice(b"unknown apart"),
@@ -108,10 +108,10 @@ pub fn push_verdict(alloc: Global, out: &mut Vec<u8>, verdict: Verdict) -> Resul
 }
 
 // A cause and the address of its instruction.
-fn push_cause(alloc: Global, out: &mut Vec<u8>, cause: Cause) -> Result<(), AllocError>
+fn push_cause(out: &mut Vec<u8>, cause: Cause) -> Result<(), AllocError>
     ensures { OnOk result (out.new.items ≡ out.old.items ++ cause_text cause) }
 {
-    push_word_at(alloc, out, kind_word(cause.kind), cause.at as usize)
+    push_word_at(out, kind_word(cause.kind), cause.at as usize)
 }
 
 fn kind_word(kind: CauseKind) -> &'static [u8]
@@ -145,34 +145,4 @@ pub fn side_word(side: Side) -> &'static [u8]
         Side::First => b"first",
         Side::Second => b"second",
     }
-}
-
-// Bytes as shown text.
-fn push_shown(out: &mut Vec<u8>, bytes: &[u8]) -> Result<(), AllocError>
-    ensures { OnOk result (out.new.items ≡ out.old.items ++ shown bytes.now) }
-{
-    if bytes.is_empty() {
-        return out.extend_from_slice(b"%-");
-    }
-    for b in bytes {
-        push_shown_byte(out, *b)?;
-    }
-    Ok(())
-}
-
-fn push_shown_byte(out: &mut Vec<u8>, b: u8) -> Result<(), AllocError>
-    ensures { OnOk result (out.new.items ≡ out.old.items ++ shown_byte b) }
-{
-    if b >= 0x21 && b <= 0x7E && b != b'%' {
-        return out.extend_from_slice(&[b]);
-    }
-    out.extend_from_slice(&[b'%', hex_digit(b / 16), hex_digit(b % 16)])
-}
-
-// An upper-case hexadecimal digit.
-fn hex_digit(n: u8) -> u8
-    requires { n < 16 }
-    ensures { result ≡ hex_digit n }
-{
-    if n < 10 { b'0' + n } else { b'A' - 10 + n }
 }

@@ -43,7 +43,7 @@ pub fn bad_class(alloc: Global, bad: BadClass) -> Result<Answer, AllocError>
     ensures status { IfOk result (λ answer. answer.status ≡ Status.BadClass) }
 {
     let mut text = Vec::new(alloc);
-    push_bad_class(alloc, &mut text, bad.side, bad.fault)?;
+    push_bad_class(&mut text, bad.side, bad.fault)?;
     Ok(Answer {
         text,
         status: Status::BadClass,

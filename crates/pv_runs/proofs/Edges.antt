@@ -3,6 +3,7 @@ use Rattle.std.proofs.Common.{◌≡◌, ℕ, zero, suc, ◌-◌, ◌<◌, true,
 use Rattle.std.specs.Prelude.{◌⊎◌, ◌==◌, slice_get, unwrap_or, option_map, Contains}
 use Rattle.std.specs.List.{AllZip}
 use Rattle.std.proofs.lemmas.Bool.{eqb-true, eq-eqb}
+use Rattle.pv_list.proofs.Cited.{found}
 use Rattle.pv_pool.specs.Readers.{◌>>=◌}
 use Rattle.pv_frame.specs.declared.action.Action.{Action}
 use Rattle.pv_frame.specs.declared.program.Program.{Program}
@@ -17,7 +18,7 @@ use Rattle.pv_flow.specs.Exits.{Departure, Goes, Returns, Throws, departures}
 use Rattle.pv_flow.specs.Blocks.{IsBlockAt, IsExit, IsFlow}
 use Rattle.pv_flow.specs.Edges as edges
 use Rattle.pv_flow.specs.Edges.{edges_of}
-use Rattle.pv_flow.proofs.Cited.{goes_to_successors, edges_of_code, edges_within, at_within}
+use Rattle.pv_flow.proofs.Cited.{goes_to_successors, edges_of_code, edges_within}
 use Rattle.pv_equations.specs.Flow as flow
 use Rattle.pv_equations.specs.Flow.{Dest, To, End, Return, Exit, Chain, Leave, InChain}
 use Rattle.pv_runs.specs.Held.{Held}
@@ -166,8 +167,8 @@ module _ (p : Program) (frames : List (Option Frame)) (blocks : List Block) (is 
       → (e : Exit) × InChain (block_chain p frames blocks n) e × (e.dest ≡ To m)
   edge_exit chains n m edge =
       let lt = edges_within p blocks is n m edge in
-      let b = at_within blocks n lt.0 in
-      let there = at_within blocks m lt.1 in
+      let b = found blocks n lt.0 in
+      let there = found blocks m lt.1 in
       let c = chains n b.0 b.1 in
       let h = has_chain p frames b.0 c.0 c.1 in
       let after = (edges_of_code p blocks is n m b.0 there.0 h.action b.1 there.1 h.at).0 edge in

@@ -1,7 +1,8 @@
 //! The report on the sections of a certificate for two class files.
 //!
 //! This layer stands on `pv_cert`, which reads certificates, on `pv_check`, which decides sections, on `pv_report` for
-//! the pair of classes, partners, the least graph of two methods' roots and the words of lines, on `pv_base` for the
+//! the pair of classes, partners, the least graph of two methods' roots and the words of lines, on `pv_token` for
+//! numbers and digests, on `pv_base` for the
 //! gate that `pv_check` passes, and on those below them. `specs/` says why a certificate is not one for two files (`Flaws`), what is said of a section (`Findings`), what
 //! the lines are (`Lines`), and what the report is (`Ruled`).
 //!

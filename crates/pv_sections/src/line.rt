@@ -1,7 +1,6 @@
 //! The lines of a report on a certificate.
 
 ghost use Rattle.std.specs.Prelude.{◌≡◌, ◌++◌, IfOk, OnOk, decimal};
-ghost use Rattle.hex.specs.Hex.{encode_lower};
 ghost use Rattle.pv_report.specs.Lines.{line_text};
 ghost use Rattle.pv_sections.specs.Lines.{bad_certificate, cert_fault_text, finding_text, flaw_text, section_line};
 
@@ -9,6 +8,7 @@ use crate::finding::Finding;
 use crate::flaw::Flaw;
 use pv_cert::{CertFault, Section};
 use pv_report::{Answer, Status, push_method, push_verdict, side_word};
+use pv_token::{Digest, Token, push_decimal};
 use std::alloc::{AllocError, Global};
 
 /// What is said of a section, and a line feed.
@@ -20,27 +20,26 @@ pub(crate) fn push_section(
 ) -> Result<(), AllocError>
     ensures { OnOk result (out.new.items ≡ out.old.items ++ line_text (section_line section.now finding)) }
 {
-    push_method(out, &section.name, &section.desc)?;
-    push_finding(alloc, out, finding)?;
+    push_method(alloc, out, &section.name, &section.desc)?;
+    push_finding(out, finding)?;
     out.extend_from_slice(b"\n")
 }
 
-fn push_finding(alloc: Global, out: &mut Vec<u8>, finding: Finding) -> Result<(), AllocError>
+fn push_finding(out: &mut Vec<u8>, finding: Finding) -> Result<(), AllocError>
     ensures { OnOk result (out.new.items ≡ out.old.items ++ finding_text finding) }
 {
     match finding {
-        Finding::Verdict(verdict) => push_verdict(alloc, out, verdict),
-        Finding::Rejected(n) => push_number(alloc, out, b"rejected ", n),
+        Finding::Verdict(verdict) => push_verdict(out, verdict),
+        Finding::Rejected(n) => push_number(out, b"rejected ", n),
     }
 }
 
 // A word with its blank, and a number.
-fn push_number(alloc: Global, out: &mut Vec<u8>, word: &[u8], n: usize) -> Result<(), AllocError>
+fn push_number(out: &mut Vec<u8>, word: &[u8], n: usize) -> Result<(), AllocError>
     ensures { OnOk result (out.new.items ≡ out.old.items ++ word.now ++ decimal n) }
 {
     out.extend_from_slice(word)?;
-    let n = format!(in alloc; "{n}")?;
-    out.extend_from_slice(n.as_bytes())
+    push_decimal(out, n)
 }
 
 /// What is said of a certificate that is not one for the two files. Out of memory is the one error.
@@ -50,7 +49,7 @@ pub(crate) fn bad_certificate(alloc: Global, flaw: Flaw) -> Result<Answer, Alloc
 {
     let mut text = Vec::new(alloc);
     text.extend_from_slice(b"bad certificate ")?;
-    push_flaw(alloc, &mut text, flaw)?;
+    push_flaw(&mut text, flaw)?;
     text.extend_from_slice(b"\n")?;
     Ok(Answer {
         text,
@@ -58,37 +57,29 @@ pub(crate) fn bad_certificate(alloc: Global, flaw: Flaw) -> Result<Answer, Alloc
     })
 }
 
-fn push_flaw(alloc: Global, out: &mut Vec<u8>, flaw: Flaw) -> Result<(), AllocError>
+fn push_flaw(out: &mut Vec<u8>, flaw: Flaw) -> Result<(), AllocError>
     ensures { OnOk result (out.new.items ≡ out.old.items ++ flaw_text flaw) }
 {
     match flaw {
         Flaw::TooLong => out.extend_from_slice(b"too-long"),
-        Flaw::Unread(fault) => push_cert_fault(alloc, out, fault),
+        Flaw::Unread(fault) => push_cert_fault(out, fault),
         Flaw::OtherFile(side, written, actual) => {
             out.extend_from_slice(side_word(side))?;
             out.extend_from_slice(b" ")?;
-            push_digest(alloc, out, &written)?;
+            Digest::push(out, written)?;
             out.extend_from_slice(b" ")?;
-            push_digest(alloc, out, &actual)
+            Digest::push(out, actual)
         }
     }
 }
 
-fn push_cert_fault(alloc: Global, out: &mut Vec<u8>, fault: CertFault) -> Result<(), AllocError>
+fn push_cert_fault(out: &mut Vec<u8>, fault: CertFault) -> Result<(), AllocError>
     ensures { OnOk result (out.new.items ≡ out.old.items ++ cert_fault_text fault) }
 {
     match fault {
         CertFault::Truncated => out.extend_from_slice(b"truncated"),
         CertFault::Header => out.extend_from_slice(b"header"),
-        CertFault::Step(n) => push_number(alloc, out, b"line ", n),
+        CertFault::Step(n) => push_number(out, b"line ", n),
         CertFault::Memory => out.extend_from_slice(b"out of memory"),
     }
-}
-
-// A digest in lower-case hexadecimal digits.
-fn push_digest(alloc: Global, out: &mut Vec<u8>, digest: &[u8]) -> Result<(), AllocError>
-    ensures { OnOk result (out.new.items ≡ out.old.items ++ encode_lower digest.now) }
-{
-    let text = hex::encode(alloc, digest)?;
-    out.extend_from_slice(text.as_bytes())
 }

@@ -44,17 +44,19 @@ accepted_least Instance sound g a b l steps made sealed is derives w x world inp
 
 -- ---- the first steps
 
-next_steps : (steps : List Step) (n : ℕ) (s : Step) → slice_get steps n ≡ Some s → first_steps (suc n) steps ≡ s ∷ first_steps n steps
+-- with one step more, that step is the last
+pub next_steps : (steps : List Step) (n : ℕ) (s : Step) → slice_get steps n ≡ Some s → first_steps (suc n) steps ≡ s ∷ first_steps n steps
 next_steps steps n s e =
     let low : n < length steps = slice_get_within steps n s e in
     let one : get_or steps n s ≡ s = same_Some _ _ (sym (slice_get-get_or steps n s low) ∙ e) in
     ap reverse (take-suc steps n s low) ∙ reverse-append (take n steps) (get_or steps n s ∷ []) ∙ ap (λ (y : Step). y ∷ reverse (take n steps)) one
 
-whole : (steps : List Step) → first_steps (length steps) steps ≡ reverse steps
-whole steps = ap reverse (take_all (length steps) steps (omega arith))
+-- as many as there are: all steps
+pub whole_steps : (steps : List Step) → first_steps (length steps) steps ≡ reverse steps
+whole_steps steps = ap reverse (take_all (length steps) steps (omega arith))
 
 -- where the first steps are right, so is each of them
-right_at : (Instance : Instances) (g : Graph) (steps : List Step) (n m : ℕ) → n ≤ length steps → AllRight Instance g (first_steps n steps) → m < n → (s : Step) → slice_get steps m ≡ Some s → Right Instance g (first_steps m steps) s
+pub right_at : (Instance : Instances) (g : Graph) (steps : List Step) (n m : ℕ) → n ≤ length steps → AllRight Instance g (first_steps n steps) → m < n → (s : Step) → slice_get steps m ≡ Some s → Right Instance g (first_steps m steps) s
 right_at Instance g steps zero m le all low s e = absurd (omega (arith, low))
 right_at Instance g steps (suc n) m le all low s e =
     let last = found steps n (omega (arith, le)) in
@@ -76,8 +78,8 @@ accepted_not_rejected Instance g a b steps n derives rejects = go rejects.wrong
   where
     go : ((s : Step) × (slice_get steps rejects.before ≡ Some s) × (Right Instance g (first_steps rejects.before steps) s → ⊥))
         ⊎ ((rejects.before ≡ length steps) × (IsConcluded (first_steps rejects.before steps) a b → ⊥)) → ⊥
-    go (inl h) = h.2 (right_at Instance g steps (length steps) rejects.before (omega arith) (subst (AllRight Instance g) (sym (whole steps)) derives.0) (slice_get_within steps rejects.before h.0 h.1) h.0 h.1)
-    go (inr h) = h.1 (subst (λ (q : List Step). IsConcluded q a b) (sym (ap (λ (k : ℕ). first_steps k steps) h.0 ∙ whole steps)) derives.1)
+    go (inl h) = h.2 (right_at Instance g steps (length steps) rejects.before (omega arith) (subst (AllRight Instance g) (sym (whole_steps steps)) derives.0) (slice_get_within steps rejects.before h.0 h.1) h.0 h.1)
+    go (inr h) = h.1 (subst (λ (q : List Step). IsConcluded q a b) (sym (ap (λ (k : ℕ). first_steps k steps) h.0 ∙ whole_steps steps)) derives.1)
 
 -- the steps before the wrong one are within the section
 before_within : (Instance : Instances) (g : Graph) (a b : ℕ) (steps : List Step) (n : ℕ) (r : Rejects Instance g a b steps n) → r.before ≤ length steps

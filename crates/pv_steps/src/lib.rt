@@ -24,4 +24,4 @@
 
 mod step;
 
-pub use step::{Congruence, Congruences, Fact, FactPairs, NodePairs, Reason, Reasons, Step, Steps};
+pub use step::{Congruence, Fact, Reason, Step};

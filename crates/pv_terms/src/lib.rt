@@ -10,8 +10,8 @@
 //! The layers above use the laws of `laws`: a node stands for one expression (`law_once`); what nodes
 //! stand for stays as the graph grows and thetas are tied (`law_stand`); once each name has its kids, a
 //! node unfolds as its expression (`law_tying`), as the root of a method must; and while a loop is made
-//! whose inner loops are tied, `Graph::free` tells whether the depth of the loop is free in an expression
-//! (`law_free`). The contracts of `over`, `both`, `begin_name`, `out` and `token_out` say, for whatever the
+//! whose inner loops are tied, `Graph::free_growing` tells whether the depth of the loop is free in an
+//! expression (`law_free`). The contracts of `over`, `both`, `begin_name`, `out` and `token_out` say, for whatever the
 //! kids stand for, what the new node stands for and its sort, and that the graph only grows (`specs/Terms`).
 //! `fold` does so with a decision tree, node by node (`specs/Fold`).
 #![tactic(auto)]

@@ -133,7 +133,7 @@ pub fn out(
     ensures sort { IfOk result (λ r. KeepsSort g.old n g.new r) }
     ensures grows { GrowsBy (IsFlatOrOut depth) g.old g.new }
 {
-    if !g.free(alloc, n, depth)? {
+    if !g.free_growing(alloc, n, depth)? {
         return Ok(n);
     }
     last(alloc, g, depth, ending, n)

@@ -5,7 +5,7 @@ use Rattle.std.proofs.lemmas.Bool.Decides.{Decides-eqb}
 use Rattle.std.proofs.lemmas.Slice.Eq.{slice_eq-Decides}
 use Rattle.pv_format.proofs.Cited.{reads_it}
 use Rattle.pv_token.specs.Tokens.{u32_token, int_token, long_token}
-use Rattle.std.specs.Prelude.{decimal, ℤ}
+use Rattle.std.specs.Prelude.{decimal, ℤ, FitsSigned}
 use Rattle.std.specs.Fmt.{signed_decimal}
 use Rattle.std.specs.Int.{w32, w64}
 use Rattle.std.specs.Int.Signed.{mag}
@@ -24,11 +24,11 @@ signed_utf8 z word lt e = subst IsUtf8 (sym e) (IsUtf8-from_ascii (signed_decima
 pub u32_parsed : {E : Type 0} (n : ℕ) (word text : List ℕ) (r : Result ℕ E) (o : Option ℕ) → n < 2 ^ 32 → word ≡ decimal n → text ≡ word → ParsesUnsigned 32 10 text r → o ≡ result_ok r → o ≡ Some n
 u32_parsed n word text r o lt e same parses is = is ∙ ap result_ok (parse-decimal 32 n text r lt (omega arith) (same ∙ e) parses)
 
-pub int_parsed : {E : Type 0} (z : ℤ) (word text : List ℕ) (r : Result ℤ E) (o : Option ℤ) → mag z < 2 ^ 31 → word ≡ signed_decimal z → text ≡ word → ParsesSigned w32 10 text r → o ≡ result_ok r → o ≡ Some z
-int_parsed z word text r o lt e same parses is = is ∙ ap result_ok (parse-signed_decimal w32 z text r (record { sfits = lt }) (omega arith) (same ∙ e) parses)
+pub int_parsed : {E : Type 0} (z : ℤ) (word text : List ℕ) (r : Result ℤ E) (o : Option ℤ) → FitsSigned w32 z → word ≡ signed_decimal z → text ≡ word → ParsesSigned w32 10 text r → o ≡ result_ok r → o ≡ Some z
+int_parsed z word text r o fits e same parses is = is ∙ ap result_ok (parse-signed_decimal w32 z text r fits (omega (arith, fits.sfits)) (same ∙ e) parses)
 
-pub long_parsed : {E : Type 0} (z : ℤ) (word text : List ℕ) (r : Result ℤ E) (o : Option ℤ) → mag z < 2 ^ 63 → word ≡ signed_decimal z → text ≡ word → ParsesSigned w64 10 text r → o ≡ result_ok r → o ≡ Some z
-long_parsed z word text r o lt e same parses is = is ∙ ap result_ok (parse-signed_decimal w64 z text r (record { sfits = lt }) lt (same ∙ e) parses)
+pub long_parsed : {E : Type 0} (z : ℤ) (word text : List ℕ) (r : Result ℤ E) (o : Option ℤ) → FitsSigned w64 z → word ≡ signed_decimal z → text ≡ word → ParsesSigned w64 10 text r → o ≡ result_ok r → o ≡ Some z
+long_parsed z word text r o fits e same parses is = is ∙ ap result_ok (parse-signed_decimal w64 z text r fits fits.sfits (same ∙ e) parses)
 
 -- ---- what is written as the word is read
 
@@ -38,8 +38,8 @@ same_text text word e = sym ((slice_eq-Decides Decides-eqb text word (pointwise 
 pub u32_read : (n : ℕ) (text word : List ℕ) → n < 2 ^ 32 → text ≡ decimal n → pointwise ◌==◌ text word ≡ true → Some n ≡ u32_token.reads word
 u32_read n text word lt is e = sym (reads_it u32_token word n lt (same_text text word e ∙ is))
 
-pub int_read : (z k : ℤ) (text word : List ℕ) → mag z < 2 ^ 31 → k ≡ z → text ≡ signed_decimal k → pointwise ◌==◌ text word ≡ true → Some k ≡ int_token.reads word
-int_read z k text word lt same is e = sym (reads_it int_token word k (subst (λ z. mag z < 2 ^ 31) (sym same) lt) (same_text text word e ∙ is))
+pub int_read : (z k : ℤ) (text word : List ℕ) → FitsSigned w32 z → k ≡ z → text ≡ signed_decimal k → pointwise ◌==◌ text word ≡ true → Some k ≡ int_token.reads word
+int_read z k text word fits same is e = sym (reads_it int_token word k (subst (FitsSigned w32) (sym same) fits) (same_text text word e ∙ is))
 
-pub long_read : (z k : ℤ) (text word : List ℕ) → mag z < 2 ^ 63 → k ≡ z → text ≡ signed_decimal k → pointwise ◌==◌ text word ≡ true → Some k ≡ long_token.reads word
-long_read z k text word lt same is e = sym (reads_it long_token word k (subst (λ z. mag z < 2 ^ 63) (sym same) lt) (same_text text word e ∙ is))
+pub long_read : (z k : ℤ) (text word : List ℕ) → FitsSigned w64 z → k ≡ z → text ≡ signed_decimal k → pointwise ◌==◌ text word ≡ true → Some k ≡ long_token.reads word
+long_read z k text word fits same is e = sym (reads_it long_token word k (subst (FitsSigned w64) (sym same) fits) (same_text text word e ∙ is))

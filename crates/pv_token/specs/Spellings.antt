@@ -1,10 +1,16 @@
 -- How texts are spelled, and what their spellings mean.
-use Rattle.std.specs.Prelude.{ℕ, ◌<◌, Bool, List, [], ◌∷◌, length, codes, nat_lt, nat_le, ◌==◌, ◌&&◌, not, if◌then◌else◌, Result, Ok, Err}
+use Rattle.std.specs.Prelude.{ℕ, ◌^◌, ◌<◌, ℤ, pos, neg_ℤ, int_le, int_lt, Bool, List, [], ◌∷◌, length, codes, nat_lt, nat_le, ◌==◌, ◌&&◌, not, if◌then◌else◌, Result, Ok, Err}
+use Rattle.std.specs.Int.{Width}
+use mir.Val.{hbits}
 use Rattle.std.specs.List.{flat_map, AllByRecursion, list_all}
 use Rattle.std.specs.Str.{bytes_eq}
 use Rattle.hex.specs.Hex.{decode_sized}
 use Rattle.hex.specs.declared.error.FromHexError.{FromHexError}
 use Rattle.percent_encoding.specs.Percent.{percent_encode_byte, percent_decode}
+
+-- whether a number fits this width with a sign: from -2^31 to 2^31 - 1 at 32 bits, from -2^63 to 2^63 - 1 at 64
+abbrev pub fits_signed : Width → ℤ → Bool
+fits_signed w z = int_le (neg_ℤ (pos (2 ^ hbits w))) z && int_lt z (pos (2 ^ hbits w))
 
 -- numbers that are bytes
 abbrev pub AreBytes : List ℕ → Type 0

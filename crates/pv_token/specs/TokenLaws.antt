@@ -1,12 +1,13 @@
 -- Numbers, texts and digests: what is spelled means what it was spelled for, and is a word.
 use Rattle.std.proofs.Common.{◌≡◌, ◌≢◌, ℕ, zero, suc, ◌+◌, ◌*◌, ◌/◌, ◌%◌, ◌^◌, ◌<◌, ◌≤◌, Bool, true, false, cond, eqb, ltb, leb, ◌&&◌, not, List, [], ◌∷◌, ◌++◌, length, drop, refl, sym, ap, ◌∙◌, arith, inl, inr}
-use Rattle.std.specs.Prelude.{codes, decimal, ℤ, pos, negsuc, slice_index, neg_ℤ, ◌==◌, nat_lt}
+use Rattle.std.specs.Prelude.{codes, decimal, ℤ, pos, negsuc, slice_index, neg_ℤ, ◌==◌, nat_lt, FitsSigned}
 use Rattle.std.specs.Fmt.{signed_decimal, digit_glyph}
+use Rattle.std.specs.Int.{w32, w64}
 use Rattle.std.specs.Int.Signed.{mag}
 use Rattle.std.specs.List.{flat_map}
 use Rattle.std.specs.Str.{bytes_eq}
 use Rattle.std.specs.Str.Parse.{digits_value, signed_digits_value}
-use Rattle.std.proofs.lemmas.Bool.{lt-ltb, ltb-true, leb-true, eqb-true, eq-eqb, ne_eqb, not-true, and_parts, and_from, cond-true, cond-false, cases_Bool, cases_lt, cond_both}
+use Rattle.std.proofs.lemmas.Bool.{lt-ltb, le-leb, ltb-true, leb-true, eqb-true, eq-eqb, ne_eqb, not-true, and_parts, and_from, cond-true, cond-false, cases_Bool, cases_lt, cond_both}
 use Rattle.std.proofs.lemmas.Slice.Eq.{bytes_eq-Decides}
 use Rattle.std.proofs.lemmas.Fmt.{decimal_digit, decimal_by_steps, decimal_is_IsNumeral, first_decimal}
 use Rattle.hex.specs.Hex.{encode_lower, encode_with, lower_digits, IsBytes}
@@ -15,7 +16,7 @@ use Rattle.percent_encoding.specs.Percent.{percent_encode_byte, percent_decode}
 use Rattle.percent_encoding.proofs.PercentLemmas.{percent_decode-nil, percent_decode-percent_encode_byte, percent_decode_not_percent}
 use Rattle.pv_format.specs.Reading.{IsCanonical}
 use Rattle.pv_token.specs.Words.{is_word, IsWord}
-use Rattle.pv_token.specs.Spellings.{AreBytes, are_bytes, is_plain, shown_byte, shown_bytes, meant_bytes, are_digest, decoded, meant_digits}
+use Rattle.pv_token.specs.Spellings.{fits_signed, AreBytes, are_bytes, is_plain, shown_byte, shown_bytes, meant_bytes, are_digest, decoded, meant_digits}
 
 -- ---- words
 
@@ -60,20 +61,36 @@ signed_meant (pos zero) lt = ap (signed_digits_value 10) (decimal_digit 0 (omega
 signed_meant (pos (suc n)) lt = unsigned_value (decimal (suc n)) (suc n) (first_decimal (suc n) (omega arith) (omega arith)) (decimal_is_IsNumeral (suc n) (omega arith)).1
 signed_meant (negsuc n) lt = ap (λ (k : ℕ). neg_ℤ (pos k)) (decimal_is_IsNumeral (suc n) (omega arith)).1
 
-pub int_canonical : IsCanonical IsWord (λ z. mag z < 2 ^ 31) (λ z. nat_lt (mag z) (2 ^ 31)) signed_decimal (signed_digits_value 10)
+int_passes : (z : ℤ) → FitsSigned w32 z → fits_signed w32 z ≡ true
+int_passes (pos n) fits = lt-ltb n (2 ^ 31) fits.sfits
+int_passes (negsuc n) fits = let below : n < 2 ^ 31 = fits.sfits in and_from (leb n 2147483647) true (le-leb n 2147483647 (omega arith)) refl
+
+int_passed : (z : ℤ) → fits_signed w32 z ≡ true → FitsSigned w32 z
+int_passed (pos n) e = record { sfits = ltb-true n (2 ^ 31) e }
+int_passed (negsuc n) e = let low : n ≤ 2147483647 = leb-true n 2147483647 (and_parts (leb n 2147483647) true e).0 in record { sfits = omega arith }
+
+pub int_canonical : IsCanonical IsWord (FitsSigned w32) (fits_signed w32) signed_decimal (signed_digits_value 10)
 int_canonical = record {
-  passes = λ z lt. lt-ltb (mag z) (2 ^ 31) lt;
-  passed = λ z e. ltb-true (mag z) (2 ^ 31) e;
-  meant = λ z lt. signed_meant z (omega arith);
-  proper = λ z lt. signed_word z (omega arith);
+  passes = int_passes;
+  passed = int_passed;
+  meant = λ z fits. signed_meant z (omega (arith, fits.sfits));
+  proper = λ z fits. signed_word z (omega (arith, fits.sfits));
 }
 
-pub long_canonical : IsCanonical IsWord (λ z. mag z < 2 ^ 63) (λ z. nat_lt (mag z) (2 ^ 63)) signed_decimal (signed_digits_value 10)
+long_passes : (z : ℤ) → FitsSigned w64 z → fits_signed w64 z ≡ true
+long_passes (pos n) fits = lt-ltb n (2 ^ 63) fits.sfits
+long_passes (negsuc n) fits = let below : n < 2 ^ 63 = fits.sfits in and_from (leb n 9223372036854775807) true (le-leb n 9223372036854775807 (omega arith)) refl
+
+long_passed : (z : ℤ) → fits_signed w64 z ≡ true → FitsSigned w64 z
+long_passed (pos n) e = record { sfits = ltb-true n (2 ^ 63) e }
+long_passed (negsuc n) e = let low : n ≤ 9223372036854775807 = leb-true n 9223372036854775807 (and_parts (leb n 9223372036854775807) true e).0 in record { sfits = omega arith }
+
+pub long_canonical : IsCanonical IsWord (FitsSigned w64) (fits_signed w64) signed_decimal (signed_digits_value 10)
 long_canonical = record {
-  passes = λ z lt. lt-ltb (mag z) (2 ^ 63) lt;
-  passed = λ z e. ltb-true (mag z) (2 ^ 63) e;
-  meant = signed_meant;
-  proper = signed_word;
+  passes = long_passes;
+  passed = long_passed;
+  meant = λ z fits. signed_meant z fits.sfits;
+  proper = λ z fits. signed_word z fits.sfits;
 }
 
 -- ---- bytes
@@ -115,7 +132,7 @@ shown_byte_word b =
       | inr other ↦ ap is_word (cond-false (is_plain b) (b ∷ []) (percent_encode_byte b) other) ∙ escape_word b
     ]
 
-shown_word : (bytes : List ℕ) → IsWord (shown_bytes bytes)
+pub shown_word : (bytes : List ℕ) → IsWord (shown_bytes bytes)
 shown_word [] = refl
 shown_word (b ∷ bytes) = bytes_word shown_byte shown_byte_word (b ∷ bytes)
 
@@ -138,7 +155,7 @@ empty_only bytes fits e =
     let escape : length (flat_map shown_byte (codes "%-")) ≡ 4 = refl in
     absurd (omega (arith, long, escape))
 
-shown_meant : (bytes : List ℕ) → AreBytes bytes → meant_bytes (shown_bytes bytes) ≡ bytes
+pub shown_meant : (bytes : List ℕ) → AreBytes bytes → meant_bytes (shown_bytes bytes) ≡ bytes
 shown_meant [] fits = refl
 shown_meant (b ∷ bytes) fits =
     let word : List ℕ = flat_map shown_byte (b ∷ bytes) in

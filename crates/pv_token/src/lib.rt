@@ -9,7 +9,8 @@
 //! `Token` is the trait of what is one word: its `read` is exactly the reading of its format, and its `push` appends
 //! exactly the spelling. `Number`, `Int`, `Long` and `Digest` are tokens; `take`, `read_each` and `read_pairs` read words
 //! of any token, and `push`, `push_each` and `push_pairs` write them, each after a blank. `read_shown` and `push_shown`
-//! do the same for texts, for which they need memory.
+//! do the same for texts, for which they need memory. `push_decimal` appends a number of any size, which the lines of
+//! reports have among other words.
 #![tactic(auto)]
 
 mod digest;
@@ -19,7 +20,7 @@ mod text;
 mod token;
 
 pub use digest::Digest;
-pub use number::{Int, Long, Number};
+pub use number::{Int, Long, Number, push_decimal};
 pub use phrase::{push, push_each, push_pairs, read_each, read_pairs, take};
 pub use text::{push_shown, read_shown};
 pub use token::Token;

@@ -1,8 +1,8 @@
 //! Numbers as words: decimal, without leading zeros, and with `-` before a negative number alone.
 
-ghost use Rattle.std.specs.Prelude.{◌≡◌, ℕ, ◌<◌, ◌^◌, ℤ, decimal, Some, IfSome};
+ghost use Rattle.std.specs.Prelude.{◌≡◌, ◌++◌, ℕ, ◌<◌, ◌^◌, ℤ, decimal, Some, IfSome, OnOk, FitsSigned};
 ghost use Rattle.std.specs.Fmt.{signed_decimal};
-ghost use Rattle.std.specs.Int.Signed.{mag};
+ghost use Rattle.std.specs.Int.{w32, w64};
 
 use crate::token::Token;
 use itoa::Buffer;
@@ -22,8 +22,8 @@ fn u32_in(word: &[u8]) -> Option<u32>
 
 // The number that a word writes, if that is an int.
 fn int_in(word: &[u8]) -> Option<i32>
-    ensures fits { IfSome result (λ z. mag z < 2 ^ 31) }
-    ensures parsed { (z : ℤ) → mag z < 2 ^ 31 → word.now ≡ signed_decimal z → result ≡ Some z }
+    ensures fits { IfSome result (FitsSigned w32) }
+    ensures parsed { (z : ℤ) → FitsSigned w32 z → word.now ≡ signed_decimal z → result ≡ Some z }
 {
     match str::from_utf8(word) {
         Err(_) => None,
@@ -33,13 +33,20 @@ fn int_in(word: &[u8]) -> Option<i32>
 
 // The number that a word writes, if that is a long.
 fn long_in(word: &[u8]) -> Option<i64>
-    ensures fits { IfSome result (λ z. mag z < 2 ^ 63) }
-    ensures parsed { (z : ℤ) → mag z < 2 ^ 63 → word.now ≡ signed_decimal z → result ≡ Some z }
+    ensures fits { IfSome result (FitsSigned w64) }
+    ensures parsed { (z : ℤ) → FitsSigned w64 z → word.now ≡ signed_decimal z → result ≡ Some z }
 {
     match str::from_utf8(word) {
         Err(_) => None,
         Ok(text) => text.parse::<i64>().ok(),
     }
+}
+
+/// Adds a number at the end, in decimal.
+pub fn push_decimal(out: &mut Vec<u8>, n: usize) -> Result<(), AllocError>
+    ensures { OnOk result (out.new.items ≡ out.old.items ++ decimal n) }
+{
+    out.extend_from_slice(Buffer::new().format(n).as_bytes())
 }
 
 /// A number from 0 to 4294967295.
@@ -62,7 +69,7 @@ impl Token for Number {
     }
 
     fn push(out: &mut Vec<u8>, value: u32) -> Result<(), AllocError> {
-        out.extend_from_slice(Buffer::new().format(value).as_bytes())
+        push_decimal(out, value as usize)
     }
 }
 

@@ -14,7 +14,8 @@ use Rattle.pv_report.specs.declared.verdict.Side.{Side}
 use Rattle.pv_report.specs.declared.verdict.Side.TheVariants as side
 use Rattle.pv_report.specs.declared.verdict.Verdict.{Verdict}
 use Rattle.pv_report.specs.declared.verdict.Verdict.TheVariants as verdict
-use Rattle.pv_report.specs.Lines.{shown, kind_word, cause_text, side_word, verdict_text, method_text, line_of, line_text}
+use Rattle.pv_token.specs.Spellings.{shown_bytes}
+use Rattle.pv_report.specs.Lines.{kind_word, cause_text, side_word, verdict_text, method_text, line_of, line_text}
 use Rattle.pv_report.specs.Listed.{lines_by}
 use Rattle.pv_top.specs.Promise.{IsLineOf, EndsWith}
 use Rattle.pv_top.proofs.WholeLines.{IsWhole, no_line_of_nothing, first_or_later}
@@ -24,7 +25,7 @@ use Rattle.pv_report.proofs.Cited.{lacks_append, shown_lacks}
 pub whole_append : (a b : List ℕ) → IsWhole a → IsWhole b → IsWhole (a ++ b)
 whole_append = lacks_append 10
 
-whole_shown : (bytes : List ℕ) → IsWhole (shown bytes)
+whole_shown : (bytes : List ℕ) → IsWhole (shown_bytes bytes)
 whole_shown bytes = shown_lacks 10 bytes (omega arith)
 
 -- ---- a text that is known has no line feed where a test says so
@@ -84,7 +85,7 @@ whole_verdict verdict.Apart = tested (codes "unknown apart") refl
 pub whole_method : (name desc : List ℕ) → IsWhole (method_text name desc)
 whole_method name desc =
     let blank = tested (codes " ") refl in
-    whole_append (shown name ++ codes " " ++ shown desc) (codes " ") (whole_append (shown name ++ codes " ") (shown desc) (whole_append (shown name) (codes " ") (whole_shown name) blank) (whole_shown desc)) blank
+    whole_append (shown_bytes name ++ codes " " ++ shown_bytes desc) (codes " ") (whole_append (shown_bytes name ++ codes " ") (shown_bytes desc) (whole_append (shown_bytes name) (codes " ") (whole_shown name) blank) (whole_shown desc)) blank
 
 pub whole_line : (m : Method) (v : Verdict) → IsWhole (line_of m v)
 whole_line m v = whole_append (method_text m.name m.desc) (verdict_text v) (whole_method m.name m.desc) (whole_verdict v)

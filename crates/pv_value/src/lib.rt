@@ -1,7 +1,7 @@
 //! Values of the virtual machine: names, numbers and the operations on them, heaps, worlds, inputs
 //! and descriptors.
 //!
-//! This is the lowest layer and stands on nothing. `specs/` holds what the values mean:
+//! This layer stands on `pv_list` alone, which has lists. `specs/` holds what the values mean:
 //!
 //! - `Operations`: the 33 operations on ints and longs, what each takes and gives, and its value
 //!   (JVMS 6.5). `scalar` meets it.
@@ -40,11 +40,11 @@ mod receiver;
 mod tables;
 mod world;
 
-pub use descriptor::{Descriptor, JType, JTypes, read_descriptor, read_field_type};
+pub use descriptor::{Descriptor, JType, read_descriptor, read_field_type};
 pub use heap::{Heap, Kind, Loc};
 pub use memory::Memory;
 pub use name::{Name, Sym};
-pub use number::{Num, Nums};
+pub use number::Num;
 pub use operation::{ScalarOp, scalar};
 pub use outcome::{Fault, Input, Outcome, Val};
 pub use receiver::{Form, MARK, receiver_sym};

@@ -1,7 +1,8 @@
 use Rattle.pv_alike.proofs.laws.law_least.Goals as goal
 use Rattle.pv_alike.proofs.Search.{once, roots_one, keeps_rule}
 use Rattle.pv_alike.proofs.Fewest.{least_fewest}
-use Rattle.pv_alike.proofs.Made.{one_sort, least_made}
+use Rattle.pv_alike.proofs.Sorts.{one_sort}
+use Rattle.pv_alike.proofs.Made.{least_made}
 
 pub returns : goal.returns
 returns c = record {
@@ -9,6 +10,6 @@ returns c = record {
   roots = roots_one;
   fewest = least_fewest;
   rule = keeps_rule;
-  sort = λ g a b s t made closed same e f. one_sort g made.graph closed made.rule a b s t same e f;
+  sort = λ g a b s t made closed same e f. one_sort g g made.graph made.graph closed closed made.rule a b s t same e f;
   made = least_made;
 }

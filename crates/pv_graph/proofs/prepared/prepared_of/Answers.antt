@@ -1,11 +1,12 @@
 use Rattle.std.proofs.Common.{◌+◌, ◌∷◌, ◌∙◌, ℕ, Bool, [], List, Vec, length, length-append, sym, ap, subst}
 use Rattle.std.specs.declared.alloc.Global.{Global}
 use Rattle.pv_graph.specs.Reach.{Uses, AreUses, AreOut}
+use Rattle.pv_graph.proofs.Reaching.{uses_all}
 use Rattle.pv_graph.proofs.Marking.{Searches, searches_more}
 use Rattle.pv_graph.proofs.prepared.prepared_of.Goals as goal
 
 pub marks_of-requires-clause-uses : goal.marks_of-requires-clause-uses
-marks_of-requires-clause-uses c = subst (λ (uses : Uses). AreUses c.args.nodes.now c.as_slice-out.result.now uses) (sym c.as_slice-uses.ensures.value) c.in_ok-uses.ensures.uses
+marks_of-requires-clause-uses c = subst (λ (uses : Uses). AreUses c.args.nodes.now c.as_slice-out.result.now uses) (sym c.as_slice-uses.ensures.value) (uses_all c.args.nodes.now c.as_slice-out.result.now c.in_ok-uses.uses.items c.in_ok-uses.ensures.uses)
 
 pub loop-d-preserved : goal.loop-d-preserved
 loop-d-preserved c = record {
@@ -19,4 +20,4 @@ loop-d-preserved c = record {
 }
 
 pub marks_of-requires-2-clause-uses : goal.marks_of-requires-2-clause-uses
-marks_of-requires-2-clause-uses c = subst (λ (uses : Uses). AreUses c.args.nodes.now c.as_slice-out.result.now uses) (sym c.as_slice-uses.ensures.value) c.in_ok-uses.ensures.uses
+marks_of-requires-2-clause-uses c = subst (λ (uses : Uses). AreUses c.args.nodes.now c.as_slice-out.result.now uses) (sym c.as_slice-uses.ensures.value) (uses_all c.args.nodes.now c.as_slice-out.result.now c.in_ok-uses.uses.items c.in_ok-uses.ensures.uses)

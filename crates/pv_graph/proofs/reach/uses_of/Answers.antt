@@ -8,7 +8,7 @@ use Rattle.pv_graph.proofs.reach.uses_of.Goals as goal
 use Rattle.pv_graph.proofs.reach.uses_of.Goals.{then-not-out-n+in_ok-add_uses, else-not-out-n}
 
 pub loop-n-init : goal.loop-n-init
-loop-n-init c = record { len = c.in_ok-uses.ensures.len; uses = uses_begin c.args.nodes.now c.args.out.now c.in_ok-uses.uses.items c.in_ok-uses.ensures.none }
+loop-n-init c = record { len = c.in_ok-uses.ensures.len; uses = uses_begin c.args.first c.args.nodes.now c.args.out.now c.in_ok-uses.uses.items c.in_ok-uses.ensures.none }
 
 module _ (c : goal.Joined-not-out-n) where
   at : slice_get c.args.nodes.now c.loop-n.n ≡ Some c.index-nodes-n.result
@@ -18,7 +18,7 @@ module _ (c : goal.Joined-not-out-n) where
   out_at = slice_get-get_or c.args.out.now c.loop-n.n false (omega (arith, c.loop-n-test.true, c.requires.out))
 
   abbrev Kept : Vec (Vec Use Global) Global → Type 0
-  Kept uses = record { len : vec_len uses ≡ length c.args.nodes.now; uses : AreUsesOf c.args.nodes.now c.args.out.now (c.loop-n.n + 1) uses.items }
+  Kept uses = record { len : vec_len uses ≡ length c.args.nodes.now; uses : AreUsesOf c.args.first c.args.nodes.now c.args.out.now (c.loop-n.n + 1) uses.items }
 
 pub loop-n-preserved : goal.loop-n-preserved
 loop-n-preserved c =
@@ -28,13 +28,13 @@ loop-n-preserved c =
           subst (Kept c) (sym w.uses-is)
           (record {
             len = w.add_uses.ensures.len ∙ c.loop-n.invariant.len;
-            uses = uses_more c.args.nodes.now c.args.out.now c.loop-n.n c.index-nodes-n.result (get_or c.args.out.now c.loop-n.n false) (at c) (out_at c) c.loop-n.uses.items w.add_uses.new.uses.items w.if-not-out-n.true c.loop-n.invariant.uses
-                (subst (λ (ks : List ℕ). Grows c.loop-n.uses.items w.add_uses.new.uses.items c.loop-n.n ks) kids w.in_ok-add_uses.ensures.grows);
+            uses = uses_more c.args.first c.args.nodes.now c.args.out.now c.loop-n.n c.index-nodes-n.result (get_or c.args.out.now c.loop-n.n false) (at c) (out_at c) c.loop-n.uses.items w.add_uses.new.uses.items w.if-not-out-n.true c.loop-n.invariant.uses
+                (subst (λ (ks : List ℕ). Grows c.args.first c.loop-n.uses.items w.add_uses.new.uses.items c.loop-n.n ks) kids w.in_ok-add_uses.ensures.grows);
           })
       | else-not-out-n w ↦
           subst (Kept c) (sym w.uses-is)
-          (record { len = c.loop-n.invariant.len; uses = uses_same c.args.nodes.now c.args.out.now c.loop-n.n c.index-nodes-n.result (get_or c.args.out.now c.loop-n.n false) (at c) (out_at c) c.loop-n.uses.items w.if-not-out-n.false c.loop-n.invariant.uses })
+          (record { len = c.loop-n.invariant.len; uses = uses_same c.args.first c.args.nodes.now c.args.out.now c.loop-n.n c.index-nodes-n.result (get_or c.args.out.now c.loop-n.n false) (at c) (out_at c) c.loop-n.uses.items w.if-not-out-n.false c.loop-n.invariant.uses })
     ]
 
 pub returns-clause-uses : goal.returns-clause-uses
-returns-clause-uses c = uses_end c.args.nodes.now c.args.out.now c.loop-n.n c.loop-n.uses.items c.loop-n-test.false c.loop-n.invariant.uses
+returns-clause-uses c = uses_end c.args.first c.args.nodes.now c.args.out.now c.loop-n.n c.loop-n.uses.items c.loop-n-test.false c.loop-n.invariant.uses

@@ -12,7 +12,7 @@ use Rattle.pv_graph.proofs.graph.Graph.add.Goals as goal
 pub returns-in-Some-clause-ok : goal.returns-in-Some-clause-ok
 returns-in-Some-clause-ok c =
     subst (λ (g : Graph). Added g g c.args.op c.args.kids.now c.in-Some.n) c.self.view_is
-    (there_added (graph_of c.self.inside.nodes.items c.self.inside.sorts.items c.self.inside.is_open c.self.inside.base c.self.inside.prepared) c.self.inside.index.numbers c.self.inside.prepared c.args.op c.args.kids.now c.in-Some.n c.self.invariant
+    (there_added (graph_of c.self.inside.nodes.items c.self.inside.sorts.items c.self.inside.is_open c.self.inside.base c.self.inside.prepared) c.self.inside.index.numbers c.self.inside.prepared c.args.op c.args.kids.now c.in-Some.n c.self.invariant.kept
     (subst (λ (g : Graph). MayAdd g c.args.op) (sym c.self.view_is) c.requires.theta)
     (ap (number_in c.self.inside.index.numbers) (sym c.in_ok-node.ensures) ∙ sym c.in-Some.ensures))
 

@@ -5,13 +5,17 @@ use Rattle.pv_graph.specs.Graphs.{Graph}
 use Rattle.pv_graph.specs.Calls.{Added}
 use Rattle.pv_graph.specs.Kept.{graph_of, IsKept}
 use Rattle.pv_graph.proofs.Keeping.{same_parts, kept_same, kept_append, append_gives}
+use Rattle.pv_graph.specs.Known.{AreKnown}
+use Rattle.pv_graph.proofs.Knowing.{graph_shut, known_more}
 use Rattle.pv_graph.proofs.graph.Graph.append.Goals as goal
 
 pub invariant_of-self-in_err-insert : goal.invariant_of-self-in_err-insert
-invariant_of-self-in_err-insert c =
-    kept_same _ _ c.self.inside.index.numbers c.insert.new.self.numbers c.self.inside.prepared c.self.invariant
-    (same_parts c.reserve.new.nodes.items c.self.inside.nodes.items c.reserve.new.sorts.items c.self.inside.sorts.items c.self.inside.is_open c.self.inside.base c.self.inside.prepared c.reserve.ensures.nodes c.reserve.ensures.sorts)
-    c.in_err-insert.ensures.err
+invariant_of-self-in_err-insert c = record {
+  kept = kept_same _ _ c.self.inside.index.numbers c.insert.new.self.numbers c.self.inside.prepared c.self.invariant.kept
+      (same_parts c.reserve.new.nodes.items c.self.inside.nodes.items c.reserve.new.sorts.items c.self.inside.sorts.items c.self.inside.is_open c.self.inside.base c.self.inside.prepared c.reserve.ensures.nodes c.reserve.ensures.sorts)
+      c.in_err-insert.ensures.err;
+  free = subst (λ (nodes : List Node). AreKnown nodes c.self.inside.known) (sym c.reserve.ensures.nodes) c.self.invariant.free;
+}
 
 module _ (c : goal.After-self-then-self-1) where
   abbrev after_then : Graph
@@ -30,8 +34,13 @@ module _ (c : goal.After-self-then-self-1) where
   kept_then =
       let small : c.len-n.result + 1 < 2 ^ 32 = subst (λ (k : ℕ). k + 1 < 2 ^ 32) (sym c.len-n.ensures) c.in_ok-reserve.ensures.few in
       kept_append (graph_of c.self.inside.nodes.items c.self.inside.sorts.items c.self.inside.is_open c.self.inside.base c.self.inside.prepared) c.args.self.now after_then
-      c.self.inside.index.numbers c.insert.new.self.numbers c.self.inside.prepared c.args.node c.in_ok-copy.copy c.args.sort c.len-n.result c.self.invariant c.self.view_is
+      c.self.inside.index.numbers c.insert.new.self.numbers c.self.inside.prepared c.args.node c.in_ok-copy.copy c.args.sort c.len-n.result c.self.invariant.kept c.self.view_is
       c.requires.absent c.requires.tied c.requires.sorted c.requires.ranged number_then small c.in_ok-copy.ensures c.in_ok-insert.ensures.ok nodes_then sorts_then refl true c.if-self.true refl
+
+  known_then : AreKnown c.put.new.nodes.items c.self.inside.known
+  known_then =
+      subst (λ (nodes : List Node). AreKnown nodes c.self.inside.known) (sym nodes_then)
+      (known_more c.self.inside.nodes.items c.args.node (graph_shut (graph_of c.self.inside.nodes.items c.self.inside.sorts.items c.self.inside.is_open c.self.inside.base c.self.inside.prepared) c.self.invariant.kept.graph) c.self.inside.known c.self.invariant.free)
 
   added_then : Added c.args.self.now after_then c.args.node.op c.args.node.kids c.len-n.result
   added_then =
@@ -55,8 +64,13 @@ module _ (c : goal.Else-self) where
   kept_else =
       let small : c.len-n.result + 1 < 2 ^ 32 = subst (λ (k : ℕ). k + 1 < 2 ^ 32) (sym c.len-n.ensures) c.in_ok-reserve.ensures.few in
       kept_append (graph_of c.self.inside.nodes.items c.self.inside.sorts.items c.self.inside.is_open c.self.inside.base c.self.inside.prepared) c.args.self.now after_else
-      c.self.inside.index.numbers c.insert.new.self.numbers c.self.inside.prepared c.args.node c.in_ok-copy.copy c.args.sort c.len-n.result c.self.invariant c.self.view_is
+      c.self.inside.index.numbers c.insert.new.self.numbers c.self.inside.prepared c.args.node c.in_ok-copy.copy c.args.sort c.len-n.result c.self.invariant.kept c.self.view_is
       c.requires.absent c.requires.tied c.requires.sorted c.requires.ranged number_else small c.in_ok-copy.ensures c.in_ok-insert.ensures.ok nodes_else sorts_else refl false c.if-self.false refl
+
+  known_else : AreKnown c.put.new.nodes.items c.self.inside.known
+  known_else =
+      subst (λ (nodes : List Node). AreKnown nodes c.self.inside.known) (sym nodes_else)
+      (known_more c.self.inside.nodes.items c.args.node (graph_shut (graph_of c.self.inside.nodes.items c.self.inside.sorts.items c.self.inside.is_open c.self.inside.base c.self.inside.prepared) c.self.invariant.kept.graph) c.self.inside.known c.self.invariant.free)
 
   added_else : Added c.args.self.now after_else c.args.node.op c.args.node.kids c.len-n.result
   added_else =
@@ -64,10 +78,10 @@ module _ (c : goal.Else-self) where
       c.requires.absent c.requires.sorted number_else nodes_else sorts_else refl false c.if-self.false refl kept_else.graph
 
 pub invariant_of-self-then-self : goal.invariant_of-self-then-self
-invariant_of-self-then-self c = kept_then c
+invariant_of-self-then-self c = record { kept = kept_then c; free = known_then c }
 
 pub invariant_of-self-else-self : goal.invariant_of-self-else-self
-invariant_of-self-else-self c = kept_else c
+invariant_of-self-else-self c = record { kept = kept_else c; free = known_else c }
 
 pub returns-then-self-clause-ok : goal.returns-then-self-clause-ok
 returns-then-self-clause-ok c = added_then c

@@ -9,7 +9,7 @@ use Rattle.pv_graph.proofs.graph.Graph.free_now.Goals as goal
 
 pub index-requires-in-Some : goal.index-requires-in-Some
 index-requires-in-Some c =
-    let all = c.self.invariant.tables c.in-Some.found c.in-Some.is in
+    let all = c.self.invariant.kept.tables c.in-Some.found c.in-Some.is in
     let low : c.args.d - 1 < length c.in-Some.found.free.items = omega (arith, all.depths, c.if-d-ge1.true, c.if-d-le16.true) in
     let at = slice_get_read c.in-Some.found.free.items (length c.in-Some.found.free.items) (c.args.d - 1) c.index.result.now refl low c.index.ensures in
     let is = all.free (c.args.d - 1) c.index.result.now at in
@@ -17,7 +17,7 @@ index-requires-in-Some c =
 
 pub returns-in-Some : goal.returns-in-Some
 returns-in-Some c =
-    let all = c.self.invariant.tables c.in-Some.found c.in-Some.is in
+    let all = c.self.invariant.kept.tables c.in-Some.found c.in-Some.is in
     let low : c.args.d - 1 < length c.in-Some.found.free.items = omega (arith, all.depths, c.if-d-ge1.true, c.if-d-le16.true) in
     let at = slice_get_read c.in-Some.found.free.items (length c.in-Some.found.free.items) (c.args.d - 1) c.index.result.now refl low c.index.ensures in
     let is = all.free (c.args.d - 1) c.index.result.now at in
@@ -27,7 +27,7 @@ returns-in-Some c =
     (slice_get_read c.index.result.now.items (length c.index.result.now.items) c.args.n c.index-in-Some.result.now refl within c.index-in-Some.ensures))
 
 pub returns-in_default : goal.returns-in_default
-returns-in_default c = no_depth c.args.self.now (subst graphs.IsGraph c.self.view_is c.self.invariant.graph) c.args.d c.args.n (λ r. absurd (omega (arith, r.0, r.1, c.if-d-le16.false)))
+returns-in_default c = no_depth c.args.self.now (subst graphs.IsGraph c.self.view_is c.self.invariant.kept.graph) c.args.d c.args.n (λ r. absurd (omega (arith, r.0, r.1, c.if-d-le16.false)))
 
 pub returns-in_default-2 : goal.returns-in_default-2
-returns-in_default-2 c = no_depth c.args.self.now (subst graphs.IsGraph c.self.view_is c.self.invariant.graph) c.args.d c.args.n (λ r. absurd (omega (arith, r.0, r.1, c.if-d-ge1.false)))
+returns-in_default-2 c = no_depth c.args.self.now (subst graphs.IsGraph c.self.view_is c.self.invariant.kept.graph) c.args.d c.args.n (λ r. absurd (omega (arith, r.0, r.1, c.if-d-ge1.false)))

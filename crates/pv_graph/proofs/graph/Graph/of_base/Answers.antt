@@ -8,9 +8,10 @@ use Rattle.pv_graph.specs.Calls.{AreSorts}
 use Rattle.pv_graph.specs.Index.{IsIndex}
 use Rattle.pv_graph.specs.Kept.{graph_of}
 use Rattle.pv_graph.proofs.Basing.{base_graph}
+use Rattle.pv_graph.proofs.Knowing.{known_none}
 use Rattle.pv_graph.proofs.graph.Graph.of_base.Goals as goal
 
-module _ (c : goal.After-len-2) where
+module _ (c : goal.After-new) where
   long : c.len-2.result ≡ length c.args.nodes.items
   long = c.len-2.ensures ∙ c.args.nodes.ok.0
 
@@ -25,7 +26,10 @@ module _ (c : goal.After-len-2) where
       (subst AreRanged c.deref-2.ensures.value c.see_ranges.ensures))
 
 pub invariant_of-result : goal.invariant_of-result
-invariant_of-result c = record { graph = made c; index = subst (λ (nodes : List Node). IsIndex nodes c.in_ok-index.index.numbers) c.deref-3.ensures.value c.in_ok-index.ensures; tables = λ p e. absurd (let z = e in cc) }
+invariant_of-result c = record {
+  kept = record { graph = made c; index = subst (λ (nodes : List Node). IsIndex nodes c.in_ok-index.index.numbers) c.deref-3.ensures.value c.in_ok-index.ensures; tables = λ p e. absurd (let z = e in cc) };
+  free = known_none c.args.nodes.items c.new.result c.new.ensures.marks c.new.ensures.shut;
+}
 
 pub returns-clause-ok : goal.returns-clause-ok
 returns-clause-ok c = record { nodes_ = refl; sealed = refl; base = long c; graph = made c }

@@ -8,7 +8,7 @@ use Rattle.pv_graph.proofs.graph.Graph.settled_now.Goals as goal
 
 pub returns : goal.returns
 returns c =
-    let is = (c.self.invariant.tables c.in-Some.found c.in-Some.is).unsettled in
+    let is = (c.self.invariant.kept.tables c.in-Some.found c.in-Some.is).unsettled in
     let low : c.args.n < length c.in-Some.found.unsettled.items = subst (λ (k : ℕ). c.args.n < k) (ap (λ (g : Graph). length g.nodes) (sym c.self.view_is) ∙ sym is.marked.long) c.requires.there in
     subst (λ (g : Graph). IsTrue (not c.index.result.now) ↔ IsSettledIn g [] c.args.n) c.self.view_is
     (settled_says (graph_of c.self.inside.nodes.items c.self.inside.sorts.items c.self.inside.is_open c.self.inside.base c.self.inside.prepared) [] c.args.n c.in-Some.found.unsettled.items c.index.result.now is

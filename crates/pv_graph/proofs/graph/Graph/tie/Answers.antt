@@ -9,10 +9,14 @@ use Rattle.pv_graph.specs.Calls.{HaveItsSort, Tied}
 use Rattle.pv_graph.specs.Kept.{graph_of, IsKept}
 use Rattle.pv_graph.proofs.Keeping.{kept_same}
 use Rattle.pv_graph.proofs.Tying.{kept_tied, tied}
+use Rattle.pv_graph.proofs.Knowing.{known_tied}
 use Rattle.pv_graph.proofs.graph.Graph.tie.Goals as goal
 
 pub invariant_of-self : goal.invariant_of-self
-invariant_of-self c = kept_same _ _ c.self.inside.index.numbers c.insert.new.self.numbers c.self.inside.prepared c.self.invariant refl c.in_err-insert.ensures.err
+invariant_of-self c = record {
+  kept = kept_same _ _ c.self.inside.index.numbers c.insert.new.self.numbers c.self.inside.prepared c.self.invariant.kept refl c.in_err-insert.ensures.err;
+  free = c.self.invariant.free;
+}
 
 pub index_mut-requires : goal.index_mut-requires
 index_mut-requires c =
@@ -47,16 +51,16 @@ module _ (c : goal.Joined-self) where
   kept : IsKept (graph_of (slice_set c.self.inside.nodes.items c.args.n c.in_ok-node.node) c.self.inside.sorts.items c.self.inside.is_open c.self.inside.base None) c.insert.new.self.numbers None
   kept =
       subst (λ (x : Node). IsKept (graph_of (slice_set c.self.inside.nodes.items c.args.n x) c.self.inside.sorts.items c.self.inside.is_open c.self.inside.base None) c.insert.new.self.numbers None) (sym c.in_ok-node.ensures)
-      (kept_tied before c.self.inside.index.numbers c.insert.new.self.numbers c.self.inside.prepared c.args.n c.depth_of-d.result c.args.first c.args.second c.self.invariant at fits by)
+      (kept_tied before c.self.inside.index.numbers c.insert.new.self.numbers c.self.inside.prepared c.args.n c.depth_of-d.result c.args.first c.args.second c.self.invariant.kept at fits by)
 
   gives : Tied c.args.self.now (graph_of (slice_set c.self.inside.nodes.items c.args.n c.in_ok-node.node) c.self.inside.sorts.items c.self.inside.is_open c.self.inside.base None) c.args.n c.args.first c.args.second
   gives =
       subst (λ (g : Graph). Tied g (graph_of (slice_set c.self.inside.nodes.items c.args.n c.in_ok-node.node) c.self.inside.sorts.items c.self.inside.is_open c.self.inside.base None) c.args.n c.args.first c.args.second) c.self.view_is
       (subst (λ (x : Node). Tied before (graph_of (slice_set c.self.inside.nodes.items c.args.n x) c.self.inside.sorts.items c.self.inside.is_open c.self.inside.base None) c.args.n c.args.first c.args.second) (sym c.in_ok-node.ensures)
-      (tied before c.self.invariant.graph c.args.n c.depth_of-d.result c.args.first c.args.second at fits false))
+      (tied before c.self.invariant.kept.graph c.args.n c.depth_of-d.result c.args.first c.args.second at fits false))
 
 pub invariant_of-self-2 : goal.invariant_of-self-2
-invariant_of-self-2 c = kept c
+invariant_of-self-2 c = record { kept = kept c; free = known_tied c.self.inside.nodes.items c.args.n c.in_ok-node.node c.self.inside.known c.forget.new.self c.self.invariant.free c.forget.ensures }
 
 pub returns-clause-ok : goal.returns-clause-ok
 returns-clause-ok c = gives c

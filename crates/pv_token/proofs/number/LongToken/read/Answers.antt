@@ -5,4 +5,4 @@ use Rattle.pv_token.proofs.NumberSteps.{long_read}
 use Rattle.pv_token.proofs.number.LongToken.read.Goals as goal
 
 pub returns-then-eq : goal.returns-then-eq
-returns-then-eq c = long_read c.in_ok-n.n _ c.as_bytes.result.now c.args.word.now c.in_ok-n.ensures.fits (to_z-of_z w64 c.in_ok-n.n (record { sfits = c.in_ok-n.ensures.fits })) (c.as_bytes.ensures.value ∙ c.format.ensures.text) (sym c.eq.ensures ∙ c.if-eq.true)
+returns-then-eq c = long_read c.in_ok-n.n _ c.as_bytes.result.now c.args.word.now c.in_ok-n.ensures.fits (to_z-of_z w64 c.in_ok-n.n c.in_ok-n.ensures.fits) (c.as_bytes.ensures.value ∙ c.format.ensures.text) (sym c.eq.ensures ∙ c.if-eq.true)

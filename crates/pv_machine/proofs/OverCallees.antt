@@ -1,0 +1,291 @@
+-- A run over callees asks for finitely many replies, so it ends as one in a world with those.
+use Rattle.std.proofs.Common.{◌≡◌, ℕ, zero, suc, Bool, true, false, List, [], ◌∷◌, ◌++◌, Option, Some, None, ◌∙◌, refl, ap, sym, subst, inl, inr}
+use Rattle.std.specs.Prelude.{◌⊎◌, cond, option_map, unwrap_or, slice_get}
+use Rattle.std.specs.List.{AllByRecursion}
+use Rattle.std.specs.Ordering.{eq_by_cmp, is_eq}
+use Rattle.std.specs.declared.cmp.Ordering.{Ordering}
+use Rattle.std.specs.declared.cmp.Ordering.TheVariants.{Less, Equal, Greater}
+use Rattle.std.specs.FinMap.{FinMap, get, empty, insert, get-empty, get-insert}
+use Rattle.std.proofs.lemmas.Cmp.{eq_by_cmp_equiv}
+use Rattle.pv_pool.specs.Readers.{◌>>=◌}
+use Rattle.pv_value.specs.declared.number.Num.{Num}
+use Rattle.pv_value.specs.declared.number.Num.TheVariants as num
+use Rattle.pv_value.specs.declared.world.World.{World}
+use Rattle.pv_value.specs.declared.world.CallKey.{CallKey}
+use Rattle.pv_value.specs.declared.outcome.Input.{Input}
+use Rattle.pv_value.specs.declared.outcome.Outcome.{Outcome}
+use Rattle.pv_value.specs.CallOrder.{key_cmp}
+use Rattle.pv_value.specs.Laws.{CallsOrdered}
+use Rattle.pv_value.specs.Worlds.{IsWorld}
+use Rattle.pv_class.specs.declared.file.ClassFile.{ClassFile}
+use Rattle.pv_class.specs.declared.file.Method.{Method}
+use Rattle.pv_frame.specs.declared.action.Action.{Action}
+use Rattle.pv_frame.specs.declared.action.Action.TheVariants as act
+use Rattle.pv_frame.specs.Stacks.{Taken, popped}
+use Rattle.pv_frame.specs.Effects.{sort_of, takes}
+use Rattle.pv_frame.specs.declared.program.Program.{Program}
+use Rattle.pv_frame.proofs.Cited.{some_of, no_some}
+use Rattle.pv_machine.specs.Machine.{State, Now, running, ended, start, called, done, perform_at, go_on, after, RunEnds, Ends}
+use Rattle.pv_machine.specs.Callees.{Callees, done_over, perform_at_over, step_over, go_on_over, after_over, RunEndsOver, EndsOver, callees_of, IsPartOf, DifferInReplies, HasRepliesOf, AreCallees, MoreReplies, OverItsOwn, FinitelyManyReplies, SameOverCallees}
+
+-- ---- the call that a step asks for
+
+abbrev asked : State → Action → List Num → Option CallKey
+asked s (act.Call d f) args = Some (record { sym = f; heap = s.heap; args = args })
+asked s (act.CallOn d f) (num.Ref (suc r) ∷ args) = Some (record { sym = f; heap = s.heap; args = num.Ref (suc r) ∷ args })
+asked s a operands = None
+
+-- callees that agree on it
+abbrev Agree : Callees → Callees → Option CallKey → Type 0
+Agree f g call = (key : CallKey) → call ≡ Some key → f key ≡ g key
+
+same_done : (f g : Callees) (p : Program) (w : World) (s : State) (a : Action) (operands : List Num) → Agree f g (asked s a operands) → done_over f p w s a operands ≡ done_over g p w s a operands
+same_done f g p w s (act.Call d c) args same = ap (option_map (called s)) (same _ refl)
+same_done f g p w s (act.CallOn d c) (num.Ref (suc r) ∷ args) same = ap (option_map (called s)) (same _ refl)
+same_done f g p w s a operands same = refl
+
+stuck_done : (f : Callees) (p : Program) (w : World) (s : State) (a : Action) (operands : List Num) (key : CallKey) → asked s a operands ≡ Some key → f key ≡ None → done_over f p w s a operands ≡ None
+stuck_done f p w s (act.Call d c) args key is none = ap (option_map (called s)) (ap f (some_of _ _ is) ∙ none)
+stuck_done f p w s (act.CallOn d c) (num.Ref (suc r) ∷ args) key is none = ap (option_map (called s)) (ap f (some_of _ _ is) ∙ none)
+stuck_done f p w s a operands key is none = no_some key is
+
+abbrev below : State → List Num → State
+below s stack = record s { stack = stack }
+
+abbrev asked_of : State → Action → Taken Num → Option CallKey
+asked_of s a taken = taken >>= λ x. asked (below s x.1) a x.0
+
+abbrev asked_at : State → Option Action → Option CallKey
+asked_at s action = action >>= λ a. asked_of s a (popped sort_of (takes a) s.stack)
+
+abbrev asks : Program → State → Option CallKey
+asks p s = asked_at s (slice_get p.actions s.at)
+
+abbrev taken_over : Callees → Program → World → State → Action → Taken Num → Option Now
+taken_over f p w s a taken = taken >>= λ x. done_over f p w (below s x.1) a x.0
+
+same_taken : (f g : Callees) (p : Program) (w : World) (s : State) (a : Action) (taken : Taken Num) → Agree f g (asked_of s a taken) → taken_over f p w s a taken ≡ taken_over g p w s a taken
+same_taken f g p w s a None same = refl
+same_taken f g p w s a (Some x) same = same_done f g p w (below s x.1) a x.0 same
+
+stuck_taken : (f : Callees) (p : Program) (w : World) (s : State) (a : Action) (taken : Taken Num) (key : CallKey) → asked_of s a taken ≡ Some key → f key ≡ None → taken_over f p w s a taken ≡ None
+stuck_taken f p w s a None key is none = refl
+stuck_taken f p w s a (Some x) key is none = stuck_done f p w (below s x.1) a x.0 key is none
+
+same_action : (f g : Callees) (p : Program) (w : World) (s : State) (action : Option Action) → Agree f g (asked_at s action) → perform_at_over f p w s action ≡ perform_at_over g p w s action
+same_action f g p w s None same = refl
+same_action f g p w s (Some a) same = ap (λ (o : Option Now). unwrap_or o (running s)) (same_taken f g p w s a (popped sort_of (takes a) s.stack) same)
+
+stuck_action : (f : Callees) (p : Program) (w : World) (s : State) (action : Option Action) (key : CallKey) → asked_at s action ≡ Some key → f key ≡ None → perform_at_over f p w s action ≡ running s
+stuck_action f p w s None key is none = refl
+stuck_action f p w s (Some a) key is none = ap (λ (o : Option Now). unwrap_or o (running s)) (stuck_taken f p w s a (popped sort_of (takes a) s.stack) key is none)
+
+same_step : (f g : Callees) (p : Program) (w : World) (s : State) → Agree f g (asks p s) → step_over f p w s ≡ step_over g p w s
+same_step f g p w s same = same_action f g p w s (slice_get p.actions s.at) same
+
+stuck_step : (f : Callees) (p : Program) (w : World) (s : State) (key : CallKey) → asks p s ≡ Some key → f key ≡ None → step_over f p w s ≡ running s
+stuck_step f p w s key is none = stuck_action f p w s (slice_get p.actions s.at) key is none
+
+-- a step that asks for nothing, and one that asks for a call on which the callees agree
+asks_none : (f g : Callees) (call : Option CallKey) → call ≡ None → Agree f g call
+asks_none f g call none key is = no_some key (sym none ∙ is)
+
+asks_one : (f g : Callees) (call : Option CallKey) (key : CallKey) → call ≡ Some key → f key ≡ g key → Agree f g call
+asks_one f g call key one same k is = subst (λ (x : CallKey). f x ≡ g x) (some_of _ _ (sym one ∙ is)) same
+
+-- ---- more replies
+
+-- a run that waits for a call waits on, and any other goes on in the same way
+abbrev Waiting : Callees → Program → World → Now → Type 0
+Waiting f p w now = (t : State) × (now ≡ running t) × (step_over f p w t ≡ running t)
+
+more_step : (f g : Callees) → IsPartOf f g → (p : Program) (w : World) (t : State) → (step_over f p w t ≡ step_over g p w t) ⊎ (step_over f p w t ≡ running t)
+more_step f g part p w t =
+    elim (asks p t) as (λ call. asks p t ≡ call → (step_over f p w t ≡ step_over g p w t) ⊎ (step_over f p w t ≡ running t)) [
+      | None ↦ λ none. inl (same_step f g p w t (asks_none f g (asks p t) none))
+      | Some key ↦ λ one. elim (f key) as (λ r. f key ≡ r → (step_over f p w t ≡ step_over g p w t) ⊎ (step_over f p w t ≡ running t)) [
+        | None ↦ λ none. inr (stuck_step f p w t key one none)
+        | Some o ↦ λ is. inl (same_step f g p w t (asks_one f g (asks p t) key one (is ∙ sym (part key o is))))
+      ] refl
+    ] refl
+
+more_on : (f g : Callees) → IsPartOf f g → (p : Program) (w : World) (now : Now) → (go_on_over f p w now ≡ go_on_over g p w now) ⊎ Waiting f p w (go_on_over f p w now)
+more_on f g part p w (ended o) = inl refl
+more_on f g part p w (running t) = elim (more_step f g part p w t) [ inl same ↦ inl same | inr stuck ↦ inr (t, stuck, stuck) ]
+
+more : (f g : Callees) → IsPartOf f g → (p : Program) (w : World) (s : State) (n : ℕ) → (after_over f p w s n ≡ after_over g p w s n) ⊎ Waiting f p w (after_over f p w s n)
+unfolding after_over
+more f g part p w s zero = inl refl
+more f g part p w s (suc n) = elim (more f g part p w s n) [
+  | inl same ↦ elim (more_on f g part p w (after_over f p w s n)) [ inl on ↦ inl (on ∙ ap (go_on_over g p w) same) | inr waits ↦ inr waits ]
+  | inr waits ↦ inr (waits.0, ap (go_on_over f p w) waits.1 ∙ waits.2, waits.2)
+]
+
+more_ends : (f g : Callees) → IsPartOf f g → (p : Program) (w : World) (s : State) (n : ℕ) (o : Outcome) → after_over f p w s n ≡ ended o → after_over g p w s n ≡ ended o
+more_ends f g part p w s n o ends = elim (more f g part p w s n) [ inl same ↦ sym same ∙ ends | inr waits ↦ absurd (let e : running waits.0 ≡ ended o = sym waits.1 ∙ ends in cc (e)) ]
+
+-- ---- finitely many replies
+
+abbrev AgreeOn : Callees → Callees → List CallKey → Type 0
+AgreeOn f g keys = AllByRecursion (λ (k : CallKey). f k ≡ g k) keys
+
+agree_front : (f g : Callees) (keys others : List CallKey) → AgreeOn f g (keys ++ others) → AgreeOn f g keys
+agree_front f g [] others all = tt
+agree_front f g (k ∷ keys) others all = (all.0, agree_front f g keys others all.1)
+
+agree_back : (f g : Callees) (keys others : List CallKey) → AgreeOn f g (keys ++ others) → AgreeOn f g others
+agree_back f g [] others all = all
+agree_back f g (k ∷ keys) others all = agree_back f g keys others all.1
+
+-- the calls for which one more step asks, and those of n steps
+abbrev asks_now : Program → Now → List CallKey
+asks_now p (ended o) = []
+asks_now p (running t) = elim (asks p t) [ None ↦ [] | Some key ↦ key ∷ [] ]
+
+same_now : (f g : Callees) (p : Program) (w : World) (now : Now) → AgreeOn f g (asks_now p now) → go_on_over f p w now ≡ go_on_over g p w now
+same_now f g p w (ended o) all = refl
+same_now f g p w (running t) all =
+    elim (asks p t) as (λ call. asks p t ≡ call → AgreeOn f g (elim call [ None ↦ [] | Some key ↦ key ∷ [] ]) → step_over f p w t ≡ step_over g p w t) [
+      | None ↦ λ none all. same_step f g p w t (asks_none f g (asks p t) none)
+      | Some key ↦ λ one all. same_step f g p w t (asks_one f g (asks p t) key one all.0)
+    ] refl all
+
+asks_within : Callees → Program → World → State → ℕ → List CallKey
+asks_within f p w s zero = []
+asks_within f p w s (suc n) = asks_within f p w s n ++ asks_now p (after_over f p w s n)
+
+same_within : (f g : Callees) (p : Program) (w : World) (s : State) (n : ℕ) → AgreeOn f g (asks_within f p w s n) → after_over f p w s n ≡ after_over g p w s n
+unfolding after_over asks_within
+same_within f g p w s zero all = refl
+same_within f g p w s (suc n) all =
+    let before = same_within f g p w s n (agree_front f g (asks_within f p w s n) (asks_now p (after_over f p w s n)) all) in
+    same_now f g p w (after_over f p w s n) (agree_back f g (asks_within f p w s n) (asks_now p (after_over f p w s n)) all) ∙ ap (go_on_over g p w) before
+
+-- ---- the table of the replies to some calls
+
+abbrev Table : Type 0
+Table = FinMap key_cmp Outcome
+
+abbrev put : CallKey → Option Outcome → Table → Table
+put k None m = m
+put k (Some o) m = insert m k o
+
+abbrev table : Callees → List CallKey → Table
+table f [] = empty
+table f (k ∷ keys) = put k (f k) (table f keys)
+
+is_equal : (r : Ordering) → is_eq r ≡ true → r ≡ Equal
+is_equal Less e = absurd (cc)
+is_equal Equal e = refl
+is_equal Greater e = absurd (cc)
+
+is_tied : CallsOrdered → (a b : CallKey) → eq_by_cmp key_cmp a b ≡ true → a ≡ b
+is_tied ordered a b e = ordered.exact a b (is_equal (key_cmp a b) e)
+
+-- what a table answers after an entry more
+put_other : CallsOrdered → (m : Table) (k q : CallKey) (o : Outcome) (P : Option Outcome → Type 0) → (q ≡ k → P (Some o)) → P (get m q) → P (get (insert m k o) q)
+put_other ordered m k q o P here there =
+    subst P (sym (get-insert ordered.total m k o q))
+    (elim (eq_by_cmp key_cmp q k) as (λ b. eq_by_cmp key_cmp q k ≡ b → P (cond b (Some o) (get m q))) [
+      | true ↦ λ tied. here (is_tied ordered q k tied)
+      | false ↦ λ _. there
+    ] refl)
+
+put_part : CallsOrdered → (f : Callees) (m : Table) (k : CallKey) (r : Option Outcome) → f k ≡ r → IsPartOf (get m) f → IsPartOf (get (put k r m)) f
+put_part ordered f m k None is part q x e = part q x e
+put_part ordered f m k (Some o) is part q x e = put_other ordered m k q o (λ y. y ≡ Some x → f q ≡ Some x) (λ same new. ap f same ∙ is ∙ new) (part q x) e
+
+table_part : CallsOrdered → (f : Callees) (keys : List CallKey) → IsPartOf (get (table f keys)) f
+table_part ordered f [] q x e = no_some x (sym (get-empty key_cmp q) ∙ e)
+table_part ordered f (k ∷ keys) q x e = put_part ordered f (table f keys) k (f k) refl (table_part ordered f keys) q x e
+
+-- a call of the list, and each that was there, is answered as the callees do
+put_here : CallsOrdered → (f : Callees) (m : Table) (k : CallKey) (r : Option Outcome) → f k ≡ r → IsPartOf (get m) f → f k ≡ get (put k r m) k
+put_here ordered f m k None is part = elim (get m k) as (λ x. get m k ≡ x → f k ≡ x) [ None ↦ λ e. is | Some o ↦ λ e. part k o e ] refl
+put_here ordered f m k (Some o) is part = is ∙ sym (get-insert ordered.total m k o k ∙ ap (λ (b : Bool). cond b (Some o) (get m k)) ((eq_by_cmp_equiv ordered.total).refl k))
+
+put_there : CallsOrdered → (f : Callees) (m : Table) (k : CallKey) (r : Option Outcome) → f k ≡ r → (q : CallKey) → f q ≡ get m q → f q ≡ get (put k r m) q
+put_there ordered f m k None is q same = same
+put_there ordered f m k (Some o) is q same = put_other ordered m k q o (λ y. f q ≡ y) (λ tied. ap f tied ∙ is) same
+
+put_all : CallsOrdered → (f : Callees) (m : Table) (k : CallKey) (keys : List CallKey) → AgreeOn f (get m) keys → AgreeOn f (get (put k (f k) m)) keys
+put_all ordered f m k [] all = tt
+put_all ordered f m k (q ∷ keys) all = (put_there ordered f m k (f k) refl q all.0, put_all ordered f m k keys all.1)
+
+table_all : CallsOrdered → (f : Callees) (keys : List CallKey) → AgreeOn f (get (table f keys)) keys
+table_all ordered f [] = tt
+table_all ordered f (k ∷ keys) = (put_here ordered f (table f keys) k (f k) refl (table_part ordered f keys), put_all ordered f (table f keys) k keys (table_all ordered f keys))
+
+-- ---- a world with such a table
+
+abbrev with_table : World → Table → World
+with_table w m = record w { calls = m }
+
+own_done : (p : Program) (w : World) (m : Table) (s : State) (a : Action) (operands : List Num) → done_over (get m) p w s a operands ≡ done p (with_table w m) s a operands
+own_done p w m s (act.Call d c) args = refl
+own_done p w m s (act.CallOn d c) (num.Ref (suc r) ∷ args) = refl
+own_done p w m s a operands = refl
+
+own_action : (p : Program) (w : World) (m : Table) (s : State) (action : Option Action) → perform_at_over (get m) p w s action ≡ perform_at p (with_table w m) s action
+own_action p w m s None = refl
+own_action p w m s (Some a) = ap (λ (o : Option Now). unwrap_or o (running s)) (taken_same (popped sort_of (takes a) s.stack))
+  where
+    taken_same : (taken : Taken Num) → taken_over (get m) p w s a taken ≡ (taken >>= λ x. done p (with_table w m) (below s x.1) a x.0)
+    taken_same None = refl
+    taken_same (Some x) = own_done p w m (below s x.1) a x.0
+
+own_on : (p : Program) (w : World) (m : Table) (now : Now) → go_on_over (get m) p w now ≡ go_on p (with_table w m) now
+own_on p w m (ended o) = refl
+own_on p w m (running s) = own_action p w m s (slice_get p.actions s.at)
+
+own : (p : Program) (w : World) (m : Table) (s : State) (n : ℕ) → after_over (get m) p w s n ≡ after p (with_table w m) s n
+unfolding after_over after
+own p w m s zero = refl
+own p w m s (suc n) = own_on p w m (after_over (get m) p w s n) ∙ ap (go_on p (with_table w m)) (own p w m s n)
+
+-- the same of a world that differs in its replies
+own_of : (p : Program) (w v : World) (s : State) (n : ℕ) → DifferInReplies w v → after_over (callees_of v) p w s n ≡ after p v s n
+own_of p w v s n differ = own p w v.calls s n ∙ ap (λ (u : World). after p u s n) (sym differ)
+
+-- ---- the laws
+
+pub more_replies : MoreReplies
+more_replies p w v differ part input o (n, ends) =
+    (n, sym (own_of p w v (start p input) n differ) ∙ more_ends (callees_of w) (callees_of v) part p w (start p input) n o (own_of p w w (start p input) n refl ∙ ends))
+
+pub over_its_own : OverItsOwn
+over_its_own p w input o = ((λ run. (run.0, sym (own_of p w w (start p input) run.0 refl) ∙ run.1)), (λ run. (run.0, own_of p w w (start p input) run.0 refl ∙ run.1)))
+
+pub finitely_many_replies : CallsOrdered → FinitelyManyReplies
+finitely_many_replies ordered callees p w input o = (to_world, from_world)
+  where
+    to_world : RunEndsOver callees p w input o → (v : World) × HasRepliesOf callees w v × RunEnds p v input o
+    to_world (n, ends) =
+        let s = start p input in
+        let keys = asks_within callees p w s n in
+        let m = table callees keys in
+        (with_table w m, record { else_same = refl; part = table_part ordered callees keys }, (n, sym (own p w m s n) ∙ sym (same_within callees (get m) p w s n (table_all ordered callees keys)) ∙ ends))
+
+    from_world : (v : World) × HasRepliesOf callees w v × RunEnds p v input o → RunEndsOver callees p w input o
+    from_world (v, has, (n, ends)) =
+        let s = start p input in
+        (n, more_ends (callees_of v) callees has.part p w s n o (own_of p w v s n has.else_same ∙ ends))
+
+-- a world with replies of such callees is one
+still_world : (callees : Callees) (w v : World) → AreCallees callees → IsWorld w → HasRepliesOf callees w v → IsWorld v
+still_world callees w v are world has =
+    subst IsWorld (sym has.else_same) (record { lengths = world.lengths; booleans = world.booleans; literals = world.literals; calls = λ key o e. are key o (has.part key o e) })
+
+carried : CallsOrdered → (file : ClassFile) (m : Method) (file' : ClassFile) (m' : Method) (callees : Callees) (w : World) (input : Input) (o : Outcome) → ((v : World) → HasRepliesOf callees w v → Ends file m v input o → Ends file' m' v input o)
+    → EndsOver callees file m w input o → EndsOver callees file' m' w input o
+carried ordered file m file' m' callees w input o same ends =
+    let there = (finitely_many_replies ordered callees ends.program w input o).0 ends.run in
+    let v = there.0 in
+    let other = same v there.1 (record { program = ends.program; is = ends.is; run = there.2 }) in
+    record { program = other.program; is = other.is; run = (finitely_many_replies ordered callees other.program w input o).1 (v, there.1, other.run) }
+
+pub same_over_callees : CallsOrdered → SameOverCallees
+same_over_callees ordered file m file' m' same callees are d typed w world input fits o = (
+  carried ordered file m file' m' callees w input o (λ v has. (same d typed v (still_world callees w v are world has) input fits o).0),
+  carried ordered file' m' file m callees w input o (λ v has. (same d typed v (still_world callees w v are world has) input fits o).1),
+)

@@ -7,8 +7,10 @@ the .rt file that declares it, with the types of its fields and what its values 
 where some definition of it is met, with the lines of these definitions. Each file stands before those whose words it uses.
 
     tests/definitions.py            fails where the page misses a file, names one that isn't met, or gives a wrong count
-    tests/definitions.py --write    writes both lists into the page
-    tests/definitions.py --why FILE prints, for both lists, by which chain of definitions a file is met
+A third list begins at `IsVerdict` of pv_heights, which no clause of `run` names yet: what the verdict of a search is.
+
+    tests/definitions.py --write    writes the lists into the page
+    tests/definitions.py --why FILE prints, for each list, by which chain of definitions a file is met
 """
 
 import functools
@@ -19,6 +21,7 @@ import sys
 TOP = os.path.dirname(os.path.dirname(os.path.abspath(__file__)))
 PAGE = os.path.join(TOP, "docs", "DEFINITIONS.md")
 RUN = "pv_top/src/top.rt"
+VERDICT = "pv_heights/specs/Verdicts.antt", "IsVerdict"
 # A word of a definition, with the names that lead to it, or an operator.
 WORD = re.compile(r"(?:[\w']+\.)*[\w']+|[^\w\s'(){}\[\],.;]+")
 
@@ -198,9 +201,9 @@ def roots(wanted):
     return found
 
 
-def met(wanted):
-    """All definitions that are met, each with the one that led to it, from the roots on."""
-    came, queue = {root: None for root in roots(wanted)}, roots(wanted)
+def met(begins):
+    """All definitions that are met, each with the one that led to it, from the first ones on."""
+    came, queue = {root: None for root in begins}, list(begins)
     for at in queue:
         for to in leads_to(at):
             if to not in came:
@@ -284,16 +287,25 @@ def listed_in(inside):
 
 
 def lists():
-    """Both lists, each with its files and the definitions of them that it needs: those of the promise, and those of all
-    clauses that the promise doesn't need."""
-    promise, every = met(["equivalent"]), met(None)
-    rest = set(every) - set(promise)
-    files = {path for path, _ in rest}
-    return [("equivalent", in_order(promise), set(promise)), ("report", [path for path in in_order(every) if path in files], rest)]
+    """The lists, each with its files and the definitions of them that it needs: those of the promise, those of all
+    clauses that the promise doesn't need, and those of the verdict of a search that no clause needs."""
+    promise, every, verdict = met(roots(["equivalent"])), met(roots(None)), met([VERDICT])
+    return [
+        ("equivalent", in_order(promise), set(promise)),
+        ("report", *beyond(every, promise)),
+        ("verdict", *beyond(verdict, every)),
+    ]
 
 
-def why(wanted, path):
-    came = met(wanted)
+def beyond(came, known):
+    """The files and the definitions that are met and not among the known ones."""
+    more = set(came) - set(known)
+    files = {path for path, _ in more}
+    return [path for path in in_order(came) if path in files], more
+
+
+def why(begins, path):
+    came = met(begins)
     for at in came:
         if at[0].removesuffix(".antt") == path.removesuffix(".antt"):
             chain = []
@@ -306,8 +318,9 @@ def why(wanted, path):
 
 def main():
     if sys.argv[1:2] == ["--why"]:
-        print("the promise:", why(["equivalent"], sys.argv[2]))
-        print("all clauses:", why(None, sys.argv[2]))
+        print("the promise:", why(roots(["equivalent"]), sys.argv[2]))
+        print("all clauses:", why(roots(None), sys.argv[2]))
+        print("the verdict:", why([VERDICT], sys.argv[2]))
         return
     with open(PAGE) as file:
         page = file.read()
@@ -323,7 +336,7 @@ def main():
             print(f"{name}: the page names {path}, which isn't met")
         graphs = [path for path in paths if path.startswith("pv_graph/")]
         if name == "equivalent" and graphs:
-            print(f"the clause equivalent speaks of graphs: {why([name], graphs[0])}")
+            print(f"the clause equivalent speaks of graphs: {why(roots([name]), graphs[0])}")
             failed = True
         print(f"{name}: {len(paths)} files, {'as the page says' if inside == wants else 'the page differs'}")
         failed |= inside != wants

@@ -12,6 +12,7 @@ use crate::folding::{field_type, folded, kind_type};
 use crate::names::{Reading, fixed_op, is_same_op, node_at};
 use crate::numbers::op_number;
 use crate::pattern::{Atom, By, Each, Head, Pattern};
+use pv_denote::{Operands, takes};
 use pv_graph::{NodeId, Op};
 use pv_value::{JType, Num, ScalarOp};
 
@@ -29,9 +30,9 @@ impl Reading<'_> {
     fn folded(&self, op: ScalarOp, atoms: &[Atom]) -> Option<Num>
         ensures { result ≡ folded (names_of self.now) op (map atom_seen atoms.now) }
     {
-        match atoms {
-            [a] => folded(op, &[self.atom(*a)]),
-            [a, b] => folded(op, &[self.atom(*a), self.atom(*b)]),
+        match (takes(op), atoms) {
+            (Operands::One(_), [a]) => folded(op, &[self.atom(*a)]),
+            (Operands::Two(_, _), [a, b]) => folded(op, &[self.atom(*a), self.atom(*b)]),
             _ => None,
         }
     }

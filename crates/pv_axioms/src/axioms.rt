@@ -52,7 +52,7 @@ impl Axioms {
 
     /// The axioms, table by table.
     pub fn tables(&self) -> [&[Axiom]; 3]
-        ensures { map (λ table. map axiom_seen table.now) result.items ≡ tables }
+        ensures { map (λ table. map axiom_seen table.now) result ≡ tables }
     {
         [&self.scalar, &self.loops, &self.heap]
     }

@@ -53,3 +53,8 @@ returns c m p here there = record {
 
 pub returns-in-Err-Cause-convert : goal.returns-in-Err-Cause-convert
 returns-in-Err-Cause-convert c m p here there = ((c.in-Ok.ensures.converted m here).form, rw c.in-Err-Cause-convert.cause-is (rw c.in-Err-Cause-convert.field-0-is at (c.in-Err-Cause-convert.ensures.converted p there)))
+
+pub returns-in-Err-Cause : goal.returns-in-Err-Cause
+returns-in-Err-Cause c m p here there =
+    let yes : c.has_code-2.result ≡ true = search rules in
+    ((c.has_code-2.ensures p there).0 yes, rw c.in-Err-Cause.cause-is (rw c.in-Err-Cause.field-0-is at (c.in-Err-Cause.ensures.converted m here)))

@@ -4,7 +4,7 @@ use crate::{outside, runs};
 use cases_certs::{certs, sections};
 use cases_files::pools::Asked;
 use cases_files::{classes, codes, pools};
-use cases_graphs::{axioms, bases, classes as node_classes, graphs, leasts, loops, trees};
+use cases_graphs::{axioms, bases, graphs, leasts, loops, trees};
 use cases_methods::{flows, frames, machine, roots};
 use cases_words::answers::{Answer, NoAnswer};
 use cases_words::bench::Bench;
@@ -47,7 +47,6 @@ pub fn answer<R: Files + Threads + Sync>(rt: &R, bench: &Bench, line: &str) -> A
         "graph" => graphs::graph(bench, rest),
         "base" => bases::base(bench, rest),
         "chain" => leasts::chain(bench, rest),
-        "classes" => node_classes::classes(bench, rest),
 
         "axioms" => axioms::axioms(bench),
         "axiom" => axioms::equation(bench, rest),

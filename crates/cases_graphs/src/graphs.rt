@@ -132,8 +132,8 @@ fn add(alloc: Global, graph: &mut Graph, words: &[&str]) -> Answer {
     }
 }
 
-/// Whether a graph takes the operation: a theta is added to a sealed graph alone.
-pub fn may_add(graph: &Graph, op: &Op) -> bool
+// Whether a graph takes the operation: a theta is added to a sealed graph alone.
+fn may_add(graph: &Graph, op: &Op) -> bool
     ensures { IsTrue result → MayAdd graph.now op.now }
 {
     match op {
@@ -142,8 +142,8 @@ pub fn may_add(graph: &Graph, op: &Op) -> bool
     }
 }
 
-/// Whether the numbers are those of nodes.
-pub fn are_nodes(graph: &Graph, kids: &[NodeId]) -> bool
+// Whether the numbers are those of nodes.
+fn are_nodes(graph: &Graph, kids: &[NodeId]) -> bool
     ensures { IsTrue result → AreNodes graph.now kids.now }
 {
     let nodes = graph.len();

@@ -1,4 +1,4 @@
-//! Cases of the layers of graphs: graphs, their meaning, least graphs, classes of nodes, axioms, loops and decision trees.
+//! Cases of the layers of graphs: graphs, their meaning, least graphs, axioms, loops and decision trees.
 //!
 //! Each module has the lines or the steps of one layer; `rules` tests what some calls require (`specs/Rules`), and
 //! `settings` reads what a line says of a world and a heap. It stands on `cases_words` and on these layers.
@@ -6,7 +6,6 @@
 
 pub mod axioms;
 pub mod bases;
-pub mod classes;
 pub mod graphs;
 pub mod leasts;
 pub mod loops;

@@ -41,11 +41,11 @@ mutual
 
   grows-sound : (S : System) (C : Subset S) (O : List ℕ) (K F : Relation S) → Grows S C O K F → (a b : S.Thing) → F a b → Joined S C O K [] a b
   grows-sound S C O K F (begin _ _ _ p) a b h = p a b h
-  grows-sound S C O K F (join _ _ F0 G _ d P r n i p) a b h =
-      close-close S C O (With F0 P) K
-      (with-joins S C O K F0 P (λ a b h. grows-sound S C O K F0 r a b h)
-      (induction-joins S C O K F0 d P (λ a b h. grows-sound S C O K F0 r a b h)
-      (induction-in S C O F0 G (Joined S C (d ∷ O) (With F0 P) []) d P (λ a b h. run-sound S C (d ∷ O) (With F0 P) G n a b h) i)))
+  grows-sound S C O K F (join _ _ FBase G _ d P r n i p) a b h =
+      close-close S C O (With FBase P) K
+      (with-joins S C O K FBase P (λ a b h. grows-sound S C O K FBase r a b h)
+      (induction-joins S C O K FBase d P (λ a b h. grows-sound S C O K FBase r a b h)
+      (induction-in S C O FBase G (Joined S C (d ∷ O) (With FBase P) []) d P (λ a b h. run-sound S C (d ∷ O) (With FBase P) G n a b h) i)))
       a b (p a b h)
 
 with-full : (S : System) (C : Subset S) (O : List ℕ) (F G : Relation S) (P Q : List (S.Thing × S.Thing)) → ((a b : S.Thing) → Joined S C O (With F Q) [] a b → G a b)
@@ -64,10 +64,10 @@ mutual
   kept-holds : (S : System) (C : Subset S) (O : List ℕ) (d : ℕ) (F P : Relation S) → Kept S C O d F P
       → (N : List (S.Thing × S.Thing)) → IsInduction S C O d N F (Joined S C (d ∷ O) (With F N) []) → (x y : S.Thing) → In N (x, y) → P x y
   kept-holds S C O d F P (all _ _ _ _ p) N i x y m = let t = i.thetas x y m in p x y t.p t.q t.r t.s t.is_left t.is_right t.left t.right (i.first x y t.p t.q t.r t.s m t.left t.right)
-  kept-holds S C O d F P (some _ _ _ P0 G _ Q k n w p) N i x y m =
+  kept-holds S C O d F P (some _ _ _ PBase G _ Q k n w p) N i x y m =
       let t = i.thetas x y m in
-      p x y t.p t.q t.r t.s (kept-holds S C O d F P0 k N i x y m) t.left t.right
+      p x y t.p t.q t.r t.s (kept-holds S C O d F PBase k N i x y m) t.left t.right
       (run-full S C (d ∷ O) (With F Q) G n t.q t.s
       (close-close S C (d ∷ O) (With F N) (With F Q)
-      (with-full S C (d ∷ O) F G N Q (λ a b h. run-full S C (d ∷ O) (With F Q) G n a b h) (λ a b h. run-sound S C (d ∷ O) (With F Q) G n a b h) (λ x y m. w x y (kept-holds S C O d F P0 k N i x y m)))
+      (with-full S C (d ∷ O) F G N Q (λ a b h. run-full S C (d ∷ O) (With F Q) G n a b h) (λ a b h. run-sound S C (d ∷ O) (With F Q) G n a b h) (λ x y m. w x y (kept-holds S C O d F PBase k N i x y m)))
       t.q t.s (i.second x y t.p t.q t.r t.s m t.left t.right)))

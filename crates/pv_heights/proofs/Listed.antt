@@ -77,44 +77,44 @@ module _ (s t : Graph) (C : ℕ → Type 0) (J : ℕ → ℕ → Type 0) (over :
 
 -- ---- an instance of a listed match serves each match that is one with it
 
-module _ (S : System) (C : Subset S) (C2 : Subset S) where
+module _ (S : System) (C : Subset S) (CNext : Subset S) where
   mutual
-    side_on : (m n : Match S.Thing) → m.kids ≡ n.kids → m.vars ≡ n.vars → (f : Filled) (a : S.Thing) → IsSide S C2 m f a → IsSide S C2 n f a
+    side_on : (m n : Match S.Thing) → m.kids ≡ n.kids → m.vars ≡ n.vars → (f : Filled) (a : S.Thing) → IsSide S CNext m f a → IsSide S CNext n f a
     side_on m n e d (at (kid i)) a h = subst (λ ks. slice_get ks i ≡ Some a) e h
     side_on m n e d (at (variable j)) a h = subst (λ xs. slice_get xs j ≡ Some a) d h
     side_on m n e d (of o ps) a h = (h.0, h.1, h.2, sides_on m n e d ps h.0 h.3)
 
-    sides_on : (m n : Match S.Thing) → m.kids ≡ n.kids → m.vars ≡ n.vars → (ps : Parts) (ks : List S.Thing) → AreSides S C2 m ps ks → AreSides S C2 n ps ks
+    sides_on : (m n : Match S.Thing) → m.kids ≡ n.kids → m.vars ≡ n.vars → (ps : Parts) (ks : List S.Thing) → AreSides S CNext m ps ks → AreSides S CNext n ps ks
     sides_on m n e d no_part [] h = h
     sides_on m n e d no_part (k ∷ ks) h = h
     sides_on m n e d (part p ps) [] h = h
     sides_on m n e d (part p ps) (k ∷ ks) h = (side_on m n e d p k h.0, sides_on m n e d ps ks h.1)
 
-pub listed_sides : (view : View) (assumed : List ℕ) (table : List Axiom) (S : System) (C : Subset S) (J : Relation S) (C2 : Subset S) → IsCongruence view S C J
-    → (m n : Match S.Thing) → BindsItsNames m.entry → AreOne J m n → (a b : S.Thing) → IsInstanceOf S C J C2 n a b → AreSidesOf S C J C2 m a b
-listed_sides view assumed table S C J C2 c m n binds o a b s = record {
+pub listed_sides : (view : View) (assumed : List ℕ) (table : List Axiom) (S : System) (C : Subset S) (J : Relation S) (CNext : Subset S) → IsCongruence view S C J
+    → (m n : Match S.Thing) → BindsItsNames m.entry → AreOne J m n → (a b : S.Thing) → IsInstanceOf S C J CNext n a b → AreSidesOf S C J CNext m a b
+listed_sides view assumed table S C J CNext c m n binds o a b s = record {
   chosen = own;
   is_chosen = record {
     entry = refl;
     params = refl;
-    kids = zip_join J (ClassCopy S C J C2) (ClassCopy S C J C2) from m.kids n.kids s.chosen.kids o.kids s.is_chosen.kids;
-    vars = zip_join J (ClassCopy S C J C2) (ClassCopy S C J C2) from m.vars n.vars s.chosen.vars o.vars s.is_chosen.vars;
+    kids = zip_join J (ClassCopy S C J CNext) (ClassCopy S C J CNext) from m.kids n.kids s.chosen.kids o.kids s.is_chosen.kids;
+    vars = zip_join J (ClassCopy S C J CNext) (ClassCopy S C J CNext) from m.vars n.vars s.chosen.vars o.vars s.is_chosen.vars;
   };
-  left = inr (same m.entry.left (λ i v. v) a (subst (λ (e : Axiom). IsSideOf S C2 s.chosen e.left a) (sym o.entry) s.left));
-  right = inr (same m.entry.right (right_named m.entry binds) b (subst (λ (e : Axiom). IsSideOf S C2 s.chosen e.right b) (sym o.entry) s.right));
+  left = inr (same m.entry.left (λ i v. v) a (subst (λ (e : Axiom). IsSideOf S CNext s.chosen e.left a) (sym o.entry) s.left));
+  right = inr (same m.entry.right (right_named m.entry binds) b (subst (λ (e : Axiom). IsSideOf S CNext s.chosen e.right b) (sym o.entry) s.right));
 }
   where
     own : Match S.Thing
     own = record { entry = m.entry; params = m.params; kids = s.chosen.kids; vars = s.chosen.vars }
 
-    from : (x y z : S.Thing) → J x y → ClassCopy S C J C2 y z → ClassCopy S C J C2 x z
+    from : (x y z : S.Thing) → J x y → ClassCopy S C J CNext y z → ClassCopy S C J CNext x z
     from x y z j k = record { thing = k.thing; is = k.is; joins = c.chain x y k.thing j k.joins; copy = k.copy }
 
     agree : (i : NameId) → In (names m.entry.left) i → AgreeOn m.params s.chosen.params i
     agree i v = subst (λ (ps : Params). AgreeOn m.params ps i) s.is_chosen.params (o.params i v)
 
-    same : (p : Pattern) → ((i : NameId) → In (names p) i → In (names m.entry.left) i) → (u : S.Thing) → IsSideOf S C2 s.chosen p u → IsSideOf S C2 own p u
-    same p up u h = (h.0, filled_agrees m.params s.chosen.params (length s.chosen.kids) p (λ i v. agree i (up i v)) ∙ h.1, side_on S C C2 s.chosen own refl refl h.0 u h.2)
+    same : (p : Pattern) → ((i : NameId) → In (names p) i → In (names m.entry.left) i) → (u : S.Thing) → IsSideOf S CNext s.chosen p u → IsSideOf S CNext own p u
+    same p up u h = (h.0, filled_agrees m.params s.chosen.params (length s.chosen.kids) p (λ i v. agree i (up i v)) ∙ h.1, side_on S C CNext s.chosen own refl refl h.0 u h.2)
 
 -- ---- a round
 

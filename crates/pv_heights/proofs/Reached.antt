@@ -137,10 +137,10 @@ module _ (view : View) (h i : Graph) (up : Keeps (form_at h.nodes) (form_at i.no
 -- ---- a round on nodes shows that the right sides of the terms' matches can be written
 
 module _ (view : View) (whole : IsWhole view) (T : System) (lT : IsSystem view T) (h : Height) (is : IsHeight view h) (D : Subset T) (E : Relation T) (cE : IsCongruence view T D E)
-    (classes : SameClasses view (terms view) T h.Member D h.Joins E) (assumed : List ℕ) (table : List Axiom) (D2 : Subset T) (L : Relation T) (sT : IsRoundOn view assumed table T D E D2 L) where
-  end_places : (n c : Match T.Thing) → Corresponds (ClassCopy T D E D2) n c → (p : Pattern) (b : T.Thing) → ServesAsSide T D E D2 n c p b → (s : Filled) × (side n p ≡ Some s) × HasPlaces n s
+    (classes : SameClasses view (terms view) T h.Member D h.Joins E) (assumed : List ℕ) (table : List Axiom) (DNext : Subset T) (L : Relation T) (sT : IsRoundOn view assumed table T D E DNext L) where
+  end_places : (n c : Match T.Thing) → Corresponds (ClassCopy T D E DNext) n c → (p : Pattern) (b : T.Thing) → ServesAsSide T D E DNext n c p b → (s : Filled) × (side n p ≡ Some s) × HasPlaces n s
   end_places n c o p b (inl k) = (k.1.0, k.1.1, class_places T D E n k.1.0 b k.1.2)
-  end_places n c o p b (inr k) = (k.0, side_over (ClassCopy T D E D2) n c o p ∙ k.1, places_under (ClassCopy T D E D2) n c o k.0 (side_places T D2 E c k.0 b k.2))
+  end_places n c o p b (inr k) = (k.0, side_over (ClassCopy T D E DNext) n c o p ∙ k.1, places_under (ClassCopy T D E DNext) n c o k.0 (side_places T DNext E c k.0 b k.2))
 
   pub rights : (m : Match Term) → IsMatch view assumed table (terms view) h.Member h.Joins m → (t : Term) × IsSideOf written_terms AnyTerm m m.entry.right t
   rights m i =

@@ -62,23 +62,23 @@ module _ (S : System) (C : Subset S) (J : Relation S) where
     part_in_classes m p (part q ps) (inr e) (y ∷ ys) h = part_in_classes m p ps e ys h.1
 
 -- with more things and more joined, a side stands where it stood
-module _ (S : System) (C : Subset S) (J : Relation S) (C2 : Subset S) (J2 : Relation S) (p1 : (a : S.Thing) → C a → C2 a) (p2 : (a b : S.Thing) → J a b → J2 a b) where
+module _ (S : System) (C : Subset S) (J : Relation S) (CNext : Subset S) (JNext : Relation S) (keeps : (a : S.Thing) → C a → CNext a) (keeps_joins : (a b : S.Thing) → J a b → JNext a b) where
   mutual
-    pub in_class_more : (m : Match S.Thing) (s : Filled) (y : S.Thing) → InClass S C J m s y → InClass S C2 J2 m s y
-    in_class_more m (at x) y h = (h.0, h.1, p2 h.0 y h.2)
+    pub in_class_more : (m : Match S.Thing) (s : Filled) (y : S.Thing) → InClass S C J m s y → InClass S CNext JNext m s y
+    in_class_more m (at x) y h = (h.0, h.1, keeps_joins h.0 y h.2)
     in_class_more m (of o ps) y h =
-        (h.0, record { thing = h.1.thing; is = p1 h.1.thing h.1.is; joins = p2 h.1.thing y h.1.joins; has = h.1.has }, in_classes_more m ps h.0 h.2)
+        (h.0, record { thing = h.1.thing; is = keeps h.1.thing h.1.is; joins = keeps_joins h.1.thing y h.1.joins; has = h.1.has }, in_classes_more m ps h.0 h.2)
 
-    pub in_classes_more : (m : Match S.Thing) (ps : Parts) (ys : List S.Thing) → AllInClass S C J m ps ys → AllInClass S C2 J2 m ps ys
+    pub in_classes_more : (m : Match S.Thing) (ps : Parts) (ys : List S.Thing) → AllInClass S C J m ps ys → AllInClass S CNext JNext m ps ys
     in_classes_more m no_part [] h = h
     in_classes_more m no_part (y ∷ ys) h = h
     in_classes_more m (part p ps) [] h = h
     in_classes_more m (part p ps) (y ∷ ys) h = (in_class_more m p y h.0, in_classes_more m ps ys h.1)
 
-module _ (view : View) (S T : System) (D : Subset T) (E : Relation T) (D2 : Subset T) (E2 : Relation T) (p1 : (a : T.Thing) → D a → D2 a) (p2 : (a b : T.Thing) → E a b → E2 a b) where
-  pub stand_more : (x : S.Thing) (y : T.Thing) → StandsFor view S T D E x y → StandsFor view S T D2 E2 x y
+module _ (view : View) (S T : System) (D : Subset T) (E : Relation T) (DNext : Subset T) (ENext : Relation T) (keeps : (a : T.Thing) → D a → DNext a) (keeps_joins : (a b : T.Thing) → E a b → ENext a b) where
+  pub stand_more : (x : S.Thing) (y : T.Thing) → StandsFor view S T D E x y → StandsFor view S T DNext ENext x y
   stand_more x y (node n _ _ h e f) = node n x y h e f
-  stand_more x y (made _ _ o ks ls ws p q r s z l hs) = made x y o ks ls ws p q (p1 y r) s (zip_map E E2 p2 ws ls z) l (λ j k w e f. stand_more k w (hs j k w e f))
+  stand_more x y (made _ _ o ks ls ws p q r s z l hs) = made x y o ks ls ws p q (keeps y r) s (zip_map E ENext keeps_joins ws ls z) l (λ j k w e f. stand_more k w (hs j k w e f))
 
 module _ {view : View} (whole : IsWhole view) {S T : System} (lS : IsSystem view S) (lT : IsSystem view T) {D : Subset T} {E : Relation T} (cE : IsCongruence view T D E) where
   abbrev N : S.Thing → T.Thing → Type 0
@@ -124,17 +124,17 @@ module _ {view : View} (whole : IsWhole view) {S T : System} (lS : IsSystem view
 
   -- a side over things is near where it stands over near things
   mutual
-    pub side_near : (C2 : Subset S) (m : Match S.Thing) (n : Match T.Thing) → Corresponds N m n → (s : Filled) (a : S.Thing) (y : T.Thing) → IsSide S C2 m s a → InClass T D E n s y → N a y
-    side_near C2 m n r (at x) a y h k =
+    pub side_near : (CNext : Subset S) (m : Match S.Thing) (n : Match T.Thing) → Corresponds N m n → (s : Filled) (a : S.Thing) (y : T.Thing) → IsSide S CNext m s a → InClass T D E n s y → N a y
+    side_near CNext m n r (at x) a y h k =
         let v = thing_over N m n r x a h in
         near_joined a v.0 y v.2 (subst (λ w. E w y) (some_once (sym k.1 ∙ v.1)) k.2)
-    side_near C2 m n r (of o ps) a y h k =
-        near_joined a k.1.thing y (stand_make a k.1.thing o h.0 k.0 h.2 k.1.is k.1.has (sides_near C2 m n r ps h.0 k.0 h.3 k.2)) k.1.joins
+    side_near CNext m n r (of o ps) a y h k =
+        near_joined a k.1.thing y (stand_make a k.1.thing o h.0 k.0 h.2 k.1.is k.1.has (sides_near CNext m n r ps h.0 k.0 h.3 k.2)) k.1.joins
 
-    pub sides_near : (C2 : Subset S) (m : Match S.Thing) (n : Match T.Thing) → Corresponds N m n → (ps : Parts) (ks : List S.Thing) (ls : List T.Thing) → AreSides S C2 m ps ks → AllInClass T D E n ps ls → AllZip N ks ls
-    sides_near C2 m n r no_part [] [] h k = tt
-    sides_near C2 m n r no_part [] (l ∷ ls) h k = k
-    sides_near C2 m n r no_part (i ∷ ks) ls h k = absurd h
-    sides_near C2 m n r (part p ps) [] ls h k = absurd h
-    sides_near C2 m n r (part p ps) (i ∷ ks) [] h k = k
-    sides_near C2 m n r (part p ps) (i ∷ ks) (l ∷ ls) h k = (side_near C2 m n r p i l h.0 k.0, sides_near C2 m n r ps ks ls h.1 k.1)
+    pub sides_near : (CNext : Subset S) (m : Match S.Thing) (n : Match T.Thing) → Corresponds N m n → (ps : Parts) (ks : List S.Thing) (ls : List T.Thing) → AreSides S CNext m ps ks → AllInClass T D E n ps ls → AllZip N ks ls
+    sides_near CNext m n r no_part [] [] h k = tt
+    sides_near CNext m n r no_part [] (l ∷ ls) h k = k
+    sides_near CNext m n r no_part (i ∷ ks) ls h k = absurd h
+    sides_near CNext m n r (part p ps) [] ls h k = absurd h
+    sides_near CNext m n r (part p ps) (i ∷ ks) [] h k = k
+    sides_near CNext m n r (part p ps) (i ∷ ks) (l ∷ ls) h k = (side_near CNext m n r p i l h.0 k.0, sides_near CNext m n r ps ks ls h.1 k.1)

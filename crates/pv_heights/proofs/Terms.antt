@@ -166,13 +166,13 @@ module _ (view : View) where
   below_in C closed t u (Below.kid _ _ k o ks h i b) c = below_in C closed t k b (closed u o ks k c h i)
 
   -- a side is one over other terms too, where all below it are among these
-  module _ (C2 : Term → Type 0) (m : Match Term) where
+  module _ (CNext : Term → Type 0) (m : Match Term) where
     mutual
-      pub side_in : (s : Filled) (t : Term) → IsSide (terms view) AnyTerm m s t → ((u : Term) → Below view u t → C2 u) → IsSide (terms view) C2 m s t
+      pub side_in : (s : Filled) (t : Term) → IsSide (terms view) AnyTerm m s t → ((u : Term) → Below view u t → CNext u) → IsSide (terms view) CNext m s t
       side_in (at x) t h q = h
       side_in (of o ps) t h q = (h.0, q t (itself t), h.2, sides_in ps h.0 h.3 (λ u k i b. q u (Below.kid u t k o h.0 h.2 i b)))
 
-      pub sides_in : (ps : Parts) (ks : List Term) → AreSides (terms view) AnyTerm m ps ks → ((u k : Term) → In ks k → Below view u k → C2 u) → AreSides (terms view) C2 m ps ks
+      pub sides_in : (ps : Parts) (ks : List Term) → AreSides (terms view) AnyTerm m ps ks → ((u k : Term) → In ks k → Below view u k → CNext u) → AreSides (terms view) CNext m ps ks
       sides_in no_part [] h q = h
       sides_in no_part (k ∷ ks) h q = h
       sides_in (part s ss) [] h q = h
@@ -230,27 +230,27 @@ pub record IsHeight (view : View) (h : Height) : Type 0 where
   pub carried : (a b : Term) → h.Joins a b → h.Member a × h.Member b
 
 module _ (view : View) (assumed : List ℕ) (table : List Axiom) (h : Height) (i : IsHeight view h) where
-  abbrev C2 : Term → Type 0
-  C2 = NextMember view assumed table h
+  abbrev CNext : Term → Type 0
+  CNext = NextMember view assumed table h
 
   picked : (m n : Match Term) → Corresponds (λ x s. h.Member s × h.Joins x s) m n → (x : Hole) (u : Term) → thing_at n x ≡ Some u → h.Member u
   picked m n o x u e = (thing_under (λ x s. h.Member s × h.Joins x s) m n o x u e).2.0
 
-  picked_choice : (m n : Match Term) → Corresponds (λ x s. h.Member s × h.Joins x s) m n → IsChoice (terms view) h.Member h.Joins C2 m n
-  picked_choice m n o = over_map (λ x s. h.Member s × h.Joins x s) (ClassCopy (terms view) h.Member h.Joins C2) (λ x s k. record { thing = s; is = k.0; joins = k.1; copy = Copy.itself s s k.0 refl }) m n o
+  picked_choice : (m n : Match Term) → Corresponds (λ x s. h.Member s × h.Joins x s) m n → IsChoice (terms view) h.Member h.Joins CNext m n
+  picked_choice m n o = over_map (λ x s. h.Member s × h.Joins x s) (ClassCopy (terms view) h.Member h.Joins CNext) (λ x s k. record { thing = s; is = k.0; joins = k.1; copy = Copy.itself s s k.0 refl }) m n o
 
-  right_side : (m : Match Term) (u : Term) (r : IsRight view assumed table h m u) → IsSideOf (terms view) C2 r.chosen m.entry.right u
-  right_side m u r = (r.is.0, r.is.1, side_in view C2 r.chosen r.is.0 u (written_side view r.chosen r.is.0 u r.is.2) (λ v b. inr (m, u, r, b)))
+  right_side : (m : Match Term) (u : Term) (r : IsRight view assumed table h m u) → IsSideOf (terms view) CNext r.chosen m.entry.right u
+  right_side m u r = (r.is.0, r.is.1, side_in view CNext r.chosen r.is.0 u (written_side view r.chosen r.is.0 u r.is.2) (λ v b. inr (m, u, r, b)))
 
   -- the side of the choice is that of the match
   same_side : (m n : Match Term) → Corresponds (λ x s. h.Member s × h.Joins x s) m n → (p : Pattern) → side m p ≡ side n p
   same_side m n o p = side_over (λ x s. h.Member s × h.Joins x s) m n o p
 
-  term_made : (a : Term) → C2 a → h.Member a ⊎ ((m : Match Term) × IsMatch view assumed table (terms view) h.Member h.Joins m × IsMadePart (terms view) h.Member h.Joins C2 m a) ⊎ ((u : Term) × Copy (terms view) h.Member h.Joins C2 a u)
+  term_made : (a : Term) → CNext a → h.Member a ⊎ ((m : Match Term) × IsMatch view assumed table (terms view) h.Member h.Joins m × IsMadePart (terms view) h.Member h.Joins CNext m a) ⊎ ((u : Term) × Copy (terms view) h.Member h.Joins CNext a u)
   term_made a (inl c) = inl c
   term_made a (inr k) = go (below_piece view h.Member i.closed k.2.chosen (picked k.0 k.2.chosen k.2.is_chosen) k.2.is.0 k.1 (written_side view k.2.chosen k.2.is.0 k.1 k.2.is.2) a k.3)
     where
-      go : Piece view h.Member i.closed k.2.chosen (picked k.0 k.2.chosen k.2.is_chosen) k.2.is.0 a → h.Member a ⊎ ((m : Match Term) × IsMatch view assumed table (terms view) h.Member h.Joins m × IsMadePart (terms view) h.Member h.Joins C2 m a) ⊎ ((u : Term) × Copy (terms view) h.Member h.Joins C2 a u)
+      go : Piece view h.Member i.closed k.2.chosen (picked k.0 k.2.chosen k.2.is_chosen) k.2.is.0 a → h.Member a ⊎ ((m : Match Term) × IsMatch view assumed table (terms view) h.Member h.Joins m × IsMadePart (terms view) h.Member h.Joins CNext m a) ⊎ ((u : Term) × Copy (terms view) h.Member h.Joins CNext a u)
       go (inl c) = inl c
       go (inr q) = inr (inl (
         k.0,
@@ -262,12 +262,12 @@ module _ (view : View) (assumed : List ℕ) (table : List Axiom) (h : Height) (i
           is_whole = inr (same_side k.0 k.2.chosen k.2.is_chosen k.0.entry.right ∙ k.2.is.1);
           inner = q.0;
           is_inner = q.1;
-          is = side_in view C2 k.2.chosen q.0 a q.2 (λ v b. inr (k.0, k.1, k.2, below_chain view v a k.1 k.3 b));
+          is = side_in view CNext k.2.chosen q.0 a q.2 (λ v b. inr (k.0, k.1, k.2, below_chain view v a k.1 k.3 b));
         },
       ))
 
   pub terms_round : ((m : Match Term) → IsMatch view assumed table (terms view) h.Member h.Joins m → (t : Term) × IsSideOf written_terms AnyTerm m m.entry.right t)
-      → IsRoundOn view assumed table (terms view) h.Member h.Joins C2 (NextGiven view assumed table h)
+      → IsRoundOn view assumed table (terms view) h.Member h.Joins CNext (NextGiven view assumed table h)
   terms_round rights = record {
     kept = λ a c. inl c;
     made = term_made;
@@ -280,6 +280,6 @@ module _ (view : View) (assumed : List ℕ) (table : List Axiom) (h : Height) (i
     given = term_given;
   }
     where
-      term_given : (a b : Term) → NextGiven view assumed table h a b → (h.Member a × h.Member b × h.Joins a b) ⊎ ((m : Match Term) × IsMatch view assumed table (terms view) h.Member h.Joins m × AreSidesOf (terms view) h.Member h.Joins C2 m a b)
+      term_given : (a b : Term) → NextGiven view assumed table h a b → (h.Member a × h.Member b × h.Joins a b) ⊎ ((m : Match Term) × IsMatch view assumed table (terms view) h.Member h.Joins m × AreSidesOf (terms view) h.Member h.Joins CNext m a b)
       term_given a b (inl j) = let c = i.carried a b j in inl (c.0, c.1, j)
       term_given a b (inr k) = inr (k.0, k.3.is_match, record { chosen = k.3.chosen; is_chosen = picked_choice k.0 k.3.chosen k.3.is_chosen; left = inl (k.1, k.2); right = inr (right_side k.0 b k.3) })

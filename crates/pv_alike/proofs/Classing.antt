@@ -5,11 +5,11 @@ use Rattle.std.proofs.lemmas.Option.{slice_get_within, same_Some, none-some}
 use Rattle.std.proofs.lemmas.List.{get_or_append_left}
 use Rattle.pv_graph.specs.declared.node.Op.{Op}
 use Rattle.pv_graph.specs.declared.node.Node.{Node}
-use Rattle.pv_graph.specs.Ops.{shape}
+use Rattle.pv_graph.specs.Ops.{shape, is_theta}
 use Rattle.pv_graph.specs.Nodes.{node_of}
 use Rattle.pv_graph.specs.Calls.{IsDistinct}
 use Rattle.pv_graph.specs.Graphs.{form_at}
-use Rattle.pv_graph.specs.Partition.{is_theta, IsFiner}
+use Rattle.pv_alike.specs.Partition.{IsFiner}
 use Rattle.pv_graph.proofs.Cited.{form_there}
 use Rattle.pv_alike.specs.Algorithm.{IsDense}
 use Rattle.pv_alike.specs.Keys.{Keyed, number_at, theta_key}

@@ -13,12 +13,12 @@ use Rattle.pv_graph.specs.declared.node.Op.{Op}
 use Rattle.pv_graph.specs.declared.node.Op.TheVariants as op
 use Rattle.pv_graph.specs.declared.node.Node.{Node}
 use Rattle.pv_graph.proofs.Cited.{push_cases, get_front, found, node_at, same_nodes, set_length}
-use Rattle.pv_graph.specs.Ops.{shape}
+use Rattle.pv_graph.specs.Ops.{shape, is_theta}
 use Rattle.pv_graph.specs.Nodes.{node_of, IsAbsent}
 use Rattle.pv_graph.specs.Calls.{IsDistinct}
 use Rattle.pv_graph.specs.Walks.{In}
 use Rattle.pv_graph.specs.Graphs.{form_at}
-use Rattle.pv_graph.specs.Partition.{is_theta, IsA, Level, IsPass}
+use Rattle.pv_alike.specs.Partition.{IsA, Level, IsPass}
 use Rattle.pv_alike.specs.BottomUp.{IsBottomUp}
 use Rattle.pv_alike.specs.Keys.{Keyed, number_at, over_numbers, key_of, IsKeyed, IsOnto}
 use Rattle.pv_alike.proofs.Upward.{kid_before, upward_low, upward_few}

@@ -11,6 +11,7 @@ pub mod Fewest
 pub mod Ruled
 pub mod Sorts
 pub mod Search
+pub mod Refined
 pub mod Passes
 pub mod Made
 pub mod SameLeast

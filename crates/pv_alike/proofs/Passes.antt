@@ -3,7 +3,7 @@ use Rattle.std.specs.Prelude.{◌≡◌, ◌≢◌, ◌⊎◌, ℕ, zero, suc, �
 use Rattle.std.proofs.Common.{inl, inr, sym, ap, ◌∙◌, arith}
 use Rattle.pv_graph.specs.declared.node.Op.{Op}
 use Rattle.pv_graph.specs.Forms.{Form}
-use Rattle.pv_graph.specs.Partition.{IsA, IsFiner, IsLast}
+use Rattle.pv_alike.specs.Partition.{IsA, IsFiner, IsLast}
 use Rattle.pv_alike.specs.Algorithm.{IsDense}
 use Rattle.pv_alike.proofs.Repeating.{comes_back}
 

@@ -10,8 +10,9 @@ use Rattle.pv_graph.specs.declared.node.Op.{Op}
 use Rattle.pv_graph.specs.declared.node.Node.{Node}
 use Rattle.pv_graph.specs.Forms.{Form, form}
 use Rattle.pv_graph.specs.Graphs.{Graph, form_at, IsGraph}
-use Rattle.pv_graph.proofs.Cited.{Matched, node_at, form_there, kid_within, Numbered, last_bisimulates, set_length, equal_or_not}
+use Rattle.pv_graph.proofs.Cited.{Matched, node_at, form_there, kid_within, set_length, equal_or_not}
 use Rattle.pv_graph.specs.Walks.{In}
+use Rattle.pv_alike.proofs.Refined.{Numbered, last_bisimulates}
 use Rattle.pv_alike.specs.Algorithm.{IsNumbered, IsByNumber}
 use Rattle.pv_alike.specs.Keys.{number_at, over_numbers, IsOnto}
 use Rattle.pv_alike.specs.Renumbered.{AreKidsWithin}

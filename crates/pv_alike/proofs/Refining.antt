@@ -3,7 +3,7 @@ use Rattle.std.specs.Prelude.{◌≡◌, ◌⊎◌, ℕ, zero, suc, ◌≤◌, L
 use Rattle.std.proofs.Common.{inl, inr, sym, ap, ◌∙◌, arith}
 use Rattle.pv_graph.specs.declared.node.Node.{Node}
 use Rattle.pv_graph.specs.Graphs.{form_at}
-use Rattle.pv_graph.specs.Partition.{IsPass, IsFiner, IsLast, Classes, one, more}
+use Rattle.pv_alike.specs.Partition.{IsPass, IsFiner, IsLast, Classes, one, more}
 use Rattle.pv_alike.specs.Algorithm.{IsNumbered, IsDense}
 use Rattle.pv_alike.specs.BottomUp.{IsBottomUp}
 use Rattle.pv_alike.specs.Keys.{number_at}

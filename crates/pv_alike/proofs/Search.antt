@@ -3,7 +3,8 @@ use Rattle.std.specs.Prelude.{◌≡◌, ℕ, ◌<◌, List, length, Some}
 use Rattle.std.proofs.Common.{sym, ◌∙◌, subst}
 use Rattle.pv_graph.specs.declared.node.Op.{Op}
 use Rattle.pv_graph.specs.declared.node.Node.{Node}
-use Rattle.pv_graph.proofs.Cited.{found, node_at, form_there, kid_within, last_numbers, quotient_unfolds}
+use Rattle.pv_graph.proofs.Cited.{found, node_at, form_there, kid_within}
+use Rattle.pv_alike.proofs.Refined.{last_numbers, quotient_unfolds}
 use Rattle.pv_graph.specs.Forms.{form}
 use Rattle.pv_graph.specs.Walks.{In}
 use Rattle.pv_graph.specs.Graphs.{Graph, form_at, IsGraph}

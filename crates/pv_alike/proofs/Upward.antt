@@ -8,10 +8,10 @@ use Rattle.std.proofs.lemmas.List.Elements.{Contains-push_cases}
 use Rattle.pv_list.proofs.Cited.{place_of, contains_at}
 use Rattle.pv_graph.specs.declared.node.Op.{Op}
 use Rattle.pv_graph.specs.declared.node.Node.{Node}
-use Rattle.pv_graph.specs.Ops.{shape}
+use Rattle.pv_graph.specs.Ops.{shape, is_theta}
 use Rattle.pv_graph.specs.Walks.{In}
 use Rattle.pv_graph.specs.Graphs.{form_at}
-use Rattle.pv_graph.specs.Partition.{is_theta, IsRank}
+use Rattle.pv_alike.specs.Partition.{IsRank}
 use Rattle.pv_graph.proofs.Cited.{node_at, push_cases}
 use Rattle.pv_alike.specs.BottomUp.{HasKids, IsUpward, IsBottomUp}
 use Rattle.pv_alike.proofs.Places.{get_before, apart_push}

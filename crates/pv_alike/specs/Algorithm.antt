@@ -5,7 +5,7 @@ use Rattle.pv_graph.specs.declared.node.Node.{Node}
 use Rattle.pv_graph.specs.declared.node.Op.{Op}
 use Rattle.pv_graph.specs.Forms.{Form}
 use Rattle.pv_graph.specs.Graphs.{form_at}
-use Rattle.pv_graph.specs.Partition.{IsA, IsPass, IsFiner, Classes, IsLast, IsRank, IsQuotient}
+use Rattle.pv_alike.specs.Partition.{IsA, IsPass, IsFiner, Classes, IsLast, IsRank, IsQuotient}
 use Rattle.pv_alike.specs.Visits.{Visits}
 use Rattle.pv_alike.specs.Renumbered.{IsRenumbered}
 

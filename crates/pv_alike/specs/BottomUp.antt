@@ -2,9 +2,8 @@
 use Rattle.std.specs.Prelude.{◌≡◌, ◌⊎◌, ℕ, ◌<◌, ◌≤◌, false, List, [], ◌++◌, length, take, Some, slice_get, slice_index_or}
 use Rattle.std.specs.List.{Contains}
 use Rattle.pv_graph.specs.declared.node.Node.{Node}
-use Rattle.pv_graph.specs.Ops.{shape}
+use Rattle.pv_graph.specs.Ops.{shape, is_theta}
 use Rattle.pv_graph.specs.Walks.{In}
-use Rattle.pv_graph.specs.Partition.{is_theta}
 
 -- a node that is no theta has all its kids among these nodes
 abbrev pub HasKids : List ℕ → Node → Type 0

@@ -7,7 +7,7 @@ use Rattle.pv_graph.specs.Graphs.{Graph, form_at, IsGraph, IsWellMade}
 use Rattle.pv_graph.specs.Calls.{IsSame}
 use Rattle.pv_alike.specs.Least.{Rooted, UnfoldEqually, UnfoldsAs, MeansAs, IsLeast, IsLeastOf}
 use Rattle.pv_alike.specs.Algorithm.{IsNumbered, IsByNumber, IsLaidOut, IsDense}
-use Rattle.pv_graph.specs.Partition.{IsFiner, IsLast}
+use Rattle.pv_alike.specs.Partition.{IsFiner, IsLast}
 
 -- two nodes have one least graph
 abbrev pub LeastOnce : Type 0

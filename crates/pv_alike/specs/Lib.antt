@@ -1,6 +1,7 @@
 -- what public contracts and laws say
 pub mod Visits
 pub mod Renumbered
+pub mod Partition
 pub mod Least
 pub mod Algorithm
 pub mod Laws

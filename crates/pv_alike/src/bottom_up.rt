@@ -5,8 +5,7 @@ ghost use Rattle.std.specs.List.{range_with_len};
 ghost use Rattle.pv_graph.specs.Graphs.{IsGraph};
 ghost use Rattle.pv_graph.specs.Walks.{In};
 ghost use Rattle.pv_graph.specs.Calls.{LeavesNoSortOpen};
-ghost use Rattle.pv_graph.specs.Ops.{shape};
-ghost use Rattle.pv_graph.specs.Partition.{is_theta};
+ghost use Rattle.pv_graph.specs.Ops.{shape, is_theta};
 ghost use Rattle.pv_alike.specs.BottomUp.{HasKids, Lacks, IsUpward, IsBottomUp, Settles, IsSettling};
 
 use crate::order::Order;

@@ -3,7 +3,7 @@
 ghost use Rattle.std.specs.Prelude.{◌≡◌, ◌<◌, ◌∷◌, ℕ, length, map, IfOk, vec_len};
 ghost use Rattle.pv_graph.specs.Graphs.{IsGraph, form_at};
 ghost use Rattle.pv_graph.specs.Walks.{In};
-ghost use Rattle.pv_graph.specs.Partition.{IsPass};
+ghost use Rattle.pv_alike.specs.Partition.{IsPass};
 ghost use Rattle.pv_alike.specs.BottomUp.{IsBottomUp};
 ghost use Rattle.pv_alike.specs.Keys.{number_at, over_numbers, key_of, IsOnto};
 

@@ -4,7 +4,6 @@ pub use Rattle.pv_graph.proofs.Sorting.{KidCount, ShapeTakes, exactly_are, if_so
 pub use Rattle.pv_graph.proofs.Bisimulations.{Bisimulates, Matched, Simulates, bisimulates_flip, bisimulates_simulates, bisimulates_unfolds, unfolds_bisimulates}
 pub use Rattle.pv_graph.proofs.NodeLaws.{HasSortAt, bind_some, form_there, graph_sorted, growth_unfolds, in_or_not, in_range, kid_within, node_at, sort_there, tied, unfold_of}
 pub use Rattle.pv_graph.proofs.Grounded.{AreFlat, Grounded, IsFlat, all_grounded, first_sort, flat_edge, flat_first, flat_unless, grounded, none_left, theta_or_not, theta_takes}
-pub use Rattle.pv_graph.proofs.Refined.{Numbered, last_bisimulates, last_numbers, quotient_unfolds}
 pub use Rattle.pv_graph.proofs.CallLaws.{added_extends, added_made, begun_extends, begun_made, empty_made, sealed_made}
 pub use Rattle.pv_graph.proofs.SameNodes.{renumbers, same_nodes, same_or_other}
 pub use Rattle.pv_graph.proofs.SortSteps.{field_read}

@@ -6,13 +6,12 @@ use Rattle.std.proofs.lemmas.Option.{slice_get_within, same_Some}
 use Rattle.pv_graph.specs.declared.node.OpSort.{OpSort}
 use Rattle.pv_graph.specs.declared.node.Node.{Node}
 use Rattle.pv_graph.proofs.Elements.{found}
-use Rattle.pv_graph.specs.Ops.{Shape, theta, shape, sort_over, HaveSorts, HasSort}
+use Rattle.pv_graph.specs.Ops.{Shape, theta, shape, sort_over, HaveSorts, HasSort, is_theta}
 use Rattle.pv_graph.specs.Forms.{Form}
 use Rattle.pv_graph.specs.Walks.{In, Move, down, move_to, Edge, Walk, stop, step}
 use Rattle.pv_graph.specs.Graphs.{form_at}
 use Rattle.pv_graph.specs.Calls.{LeavesNoSortOpen, AreSorts}
 use Rattle.pv_graph.proofs.Sorting.{ShapeTakes, shape_takes}
-use Rattle.pv_graph.specs.Partition.{is_theta}
 use Rattle.pv_graph.proofs.NodeLaws.{form_there, in_range}
 
 -- no second kid of a theta

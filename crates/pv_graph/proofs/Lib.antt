@@ -3,7 +3,6 @@ pub mod Sorting
 pub mod Bisimulations
 pub mod NodeLaws
 pub mod Grounded
-pub mod Refined
 pub mod CallLaws
 pub mod SameNodes
 pub mod SortSteps

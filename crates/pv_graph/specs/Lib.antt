@@ -7,7 +7,6 @@ pub mod Finite
 pub mod Walks
 pub mod Graphs
 pub mod Calls
-pub mod Partition
 pub mod Laws
 pub mod SortCode
 pub mod Index

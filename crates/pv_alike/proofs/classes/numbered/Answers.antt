@@ -1,6 +1,6 @@
 use Rattle.std.proofs.Common.{ℕ, List, subst, arith}
 use Rattle.pv_graph.specs.Graphs.{form_at}
-use Rattle.pv_graph.specs.Partition.{IsPass, IsFiner}
+use Rattle.pv_alike.specs.Partition.{IsPass, IsFiner}
 use Rattle.pv_alike.specs.Keys.{number_at}
 use Rattle.pv_alike.proofs.Refining.{refining_none, refining_more, refining_end}
 use Rattle.pv_alike.proofs.classes.numbered.Goals as goal

@@ -3,13 +3,9 @@
 use Rattle.std.specs.Prelude.{◌≡◌, ◌↔◌, ℕ, ◌<◌, Bool, true, false, List, map, Option, Some}
 use Rattle.std.specs.List.{AllZip}
 use Rattle.pv_graph.specs.declared.node.Op.{Op}
-use Rattle.pv_graph.specs.Ops.{Shape, theta, shape}
+use Rattle.pv_graph.specs.Ops.{shape, is_theta}
 use Rattle.pv_graph.specs.Forms.{Form, form}
 use Rattle.pv_graph.specs.Walks.{In}
-
-abbrev pub is_theta : Shape → Bool
-is_theta (theta d) = true
-is_theta s = false
 
 -- the node is one, and whether it is a theta
 abbrev pub IsA : (ℕ → Option (Form ℕ)) → Bool → ℕ → Op → List ℕ → Type 0

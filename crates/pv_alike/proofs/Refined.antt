@@ -3,12 +3,12 @@ use Rattle.std.specs.Prelude.{◌≡◌, ◌↔◌, ◌⊎◌, ℕ, zero, suc, �
 use Rattle.std.specs.List.{AllZip}
 use Rattle.std.proofs.Common.{inl, inr, sym, ap, ◌∙◌, subst, arith}
 use Rattle.pv_graph.specs.declared.node.Op.{Op}
-use Rattle.pv_graph.specs.Ops.{shape}
+use Rattle.pv_graph.specs.Ops.{shape, is_theta}
 use Rattle.pv_graph.specs.Forms.{Form, form}
 use Rattle.pv_graph.specs.Unfold.{UnfoldsAs}
 use Rattle.pv_graph.specs.Walks.{In}
-use Rattle.pv_graph.specs.Partition.{is_theta, IsA, Level, IsPass, IsFiner, Classes, one, more, IsLast, IsRank, IsQuotient}
-use Rattle.pv_graph.proofs.Bisimulations.{Matched, Bisimulates, bisimulates_unfolds, unfolds_bisimulates}
+use Rattle.pv_alike.specs.Partition.{IsA, Level, IsPass, IsFiner, Classes, one, more, IsLast, IsRank, IsQuotient}
+use Rattle.pv_graph.proofs.Cited.{Matched, Bisimulates, bisimulates_unfolds, unfolds_bisimulates}
 
 module _ (view : ℕ → Option (Form ℕ)) where
   -- nodes that unfold equally are not apart

@@ -1,5 +1,5 @@
 -- Numbers by keys: a pass, and the next classes.
-use Rattle.std.specs.Prelude.{◌≡◌, ◌≢◌, ◌⊎◌, ◌↔◌, ℕ, ◌+◌, ◌<◌, ◌≤◌, Bool, true, false, List, [], ◌∷◌, ◌++◌, length, map, Some, slice_get, slice_set, refl, if◌then◌else◌}
+use Rattle.std.specs.Prelude.{◌≡◌, ◌≢◌, ◌⊎◌, ◌↔◌, ℕ, ◌+◌, ◌<◌, ◌≤◌, Bool, true, false, List, [], ◌∷◌, ◌++◌, length, map, take, Some, slice_get, slice_set, refl, if◌then◌else◌}
 use Rattle.std.specs.List.{list_any}
 use Rattle.std.proofs.Common.{inl, inr, sym, ap, ◌∙◌, arith, length-append, true≢false}
 use Rattle.std.proofs.lemmas.Option.{slice_get_within, same_Some, none-some}
@@ -10,7 +10,6 @@ use Rattle.pv_list.proofs.Cited.{place_of, contains_at}
 use Rattle.pv_graph.specs.contracts.node.NodePartialEq.TheImpl.{eq-value as node_eq}
 use Rattle.pv_graph.specs.contracts.node.NodeEq.TheImpl.Laws.{laws-law}
 use Rattle.pv_graph.specs.declared.node.Op.{Op}
-use Rattle.pv_graph.specs.declared.node.Op.TheVariants as op
 use Rattle.pv_graph.specs.declared.node.Node.{Node}
 use Rattle.pv_graph.proofs.Cited.{push_cases, get_front, found, node_at, same_nodes, set_length}
 use Rattle.pv_graph.specs.Ops.{shape, is_theta}
@@ -18,9 +17,9 @@ use Rattle.pv_graph.specs.Nodes.{node_of, IsAbsent}
 use Rattle.pv_graph.specs.Calls.{IsDistinct}
 use Rattle.pv_graph.specs.Walks.{In}
 use Rattle.pv_graph.specs.Graphs.{form_at}
-use Rattle.pv_alike.specs.Partition.{IsA, Level, IsPass}
+use Rattle.pv_alike.specs.Partition.{IsA, Level, earlier_kids, IsPass}
 use Rattle.pv_alike.specs.BottomUp.{IsBottomUp}
-use Rattle.pv_alike.specs.Keys.{Keyed, number_at, over_numbers, key_of, IsKeyed, IsOnto}
+use Rattle.pv_alike.specs.Keys.{Keyed, number_at, over_class, over_numbers, key_of, IsKeyed, IsOnto}
 use Rattle.pv_alike.proofs.Upward.{kid_before, upward_low, upward_few}
 
 -- ---- keys
@@ -102,19 +101,24 @@ map_level number (k ∷ ks) (l ∷ ls) e = ((let z : number k ≡ number l = cc 
 
 -- ---- keys of a pass
 
-key_theta : (class number : ℕ → ℕ) (n : ℕ) (node : Node) → is_theta (shape node.op) ≡ true → key_of class number n node ≡ node_of (op.Theta 0) (class n ∷ [])
-key_theta class number n node e = ap (λ (t : Bool). if t then node_of (op.Theta 0) (class n ∷ []) else over_numbers number node) e
+-- what a node is numbered by, as it is a theta or not
+kids_by : Bool → ℕ → List ℕ → List ℕ
+kids_by true class numbers = class ∷ numbers
+kids_by false class numbers = numbers
 
-key_other : (class number : ℕ → ℕ) (n : ℕ) (node : Node) → is_theta (shape node.op) ≡ false → key_of class number n node ≡ over_numbers number node
-key_other class number n node e = ap (λ (t : Bool). if t then node_of (op.Theta 0) (class n ∷ []) else over_numbers number node) e
-
--- numbers that agree on the kids give the key
-pub key_same : (class number other : ℕ → ℕ) (n : ℕ) (node : Node) → (is_theta (shape node.op) ≡ false → (k : ℕ) → In node.kids k → number k ≡ other k) → key_of class number n node ≡ key_of class other n node
-key_same class number other n node same = by (is_theta (shape node.op)) refl
+-- the key is the operation over the class, for a theta, and the numbers of the earlier kids
+key_is : (class number : ℕ → ℕ) (n : ℕ) (node : Node) → key_of class number n node ≡ node_of node.op (kids_by (is_theta (shape node.op)) (class n) (map number (earlier_kids node.op node.kids)))
+unfolding kids_by
+key_is class number n node = by (is_theta (shape node.op))
   where
-    by : (t : Bool) → is_theta (shape node.op) ≡ t → key_of class number n node ≡ key_of class other n node
-    by true e = key_theta class number n node e ∙ sym (key_theta class other n node e)
-    by false e = key_other class number n node e ∙ ap (node_of node.op) (map_same number other node.kids (same e)) ∙ sym (key_other class other n node e)
+    by : (t : Bool) → (if t then over_class (class n) number node.op (take 1 node.kids) else over_numbers number node) ≡ node_of node.op (kids_by t (class n) (map number (if t then take 1 node.kids else node.kids)))
+    by true = refl
+    by false = refl
+
+-- numbers that agree on the earlier kids give the key
+pub key_same : (class number other : ℕ → ℕ) (n : ℕ) (node : Node) → ((k : ℕ) → In (earlier_kids node.op node.kids) k → number k ≡ other k) → key_of class number n node ≡ key_of class other n node
+key_same class number other n node same =
+    key_is class number n node ∙ ap (λ (js : List ℕ). node_of node.op (kids_by (is_theta (shape node.op)) (class n) js)) (map_same number other (earlier_kids node.op node.kids) same) ∙ sym (key_is class other n node)
 
 abbrev pub node_like : Node → Op → List ℕ → Type 0
 node_like node o ks = (node.op ≡ o) × (node.kids ≡ ks)
@@ -131,36 +135,37 @@ module _ (g : List Node) (class number : ℕ → ℕ) (keys : List Node) (is : I
   one_key : (a b : ℕ) (x y : Node) → slice_get g a ≡ Some x → slice_get g b ≡ Some y → key_of class number a x ≡ key_of class number b y → number a ≡ number b
   one_key a b x y at at' e = is.distinct (number a) (number b) (key_of class number a x) (is.each a x at) (is.each b y at' ∙ ap Some (sym e))
 
-  thetas_pass : (a b : ℕ) (o p : Op) (ks ls : List ℕ) → IsA (form_at g) true a o ks → IsA (form_at g) true b p ls → (number a ≡ number b) ↔ (class a ≡ class b)
-  thetas_pass a b o p ks ls x y =
-      let m = a_node g true a o ks x in
-      let n = a_node g true b p ls y in
-      let left = key_theta class number a m.0 m.4 in
-      let right = key_theta class number b n.0 n.4 in (
-        (λ e. let z : node_of (op.Theta 0) (class a ∷ []) ≡ node_of (op.Theta 0) (class b ∷ []) = sym left ∙ key_one a b m.0 n.0 m.1 n.1 e ∙ right in let kids : class a ∷ [] ≡ class b ∷ [] = ap (λ (w : Node). w.kids) z in cc),
-        (λ e. one_key a b m.0 n.0 m.1 n.1 (left ∙ ap (λ (c : ℕ). node_of (op.Theta 0) (c ∷ [])) e ∙ sym right)),
-      )
+  -- what the key of a node is made of
+  key_at : (n : ℕ) (o : Op) (ks : List ℕ) (x : Node) → node_like x o ks → key_of class number n x ≡ node_of o (kids_by (is_theta (shape o)) (class n) (map number (earlier_kids o ks)))
+  key_at n o ks x e =
+      key_is class number n x ∙ ap (λ (q : Op). node_of q (kids_by (is_theta (shape q)) (class n) (map number (earlier_kids q x.kids)))) e.0 ∙ ap (λ (zs : List ℕ). node_of o (kids_by (is_theta (shape o)) (class n) (map number (earlier_kids o zs)))) e.1
 
-  others_pass : (a b : ℕ) (o p : Op) (ks ls : List ℕ) → IsA (form_at g) false a o ks → IsA (form_at g) false b p ls → (number a ≡ number b) ↔ ((o ≡ p) × Level number ks ls)
-  others_pass a b o p ks ls x y =
-      let m = a_node g false a o ks x in
-      let n = a_node g false b p ls y in
-      let left : key_of class number a m.0 ≡ node_of o (map number ks) = key_other class number a m.0 m.4 ∙ ap (λ (q : Op). node_of q (map number m.0.kids)) m.2 ∙ ap (λ (zs : List ℕ). node_of o (map number zs)) m.3 in
-      let right : key_of class number b n.0 ≡ node_of p (map number ls) = key_other class number b n.0 n.4 ∙ ap (λ (q : Op). node_of q (map number n.0.kids)) n.2 ∙ ap (λ (zs : List ℕ). node_of p (map number zs)) n.3 in (
-        (λ e. let z : node_of o (map number ks) ≡ node_of p (map number ls) = sym left ∙ key_one a b m.0 n.0 m.1 n.1 e ∙ right in (ap (λ (w : Node). w.op) z, map_level number ks ls (ap (λ (w : Node). w.kids) z))),
-        (λ h. one_key a b m.0 n.0 m.1 n.1 (left ∙ ap (λ (q : Op). node_of q (map number ks)) h.0 ∙ ap (node_of p) (level_map number ks ls h.1) ∙ sym right)),
-      )
+  kids_apart : (t : Bool) (c d : ℕ) (ms ns : List ℕ) → kids_by t c ms ≡ kids_by t d ns → (t ≡ true → c ≡ d) × (ms ≡ ns)
+  unfolding kids_by
+  kids_apart true c d ms ns e = ((λ h. let z : c ≡ d = cc in z), let z : ms ≡ ns = cc in z)
+  kids_apart false c d ms ns e = ((λ h. absurd (cc)), e)
 
-  apart_pass : (a b : ℕ) (o p : Op) (ks ls : List ℕ) → IsA (form_at g) true a o ks → IsA (form_at g) false b p ls → number a ≡ number b → ⊥
-  apart_pass a b o p ks ls x y e =
-      let m = a_node g true a o ks x in
-      let n = a_node g false b p ls y in
-      let z : node_of (op.Theta 0) (class a ∷ []) ≡ over_numbers number n.0 = sym (key_theta class number a m.0 m.4) ∙ key_one a b m.0 n.0 m.1 n.1 e ∙ key_other class number b n.0 n.4 in
-      let is_one : is_theta (shape n.0.op) ≡ true = ap (λ (w : Node). is_theta (shape w.op)) (sym z) in
-      true≢false (sym is_one ∙ n.4)
+  kids_same : (t : Bool) (c d : ℕ) (ms : List ℕ) → (t ≡ true → c ≡ d) → kids_by t c ms ≡ kids_by t d ms
+  unfolding kids_by
+  kids_same true c d ms e = ap (λ (x : ℕ). x ∷ ms) (e refl)
+  kids_same false c d ms e = refl
 
   pub keyed_pass : IsPass (form_at g) class number
-  keyed_pass = record { thetas = thetas_pass; others = others_pass; apart = apart_pass }
+  keyed_pass a b o p ks ls e f =
+      let m = node_at g a o ks e in
+      let n = node_at g b p ls f in
+      let left = key_at a o ks m.0 (m.2, m.3) in
+      let right = key_at b p ls n.0 (n.2, n.3) in (
+        (λ same.
+            let z = sym left ∙ key_one a b m.0 n.0 m.1 n.1 same ∙ right in
+            let ops : o ≡ p = ap (λ (w : Node). w.op) z in
+            let kids = ap (λ (w : Node). w.kids) z ∙ ap (λ (q : Op). kids_by (is_theta (shape q)) (class b) (map number (earlier_kids p ls))) (sym ops) in
+            let parts = kids_apart (is_theta (shape o)) (class a) (class b) (map number (earlier_kids o ks)) (map number (earlier_kids p ls)) kids in
+            (ops, parts.0, map_level number (earlier_kids o ks) (earlier_kids p ls) parts.1)),
+        (λ h.
+            let kids = ap (kids_by (is_theta (shape o)) (class a)) (level_map number (earlier_kids o ks) (earlier_kids p ls) h.2) ∙ kids_same (is_theta (shape o)) (class a) (class b) (map number (earlier_kids p ls)) h.1 in
+            one_key a b m.0 n.0 m.1 n.1 (left ∙ ap (node_of o) kids ∙ ap (λ (q : Op). node_of q (kids_by (is_theta (shape q)) (class b) (map number (earlier_kids p ls)))) h.0 ∙ sym right)),
+      )
 
 -- ---- the loop of a pass
 
@@ -205,8 +210,8 @@ module _ (g : List Node) (class : ℕ → ℕ) (order : List ℕ) (up : IsBottom
   other p m lt there e = let same : p ≡ i = up.up.apart p i n (there ∙ ap Some e) at in omega arith
 
   -- kids of nodes up to this place keep their numbers
-  kid_kept : (p m : ℕ) (x : Node) → p ≤ i → slice_get order p ≡ Some m → slice_get g m ≡ Some x → is_theta (shape x.op) ≡ false → (k : ℕ) → In x.kids k → number_at numbers' k ≡ number_at numbers k
-  kid_kept p m x le there x_is flat k h = let b = kid_before g order p m k x up.up there x_is flat h in old_number k (other b.0 k (omega (arith, b.1)) b.2)
+  kid_kept : (p m : ℕ) (x : Node) → p ≤ i → slice_get order p ≡ Some m → slice_get g m ≡ Some x → (k : ℕ) → In (earlier_kids x.op x.kids) k → number_at numbers' k ≡ number_at numbers k
+  kid_kept p m x le there x_is k h = let b = kid_before g order p m k x up.up there x_is h in old_number k (other b.0 k (omega (arith, b.1)) b.2)
 
   each_now : (p m : ℕ) (x : Node) → p < i + 1 → slice_get order p ≡ Some m → slice_get g m ≡ Some x → slice_get keys' (number_at numbers' m) ≡ Some (key_of class (number_at numbers') m x)
   each_now p m x lt there x_is = elim (less_or_same p i lt) [

@@ -1,5 +1,5 @@
 -- Nodes have one number in the last pass exactly where they unfold equally.
-use Rattle.std.specs.Prelude.{◌≡◌, ◌↔◌, ◌⊎◌, ℕ, zero, suc, ◌<◌, Bool, true, false, List, [], ◌∷◌, map, Option, Some, refl}
+use Rattle.std.specs.Prelude.{◌≡◌, ◌↔◌, ◌⊎◌, ℕ, zero, suc, ◌<◌, Bool, true, false, List, [], ◌∷◌, take, map, Option, Some, refl, if◌then◌else◌}
 use Rattle.std.specs.List.{AllZip}
 use Rattle.std.proofs.Common.{inl, inr, sym, ap, ◌∙◌, subst, arith}
 use Rattle.pv_graph.specs.declared.node.Op.{Op}
@@ -7,8 +7,50 @@ use Rattle.pv_graph.specs.Ops.{shape, is_theta}
 use Rattle.pv_graph.specs.Forms.{Form, form}
 use Rattle.pv_graph.specs.Unfold.{UnfoldsAs}
 use Rattle.pv_graph.specs.Walks.{In}
-use Rattle.pv_alike.specs.Partition.{IsA, Level, IsPass, IsFiner, Classes, one, more, IsLast, IsRank, IsQuotient}
+use Rattle.pv_alike.specs.Partition.{IsA, Level, IsPass, IsFiner, Classes, one, more, IsLast, IsRank, IsQuotient, earlier_kids}
 use Rattle.pv_graph.proofs.Cited.{Matched, Bisimulates, bisimulates_unfolds, unfolds_bisimulates}
+
+-- whether an operation is a theta
+pub theta_or_other : (o : Op) → (is_theta (shape o) ≡ true) ⊎ (is_theta (shape o) ≡ false)
+theta_or_other o = by (is_theta (shape o))
+  where
+    by : (t : Bool) → (t ≡ true) ⊎ (t ≡ false)
+    by true = inl refl
+    by false = inr refl
+
+-- ---- earlier kids
+
+first_in : (ks : List ℕ) (k : ℕ) → In (take 1 ks) k → In ks k
+first_in [] k h = absurd h
+first_in (j ∷ ks) k (inl e) = inl e
+first_in (j ∷ ks) k (inr h) = absurd h
+
+-- they are kids
+pub earlier_in : (o : Op) (ks : List ℕ) (k : ℕ) → In (earlier_kids o ks) k → In ks k
+earlier_in o ks k = by (is_theta (shape o))
+  where
+    by : (t : Bool) → In (if t then take 1 ks else ks) k → In ks k
+    by true h = first_in ks k h
+    by false h = h
+
+-- all of them, but for a theta
+pub earlier_all : (o : Op) (ks : List ℕ) → is_theta (shape o) ≡ false → earlier_kids o ks ≡ ks
+earlier_all o ks e = ap (λ (t : Bool). if t then take 1 ks else ks) e
+
+pub earlier_first : (o : Op) (ks : List ℕ) → is_theta (shape o) ≡ true → earlier_kids o ks ≡ take 1 ks
+earlier_first o ks e = ap (λ (t : Bool). if t then take 1 ks else ks) e
+
+first_zip : (T : ℕ → ℕ → Type 0) (ks ls : List ℕ) → AllZip T ks ls → AllZip T (take 1 ks) (take 1 ls)
+first_zip T [] [] h = tt
+first_zip T (k ∷ ks) (l ∷ ls) h = (h.0, tt)
+first_zip T ks ls h = absurd h
+
+earlier_zip : (T : ℕ → ℕ → Type 0) (o p : Op) (ks ls : List ℕ) → o ≡ p → AllZip T ks ls → AllZip T (earlier_kids o ks) (earlier_kids p ls)
+earlier_zip T o p ks ls same h = subst (λ (q : Op). AllZip T (earlier_kids o ks) (earlier_kids q ls)) same (by (is_theta (shape o)))
+  where
+    by : (t : Bool) → AllZip T (if t then take 1 ks else ks) (if t then take 1 ls else ls)
+    by true = first_zip T ks ls h
+    by false = h
 
 module _ (view : ℕ → Option (Form ℕ)) where
   -- nodes that unfold equally are not apart
@@ -26,14 +68,6 @@ module _ (view : ℕ → Option (Form ℕ)) where
   level_of number (k ∷ ks) (l ∷ ls) p h = (p k l (inl refl) (inl refl) h.0, level_of number ks ls (λ a b m n u. p a b (inr m) (inr n) u) h.1)
   level_of number ks ls p h = absurd h
 
-  -- whether a node is a theta
-  theta_or_not : (o : Op) → (is_theta (shape o) ≡ true) ⊎ (is_theta (shape o) ≡ false)
-  theta_or_not o = go (is_theta (shape o))
-    where
-      go : (t : Bool) → (t ≡ true) ⊎ (t ≡ false)
-      go true = inl refl
-      go false = inr refl
-
   -- a node is a theta where one that unfolds equally is
   theta_alike : (t : Bool) (o p : Op) → o ≡ p → is_theta (shape o) ≡ t → is_theta (shape p) ≡ t
   theta_alike t o p e h = subst (λ (x : Op). is_theta (shape x) ≡ t) e h
@@ -46,20 +80,17 @@ module _ (view : ℕ → Option (Form ℕ)) where
     joins_below class number is joins zero a b o p ks ls low e f u = absurd (omega arith)
     joins_below class number is joins (suc r) a b o p ks ls low e f u =
         let same = unfolds_into a b o p ks ls e f u in
-        elim (theta_or_not o) [
-          | inl t ↦ (is.thetas a b o p ks ls (e, t) (f, theta_alike true o p same.0 t)).1 (joins a b o p ks ls (e, t) (f, theta_alike true o p same.0 t) u)
-          | inr t ↦
-              (is.others a b o p ks ls (e, t) (f, theta_alike false o p same.0 t)).1 (
-                same.0,
-                level_of number ks ls
-                    (λ k l m n v.
-                    let fall = falls a k o ks (e, t) m in
-                    let kid = whole a k o ks e m in
-                    let other = whole b l p ls f n in
-                    joins_below class number is joins r k l kid.0 other.0 kid.1 other.1 (omega arith) kid.2 other.2 v)
-                    same.1,
-              )
-        ]
+        (is a b o p ks ls e f).1 (
+          same.0,
+          (λ t. joins a b o p ks ls (e, t) (f, theta_alike true o p same.0 t) u),
+          level_of number (earlier_kids o ks) (earlier_kids p ls)
+              (λ k l m n v.
+              let fall = falls a k o ks e m in
+              let kid = whole a k o ks e (earlier_in o ks k m) in
+              let other = whole b l p ls f (earlier_in p ls l n) in
+              joins_below class number is joins r k l kid.0 other.0 kid.1 other.1 (omega arith) kid.2 other.2 v)
+              (earlier_zip (UnfoldsAs view view) o p ks ls same.0 same.1),
+        )
 
     pub pass_joins : (class number : ℕ → ℕ) → IsPass view class number → Joins true class → (a b : ℕ) (o p : Op) (ks ls : List ℕ) → view a ≡ Some (form o ks) → view b ≡ Some (form p ls) → UnfoldsAs view view a b → number a ≡ number b
     pass_joins class number is joins a b o p ks ls e f u = joins_below class number is joins (suc (rank a)) a b o p ks ls (omega arith) e f u
@@ -109,22 +140,16 @@ module _ (view : ℕ → Option (Form ℕ)) where
         let p = h.2.0 in
         let ls = h.2.1 in
         let f = h.2.2 in
-        elim (theta_or_not o) [
+        let parts = (is a b o p ks ls e f).0 h.0 in
+        elim (theta_or_other o) [
           | inl t ↦
-              elim (theta_or_not p) [
-                | inl s ↦
-                    let same = (is.thetas a b o p ks ls (e, t) (f, s)).0 h.0 in
-                    let parts = (finer.finer a b o p ks ls (e, t) (f, s)).0 (last a b o p ks ls (e, t) (f, s) same) in
-                    matched_of number a b o p ks ls e f parts.1 parts.2
-                | inr s ↦ absurd (is.apart a b o p ks ls (e, t) (f, s) h.0)
-              ]
+              let s = theta_alike true o p parts.0 t in
+              let next_parts = (finer.finer a b o p ks ls (e, t) (f, s)).0 (last a b o p ks ls (e, t) (f, s) (parts.1 t)) in
+              matched_of number a b o p ks ls e f parts.0 next_parts.2
           | inr t ↦
-              elim (theta_or_not p) [
-                | inl s ↦ absurd (is.apart b a p o ls ks (f, s) (e, t) (sym h.0))
-                | inr s ↦
-                    let parts = (is.others a b o p ks ls (e, t) (f, s)).0 h.0 in
-                    matched_of number a b o p ks ls e f parts.0 parts.1
-              ]
+              let s = theta_alike false o p parts.0 t in
+              let all : Level number ks ls = subst (λ (zs : List ℕ). Level number ks zs) (earlier_all p ls s) (subst (λ (ys : List ℕ). Level number ys (earlier_kids p ls)) (earlier_all o ks t) parts.2) in
+              matched_of number a b o p ks ls e f parts.0 all
         ]
 
     -- in the last pass nodes have one number exactly where they unfold equally

@@ -5,15 +5,18 @@ use Rattle.std.proofs.Common.{inl, inr, sym, ap, ◌∙◌, subst, arith, append
 use Rattle.std.proofs.lemmas.Option.{slice_get_within}
 use Rattle.std.proofs.lemmas.List.{take-append-le, get_or-set_same, get_or-set_other}
 use Rattle.std.proofs.lemmas.List.Elements.{Contains-push, Contains-append_left}
+use Rattle.pv_graph.specs.declared.node.Op.{Op}
 use Rattle.pv_graph.specs.declared.node.Node.{Node}
 use Rattle.pv_graph.specs.Ops.{shape}
 use Rattle.pv_graph.specs.Walks.{In}
 use Rattle.pv_graph.specs.Graphs.{Graph, form_at, IsGraph}
 use Rattle.pv_graph.specs.Calls.{LeavesNoSortOpen}
-use Rattle.pv_graph.proofs.Cited.{in_range, kid_within, in_front, in_last, in_cases, set_length, equal_or_not, IsFlat, none_left, flat_edge, flat_unless}
+use Rattle.pv_graph.proofs.Cited.{in_range, kid_within, in_front, in_last, in_cases, set_length, equal_or_not, IsFlat, none_left, flat_edge, flat_first, flat_unless}
 use Rattle.pv_graph.specs.Walks.{Move, Edge, move_to}
 use Rattle.pv_alike.specs.Visits.{Visited}
+use Rattle.pv_alike.specs.Partition.{earlier_kids}
 use Rattle.pv_alike.specs.BottomUp.{HasKids, Lacks, IsUpward, IsBottomUp, Waits, Awaits, Settles, IsSettling}
+use Rattle.pv_alike.proofs.Refined.{theta_or_other, earlier_in, earlier_all, earlier_first}
 use Rattle.pv_alike.proofs.Upward.{contains_or_not, front_contains, front_cases, upward_push}
 
 -- ---- one node
@@ -94,7 +97,7 @@ awaits_kept : (g : List Node) (seen : List ℕ) (before now : Lists) (n : ℕ) �
 awaits_kept g seen before now n keeps a = record { kid = a.kid; node = a.node; is = a.is; lacks = a.lacks; waits = keeps a.kid n a.waits }
 
 awaits_less : (g : List Node) (seen less : List ℕ) (waiting : Lists) (n : ℕ) → ((k : ℕ) → Contains less k → Contains seen k) → Awaits g seen waiting n → Awaits g less waiting n
-awaits_less g seen less waiting n within a = record { kid = a.kid; node = a.node; is = a.is; lacks = (a.lacks.0, a.lacks.1, λ there. a.lacks.2 (within a.kid there)); waits = a.waits }
+awaits_less g seen less waiting n within a = record { kid = a.kid; node = a.node; is = a.is; lacks = (a.lacks.0, λ there. a.lacks.1 (within a.kid there)); waits = a.waits }
 
 grown : (old new : List ℕ) → (rest : List ℕ) × (new ≡ old ++ rest) → (n : ℕ) → Contains old n → Contains new n
 grown old new grows n there = subst (λ (xs : List ℕ). Contains xs n) (sym grows.1) (Contains-append_left old grows.0 n there)
@@ -174,7 +177,7 @@ module _ (g : List Node) (order new : List ℕ) (waiting after : Lists) (done k 
             kid = a.kid;
             node = a.node;
             is = a.is;
-            lacks = (a.lacks.0, a.lacks.1, λ there. elim (front_cases order done k a.kid at (subst (λ (xs : List ℕ). Contains xs a.kid) same_front there)) [ inl old ↦ a.lacks.2 old | inr e ↦ ne (sym e) ]);
+            lacks = (a.lacks.0, λ there. elim (front_cases order done k a.kid at (subst (λ (xs : List ℕ). Contains xs a.kid) same_front there)) [ inl old ↦ a.lacks.1 old | inr e ↦ ne (sym e) ]);
             waits = s.keeps a.kid n (left a.kid n ne a.waits);
           })
     ]
@@ -216,6 +219,18 @@ place_in [] x h = absurd h
 place_in (y ∷ xs) x (inl e) = (0, ap Some e)
 place_in (y ∷ xs) x (inr h) = let p = place_in xs x h in (suc p.0, p.1)
 
+-- an earlier kid stands at a place other than a theta's second
+earlier_flat : (o : Op) (ks : List ℕ) (k : ℕ) → In (earlier_kids o ks) k → (p : ℕ) × (slice_get ks p ≡ Some k) × IsFlat (move_to (shape o) p)
+earlier_flat o ks k h = elim (theta_or_other o) [
+  | inl t ↦ (0, first_at ks (subst (λ (js : List ℕ). In js k) (earlier_first o ks t) h), flat_first (shape o))
+  | inr t ↦ let p = place_in ks k (subst (λ (js : List ℕ). In js k) (earlier_all o ks t) h) in (p.0, p.1, flat_unless (shape o) p.0 t)
+]
+  where
+    first_at : (js : List ℕ) → In (take 1 js) k → slice_get js 0 ≡ Some k
+    first_at [] m = absurd m
+    first_at (j ∷ js) (inl e) = ap Some e
+    first_at (j ∷ js) (inr m) = absurd m
+
 module _ (g : Graph) (is : IsGraph g) (cycles : LeavesNoSortOpen g.nodes) (order : List ℕ) (waiting : Lists) (s : IsSettling g.nodes order waiting (length order)) where
   -- a node that waits is not in the order
   abbrev Missing : ℕ → Type 0
@@ -234,8 +249,8 @@ module _ (g : Graph) (is : IsGraph g) (cycles : LeavesNoSortOpen g.nodes) (order
       goes n y = elim (s.each n y.0) [
         | inl there ↦ absurd (y.1 there)
         | inr a ↦
-            let p = place_in a.node.kids a.kid a.lacks.1 in
-            let flat = flat_unless (shape a.node.op) p.0 a.lacks.0 in
+            let p = earlier_flat a.node.op a.node.kids a.kid a.lacks.0 in
             let whole : take (length order) order ≡ order = take_all (length order) order (omega arith) in
-            (move_to (shape a.node.op) p.0, a.kid, flat_edge g.nodes n a.kid p.0 a.node a.is p.1 flat, flat, (kid_within g is n a.kid a.node a.is a.lacks.1, λ there. a.lacks.2 (subst (λ (xs : List ℕ). Contains xs a.kid) (sym whole) there)))
+            let kid : In a.node.kids a.kid = earlier_in a.node.op a.node.kids a.kid a.lacks.0 in
+            (move_to (shape a.node.op) p.0, a.kid, flat_edge g.nodes n a.kid p.0 a.node a.is p.1 p.2, p.2, (kid_within g is n a.kid a.node a.is kid, λ there. a.lacks.1 (subst (λ (xs : List ℕ). Contains xs a.kid) (sym whole) there)))
       ]

@@ -1,4 +1,4 @@
--- Orders in which each node but a theta comes after its kids: one node more, and the ranks that they give.
+-- Orders in which each node comes after its earlier kids: one node more, and the ranks that they give.
 use Rattle.std.specs.Prelude.{◌≡◌, ◌⊎◌, ℕ, ◌+◌, ◌<◌, ◌≤◌, Bool, true, false, List, [], ◌∷◌, ◌++◌, length, take, drop, Some, slice_get}
 use Rattle.std.specs.List.{Contains, list_any}
 use Rattle.std.proofs.Common.{inl, inr, sym, ap, ◌∙◌, subst, arith, eqb, true≢false, refl, take_all, get_or}
@@ -8,10 +8,9 @@ use Rattle.std.proofs.lemmas.List.Elements.{Contains-push_cases}
 use Rattle.pv_list.proofs.Cited.{place_of, contains_at}
 use Rattle.pv_graph.specs.declared.node.Op.{Op}
 use Rattle.pv_graph.specs.declared.node.Node.{Node}
-use Rattle.pv_graph.specs.Ops.{shape, is_theta}
 use Rattle.pv_graph.specs.Walks.{In}
 use Rattle.pv_graph.specs.Graphs.{form_at}
-use Rattle.pv_alike.specs.Partition.{IsRank}
+use Rattle.pv_alike.specs.Partition.{IsRank, earlier_kids}
 use Rattle.pv_graph.proofs.Cited.{node_at, push_cases}
 use Rattle.pv_alike.specs.BottomUp.{HasKids, IsUpward, IsBottomUp}
 use Rattle.pv_alike.proofs.Places.{get_before, apart_push}
@@ -70,12 +69,12 @@ pub upward_few : (g : List Node) (order : List ℕ) → IsUpward g order → len
 upward_few g order up = apart_low order (length g) up.apart (λ p n at. upward_low g order p n up at)
 
 -- kids stand at earlier places
-pub kid_before : (g : List Node) (order : List ℕ) (p n k : ℕ) (node : Node) → IsUpward g order → slice_get order p ≡ Some n → slice_get g n ≡ Some node → is_theta (shape node.op) ≡ false → In node.kids k → (q : ℕ) × (q < p) × (slice_get order q ≡ Some k)
-kid_before g order p n k node up at is flat m =
+pub kid_before : (g : List Node) (order : List ℕ) (p n k : ℕ) (node : Node) → IsUpward g order → slice_get order p ≡ Some n → slice_get g n ≡ Some node → In (earlier_kids node.op node.kids) k → (q : ℕ) × (q < p) × (slice_get order q ≡ Some k)
+kid_before g order p n k node up at is m =
     let h = up.after p n at in
     let one : node ≡ h.0 = same_Some node h.0 (sym is ∙ h.1) in
     let kids : HasKids (take p order) node = subst (λ (x : Node). HasKids (take p order) x) (sym one) h.2 in
-    let there = place_of (take p order) k (kids flat k m) in
+    let there = place_of (take p order) k (kids k m) in
     let lt : there.0 < length (take p order) = slice_get_within (take p order) there.0 k there.1 in
     (there.0, omega (arith, length-take-le p order (let z = slice_get_within order p n at in omega arith)), front_get order p there.0 k there.1)
 
@@ -98,10 +97,10 @@ module _ (g : List Node) (order : List ℕ) (is : IsBottomUp g order) where
   pub rank_falls : IsRank (form_at g) rank_in
   unfolding rank_in
   rank_falls n k o ks a m =
-      let node = node_at g n o ks a.0 in
+      let node = node_at g n o ks a in
       let at = place_of order n (is.all n (slice_get_within g n node.0 node.1)) in
-      let flat : is_theta (shape node.0.op) ≡ false = ap (λ (x : Op). is_theta (shape x)) node.2 ∙ a.1 in
-      let before = kid_before g order at.0 n k node.0 is.up at.1 node.1 flat (subst (λ (zs : List ℕ). In zs k) (sym node.3) m) in
+      let kids : earlier_kids node.0.op node.0.kids ≡ earlier_kids o ks = ap (λ (x : Op). earlier_kids x node.0.kids) node.2 ∙ ap (earlier_kids o) node.3 in
+      let before = kid_before g order at.0 n k node.0 is.up at.1 node.1 (subst (λ (zs : List ℕ). In zs k) (sym kids) m) in
       let here = rank_is n at.0 (contains_or_not order n) at.1 in
       let there = rank_is k before.0 (contains_or_not order k) before.2 in
       omega (arith, before.1, here, there)

@@ -1,19 +1,20 @@
--- Orders in which each node but a theta comes after its kids, and how one is made: a node that lacks a kid waits for it.
-use Rattle.std.specs.Prelude.{◌≡◌, ◌⊎◌, ℕ, ◌<◌, ◌≤◌, false, List, [], ◌++◌, length, take, Some, slice_get, slice_index_or}
+-- Orders in which each node comes after its kids, a theta after its first, and how one is made: a node that lacks such a kid
+-- waits for it.
+use Rattle.std.specs.Prelude.{◌≡◌, ◌⊎◌, ℕ, ◌<◌, ◌≤◌, List, [], ◌++◌, length, take, Some, slice_get, slice_index_or}
 use Rattle.std.specs.List.{Contains}
 use Rattle.pv_graph.specs.declared.node.Node.{Node}
-use Rattle.pv_graph.specs.Ops.{shape, is_theta}
 use Rattle.pv_graph.specs.Walks.{In}
+use Rattle.pv_alike.specs.Partition.{earlier_kids}
 
--- a node that is no theta has all its kids among these nodes
+-- a node has its earlier kids among these nodes
 abbrev pub HasKids : List ℕ → Node → Type 0
-HasKids seen node = is_theta (shape node.op) ≡ false → (k : ℕ) → In node.kids k → Contains seen k
+HasKids seen node = (k : ℕ) → In (earlier_kids node.op node.kids) k → Contains seen k
 
--- it is no theta, and its kid k is not among them
+-- its earlier kid k is not among them
 abbrev pub Lacks : List ℕ → Node → ℕ → Type 0
-Lacks seen node k = (is_theta (shape node.op) ≡ false) × In node.kids k × (Contains seen k → ⊥)
+Lacks seen node k = In (earlier_kids node.op node.kids) k × (Contains seen k → ⊥)
 
--- nodes of a graph, none twice, each but a theta after its kids
+-- nodes of a graph, none twice, each after its earlier kids
 pub record IsUpward (g : List Node) (order : List ℕ) : Type 0 where
   pub apart : (p q n : ℕ) → slice_get order p ≡ Some n → slice_get order q ≡ Some n → p ≡ q
   pub after : (p n : ℕ) → slice_get order p ≡ Some n → (node : Node) × (slice_get g n ≡ Some node) × HasKids (take p order) node

@@ -1,6 +1,6 @@
 -- Numbers of nodes by keys: nodes have one number where they have one key.
-use Rattle.std.specs.Prelude.{◌≡◌, ◌⊎◌, ℕ, ◌<◌, ◌≤◌, true, List, [], ◌∷◌, ◌++◌, length, map, Some, slice_get, slice_index_or, if◌then◌else◌}
-use Rattle.pv_graph.specs.declared.node.Op.TheVariants as op
+use Rattle.std.specs.Prelude.{◌≡◌, ◌⊎◌, ℕ, ◌<◌, ◌≤◌, true, List, [], ◌∷◌, ◌++◌, length, map, take, Some, slice_get, slice_index_or, if◌then◌else◌}
+use Rattle.pv_graph.specs.declared.node.Op.{Op}
 use Rattle.pv_graph.specs.declared.node.Node.{Node}
 use Rattle.pv_graph.specs.Ops.{shape, is_theta}
 use Rattle.pv_graph.specs.Nodes.{node_of, IsAbsent}
@@ -19,14 +19,18 @@ number_at numbers n = slice_index_or numbers n 0
 abbrev pub over_numbers : (ℕ → ℕ) → Node → Node
 over_numbers number node = node_of node.op (map number node.kids)
 
--- what a pass numbers a node by: a theta by its class, under a depth that no loop has, and each other node by its
--- operation over the numbers of its kids
-abbrev pub key_of : (ℕ → ℕ) → (ℕ → ℕ) → ℕ → Node → Node
-key_of class number n node = if is_theta (shape node.op) then node_of (op.Theta 0) (class n ∷ []) else over_numbers number node
+-- a theta's operation over its class and the numbers of some of its kids
+abbrev pub over_class : ℕ → (ℕ → ℕ) → Op → List ℕ → Node
+over_class class number o ks = node_of o (class ∷ map number ks)
 
--- what the next class of a theta is numbered by: its operation over its class and the numbers of its kids
+-- what a pass numbers a node by: a theta by its operation over its class and the number of its first kid, and each other
+-- node by its operation over the numbers of its kids
+abbrev pub key_of : (ℕ → ℕ) → (ℕ → ℕ) → ℕ → Node → Node
+key_of class number n node = if is_theta (shape node.op) then over_class (class n) number node.op (take 1 node.kids) else over_numbers number node
+
+-- what the next class of a theta is numbered by: its operation over its class and the numbers of both kids
 abbrev pub theta_key : (ℕ → ℕ) → (ℕ → ℕ) → ℕ → Node → Node
-theta_key class number n node = node_of node.op (class n ∷ map number node.kids)
+theta_key class number n node = over_class (class n) number node.op node.kids
 
 -- each node has the number of its key
 pub record IsKeyed (g : List Node) (class number : ℕ → ℕ) (keys : List Node) : Type 0 where

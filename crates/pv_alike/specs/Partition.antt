@@ -1,6 +1,6 @@
 -- How nodes that unfold equally are found: classes of thetas, made finer until nothing changes. In each pass all
--- other nodes are numbered over the classes of the thetas, and then the thetas over the numbers of their kids.
-use Rattle.std.specs.Prelude.{◌≡◌, ◌↔◌, ℕ, ◌<◌, Bool, true, false, List, map, Option, Some}
+-- nodes are numbered from below, a theta by its class and its first kid, and then the thetas by the numbers of both kids.
+use Rattle.std.specs.Prelude.{◌≡◌, ◌↔◌, ℕ, ◌<◌, Bool, true, List, take, map, Option, Some, if◌then◌else◌}
 use Rattle.std.specs.List.{AllZip}
 use Rattle.pv_graph.specs.declared.node.Op.{Op}
 use Rattle.pv_graph.specs.Ops.{shape, is_theta}
@@ -15,12 +15,14 @@ IsA view t n o ks = (view n ≡ Some (form o ks)) × (is_theta (shape o) ≡ t)
 abbrev pub Level : (ℕ → ℕ) → List ℕ → List ℕ → Type 0
 Level number ks ls = AllZip (λ k l. number k ≡ number l) ks ls
 
--- a pass: two thetas have one number where they have one class; two other nodes, where they have one operation over
--- kids of equal numbers; and a theta has no number of another node
-pub record IsPass (view : ℕ → Option (Form ℕ)) (class number : ℕ → ℕ) : Type 0 where
-  pub thetas : (a b : ℕ) (o p : Op) (ks ls : List ℕ) → IsA view true a o ks → IsA view true b p ls → (number a ≡ number b) ↔ (class a ≡ class b)
-  pub others : (a b : ℕ) (o p : Op) (ks ls : List ℕ) → IsA view false a o ks → IsA view false b p ls → (number a ≡ number b) ↔ ((o ≡ p) × Level number ks ls)
-  pub apart : (a b : ℕ) (o p : Op) (ks ls : List ℕ) → IsA view true a o ks → IsA view false b p ls → number a ≡ number b → ⊥
+-- the kids that a node comes after: all, but of a theta the first alone, since each cycle takes the second kid of some theta
+abbrev pub earlier_kids : Op → List ℕ → List ℕ
+earlier_kids o ks = if is_theta (shape o) then take 1 ks else ks
+
+-- a pass: two nodes have one number where they have one operation, earlier kids of equal numbers, and one class if they are thetas
+abbrev pub IsPass : (ℕ → Option (Form ℕ)) → (ℕ → ℕ) → (ℕ → ℕ) → Type 0
+IsPass view class number = (a b : ℕ) (o p : Op) (ks ls : List ℕ) → view a ≡ Some (form o ks) → view b ≡ Some (form p ls)
+    → (number a ≡ number b) ↔ ((o ≡ p) × (is_theta (shape o) ≡ true → class a ≡ class b) × Level number (earlier_kids o ks) (earlier_kids p ls))
 
 -- the next classes of thetas: those that had one class, and have one depth and kids of equal numbers
 pub record IsFiner (view : ℕ → Option (Form ℕ)) (class number next : ℕ → ℕ) : Type 0 where
@@ -35,9 +37,9 @@ pub data Classes (view : ℕ → Option (Form ℕ)) : (ℕ → ℕ) → Type 0 w
 abbrev pub IsLast : (ℕ → Option (Form ℕ)) → (ℕ → ℕ) → (ℕ → ℕ) → Type 0
 IsLast view class next = (a b : ℕ) (o p : Op) (ks ls : List ℕ) → IsA view true a o ks → IsA view true b p ls → class a ≡ class b → next a ≡ next b
 
--- a rank that falls along the kids of all nodes but thetas, as the order of a pass has it
+-- a rank that falls along earlier kids, as the order of a pass has it
 abbrev pub IsRank : (ℕ → Option (Form ℕ)) → (ℕ → ℕ) → Type 0
-IsRank view rank = (n k : ℕ) (o : Op) (ks : List ℕ) → IsA view false n o ks → In ks k → rank k < rank n
+IsRank view rank = (n k : ℕ) (o : Op) (ks : List ℕ) → view n ≡ Some (form o ks) → In (earlier_kids o ks) k → rank k < rank n
 
 -- a node for each number: the operation of its nodes, over the numbers of their kids
 abbrev pub IsQuotient : (ℕ → Option (Form ℕ)) → (ℕ → ℕ) → (ℕ → Option (Form ℕ)) → Type 0

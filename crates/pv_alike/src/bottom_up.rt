@@ -1,4 +1,4 @@
-//! An order in which each node but a theta comes after its kids.
+//! An order in which each node comes after its kids, and a theta after its first.
 
 ghost use Rattle.std.specs.Prelude.{◌≡◌, ◌<◌, ◌∷◌, [], ℕ, length, IfOk, OnOk, MatchOption};
 ghost use Rattle.std.specs.List.{range_with_len};
@@ -6,6 +6,7 @@ ghost use Rattle.pv_graph.specs.Graphs.{IsGraph};
 ghost use Rattle.pv_graph.specs.Walks.{In};
 ghost use Rattle.pv_graph.specs.Calls.{LeavesNoSortOpen};
 ghost use Rattle.pv_graph.specs.Ops.{shape, is_theta};
+ghost use Rattle.pv_alike.specs.Partition.{earlier_kids};
 ghost use Rattle.pv_alike.specs.BottomUp.{HasKids, Lacks, IsUpward, IsBottomUp, Settles, IsSettling};
 
 use crate::order::Order;
@@ -21,14 +22,22 @@ pub(crate) fn is_theta(op: &Op) -> bool
     matches!(op, Op::Theta(_))
 }
 
-// The first kid of a node that an order lacks; a theta needs none.
+/// The kids that a node comes after: all, but of a theta the first alone.
+pub(crate) fn earlier_kids(node: &Node) -> &[NodeId]
+    ensures { result.now ≡ earlier_kids node.now.op node.now.kids }
+{
+    let kids = node.kids.as_slice();
+    if is_theta(&node.op) {
+        return &kids[..kids.len().min(1)];
+    }
+    kids
+}
+
+// The first of these kids that an order lacks.
 fn missing_kid(node: &Node, order: &Order) -> Option<NodeId>
     ensures { MatchOption result (HasKids order.now node.now) (λ k. Lacks order.now node.now k) }
 {
-    if is_theta(&node.op) {
-        return None;
-    }
-    for k in node.kids.as_slice() {
+    for k in earlier_kids(node) {
         if !order.has(*k) {
             return Some(*k);
         }
@@ -105,7 +114,7 @@ fn settle_waiting(
     Ok(())
 }
 
-/// All nodes of a graph, each but a theta after its kids.
+/// All nodes of a graph, each after its kids, and a theta after its first.
 pub(crate) fn bottom_up(alloc: Global, g: &Graph) -> Result<Order, Memory>
     requires graph { IsGraph g.now }
     requires cycles { LeavesNoSortOpen g.now.nodes }

@@ -10,9 +10,9 @@ ghost use Rattle.pv_alike.specs.Keys.{number_at, theta_key, IsOnto};
 
 use crate::bottom_up::is_theta;
 use crate::keys::Keys;
-use crate::numbering::{Numbers, numbers_of, pass};
+use crate::numbering::{Numbers, over_class, pass};
 use crate::order::Order;
-use pv_graph::{Graph, Kids, Node, NodeId};
+use pv_graph::{Graph, Node, NodeId};
 use pv_value::Memory;
 use std::alloc::Global;
 
@@ -28,12 +28,13 @@ fn theta_key(
     requires kids { (k : ℕ) → In node.now.kids k → k < length numbers.now }
     ensures { IfOk result (λ key. key ≡ theta_key (number_at classes.now) (number_at numbers.now) n node.now) }
 {
-    let mut kids = vec![in alloc; classes[n as usize]]?;
-    kids.append(&mut numbers_of(alloc, numbers, node.kids.as_slice())?)?;
-    Ok(Node {
-        op: node.op.copy(alloc)?,
-        kids: Kids::new(alloc, &kids)?,
-    })
+    over_class(
+        alloc,
+        classes[n as usize],
+        numbers,
+        &node.op,
+        node.kids.as_slice(),
+    )
 }
 
 // The next classes of the thetas: those of one class stay together where they have one depth and kids

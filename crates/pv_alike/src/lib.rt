@@ -15,12 +15,14 @@
 //! Roots of two graphs have one least graph exactly where they unfold as each other, so that what is
 //! said of it, as the verdict on two methods, doesn't depend on the graph in which they were made.
 //!
-//! How it is found (`specs/Algorithm`, and `Partition` of `pv_graph`): `bottom_up` orders the nodes so
-//! that each but a theta comes after its kids (`specs/BottomUp`), by a list of work for each node.
-//! `classes` starts with one class of all thetas. In each pass, `numbering` numbers all nodes in that
-//! order by keys (`specs/Keys`): a theta by its class, any other by its operation over the numbers of its
-//! kids; then thetas of one class stay together where they have one depth and kids of equal numbers.
-//! A pass that makes no more classes is the last: its numbers are equal exactly where nodes unfold
+//! How it is found (`specs/Algorithm`, `specs/Partition`): `bottom_up` orders the nodes so that each comes
+//! after its kids, and a theta after its first (`specs/BottomUp`), by a list of work for each node. There
+//! is such an order, since each cycle takes the second kid of some theta. `classes` starts with one class
+//! of all thetas. In each pass, `numbering` numbers all nodes in that order by keys (`specs/Keys`): a theta
+//! by its class and the number of its first kid, any other by its operation over the numbers of its kids;
+//! then thetas of one class stay together where they have one depth and kids of equal numbers. So loops
+//! that begin with different values are told apart in one pass, also where each begins with what the one before it
+//! left. A pass that makes no more classes is the last: its numbers are equal exactly where nodes unfold
 //! equally. `quotient` makes a node for each number (`specs/Quotient`), `visit` finds the order of first
 //! visits, with a stack in place of recursion, and `renumber` copies the nodes of that order, each over
 //! the places of its kids (`specs/Renumbered`).

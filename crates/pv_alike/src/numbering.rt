@@ -5,17 +5,14 @@ ghost use Rattle.pv_graph.specs.Graphs.{IsGraph, form_at};
 ghost use Rattle.pv_graph.specs.Walks.{In};
 ghost use Rattle.pv_alike.specs.Partition.{IsPass};
 ghost use Rattle.pv_alike.specs.BottomUp.{IsBottomUp};
-ghost use Rattle.pv_alike.specs.Keys.{number_at, over_numbers, key_of, IsOnto};
+ghost use Rattle.pv_alike.specs.Keys.{number_at, over_numbers, over_class, key_of, IsOnto};
 
-use crate::bottom_up::is_theta;
+use crate::bottom_up::{earlier_kids, is_theta};
 use crate::keys::Keys;
 use crate::order::Order;
 use pv_graph::{Graph, Kids, Node, NodeId, Op};
 use pv_value::Memory;
 use std::alloc::Global;
-
-// A depth that no loop has.
-const NO_LOOP: u32 = 0;
 
 /// A number for each node, below `count`.
 #[derive(Drop)]
@@ -62,6 +59,25 @@ pub(crate) fn over_numbers(alloc: Global, numbers: &[NodeId], node: &Node) -> Re
     })
 }
 
+/// A theta's operation over its class and the numbers of some of its kids.
+pub(crate) fn over_class(
+    alloc: Global,
+    class: NodeId,
+    numbers: &[NodeId],
+    op: &Op,
+    kids: &[NodeId],
+) -> Result<Node, Memory>
+    requires { (k : ℕ) → In kids.now k → k < length numbers.now }
+    ensures { IfOk result (λ over. over ≡ over_class class (number_at numbers.now) op.now kids.now) }
+{
+    let mut over = vec![in alloc; class]?;
+    over.append(&mut numbers_of(alloc, numbers, kids)?)?;
+    Ok(Node {
+        op: op.copy(alloc)?,
+        kids: Kids::new(alloc, &over)?,
+    })
+}
+
 // What node n is numbered by.
 fn key_of(
     alloc: Global,
@@ -75,10 +91,13 @@ fn key_of(
     ensures { IfOk result (λ key. key ≡ key_of (number_at classes.now) (number_at numbers.now) n node.now) }
 {
     if is_theta(&node.op) {
-        return Ok(Node {
-            op: Op::Theta(NO_LOOP),
-            kids: Kids::new(alloc, &[classes[n as usize]])?,
-        });
+        return over_class(
+            alloc,
+            classes[n as usize],
+            numbers,
+            &node.op,
+            earlier_kids(node),
+        );
     }
     over_numbers(alloc, numbers, node)
 }

@@ -7,14 +7,13 @@ use Rattle.pv_alike.proofs.bottom_up.missing_kid.Goals as goal
 
 pub returns-then-not-has : goal.returns-then-not-has
 returns-then-not-has c = (
-  sym c.is_theta.ensures ∙ c.if-is_theta.false,
-  subst (λ (kids : List ℕ). In kids (get_or c.as_slice-k-items.result.now c.loop-k.k-index 0)) c.as_slice-k-items.ensures (in_at c.as_slice-k-items.result.now c.loop-k.k-index 0 c.loop-k-test.true),
+  subst (λ (kids : List ℕ). In kids (get_or c.earlier_kids-k-items.result.now c.loop-k.k-index 0)) c.earlier_kids-k-items.ensures (in_at c.earlier_kids-k-items.result.now c.loop-k.k-index 0 c.loop-k-test.true),
   λ there. true≢false (sym (c.has.ensures.1 there) ∙ c.if-not-has.true),
 )
 
 pub loop-k-preserved : goal.loop-k-preserved
 loop-k-preserved c k m =
-    let items = c.as_slice-k-items.result.now in
+    let items = c.earlier_kids-k-items.result.now in
     let one = get_or items c.loop-k.k-index 0 in
     let both : In (take c.loop-k.k-index items ++ one ∷ []) k = subst (λ (ks : List ℕ). In ks k) (take_more items c.loop-k.k-index 0 c.loop-k-test.true) m in
     elim (in_cases (take c.loop-k.k-index items) one k both) [

@@ -26,12 +26,7 @@ bad_file first second bad text s read e is a b p q = subst (λ (x : Status). Jud
 judged_by : (a b text : List ℕ) (verdicts : List Verdict) (s : Status) → IsReport a b verdicts text → IsStatusOf verdicts s → Judged a b text s
 judged_by a b text verdicts status.AllEquivalent r is = (verdicts, r, is)
 judged_by a b text verdicts status.Others r is = (verdicts, r, is)
-judged_by a b text verdicts status.BadClass r is = absurd is
-judged_by a b text verdicts status.BadCert r is = absurd is
-judged_by a b text verdicts status.BadWords r is = absurd is
-judged_by a b text verdicts status.ReadFault r is = absurd is
-judged_by a b text verdicts status.WriteFault r is = absurd is
-judged_by a b text verdicts status.Memory r is = absurd is
+judged_by a b text verdicts _ r is = absurd is
 
 -- both have one, and these are the verdicts
 pub judges : (first second : Fetched) (pair : Pair) (verdicts : List Verdict) (text : List ℕ) (s : Status) → ReadsPair first second (Ok pair) → AllZip (IsVerdict pair.first pair.second) pair.first.methods verdicts

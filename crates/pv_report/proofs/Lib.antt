@@ -1,6 +1,6 @@
 pub mod Places
 pub mod Lists
-pub mod Naming
+pub mod LineWords
 pub mod Partnering
 pub mod Judgements
 pub mod SameFlows

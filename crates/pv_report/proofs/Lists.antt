@@ -1,5 +1,5 @@
 -- What loops over lists have made so far.
-use Rattle.std.proofs.Common.{◌≡◌, ℕ, zero, suc, ◌+◌, ◌<◌, List, [], ◌∷◌, ◌++◌, length, take, get_or, Option, Some, refl, sym, ap, subst, ◌∙◌, arith}
+use Rattle.std.proofs.Common.{◌≡◌, ℕ, zero, suc, ◌+◌, ◌<◌, List, [], ◌∷◌, ◌++◌, length, take, get_or, Some, refl, sym, ap, subst, ◌∙◌, arith}
 use Rattle.std.specs.Prelude.{slice_get}
 use Rattle.std.specs.List.{AllZip, flat_map}
 use Rattle.std.proofs.lemmas.List.{flat_map_more}
@@ -20,18 +20,16 @@ take_next {A = A} xs i x at = let next : i + 1 ≡ suc i = omega arith in ap (λ
 
 zip_push : {X Y : Type 0} (Is : X → Y → Type 0) (xs : List X) (ys : List Y) (x : X) (y : Y) → AllZip Is xs ys → Is x y → AllZip Is (xs ++ x ∷ []) (ys ++ y ∷ [])
 zip_push Is [] [] x y h is = (is, tt)
-zip_push Is [] (w ∷ ys) x y h is = absurd h
-zip_push Is (v ∷ xs) [] x y h is = absurd h
 zip_push Is (v ∷ xs) (w ∷ ys) x y h is = (h.0, zip_push Is xs ys x y h.1 is)
+zip_push Is _ _ x y h is = absurd h
 
 pub zip_next : {X Y : Type 0} (Is : X → Y → Type 0) (xs : List X) (i : ℕ) (ys : List Y) (x : X) (y : Y) → slice_get xs i ≡ Some x → AllZip Is (take i xs) ys → Is x y → AllZip Is (take (i + 1) xs) (ys ++ y ∷ [])
 zip_next {X = X} Is xs i ys x y at h is = subst (λ (front : List X). AllZip Is front (ys ++ y ∷ [])) (sym (take_next xs i x at)) (zip_push Is (take i xs) ys x y h is)
 
 pub zip_length : {X Y : Type 0} (Is : X → Y → Type 0) (xs : List X) (ys : List Y) → AllZip Is xs ys → length ys ≡ length xs
 zip_length Is [] [] h = refl
-zip_length Is [] (y ∷ ys) h = absurd h
-zip_length Is (x ∷ xs) [] h = absurd h
 zip_length Is (x ∷ xs) (y ∷ ys) h = ap suc (zip_length Is xs ys h.1)
+zip_length Is _ _ h = absurd h
 
 -- ---- the lines
 

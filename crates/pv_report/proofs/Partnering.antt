@@ -9,7 +9,7 @@ use Rattle.pv_value.specs.declared.memory.Memory.{Memory}
 use Rattle.pv_class.specs.declared.file.ClassFile.{ClassFile}
 use Rattle.pv_frame.specs.Programs.{is_instance}
 use Rattle.pv_report.specs.declared.verdict.Verdict.{Verdict}
-use Rattle.pv_report.specs.declared.verdict.Verdict.TheVariants.{Missing, NoCode, Refused, Equivalent, Apart}
+use Rattle.pv_report.specs.declared.verdict.Verdict.TheVariants.{Missing, Equivalent, Apart}
 use Rattle.pv_report.specs.Verdicts.{LackRoots, IsVerdict, IsVerdictOn}
 use Rattle.pv_report.specs.Partners.{IsPartner}
 use Rattle.pv_report.specs.Judging.{IsVerdictAt, IsVerdictOnPlaces, IsLikeAt}
@@ -55,18 +55,13 @@ none_there m others none p is = let place = place_of others p is.among in none p
 
 -- a verdict without two roots is one
 pub verdict_lacking : (f : ClassFile) (m : Method) (g : ClassFile) (p : Method) (v : Verdict) → LackRoots f m g p v → IsVerdictOn f m g p v
-verdict_lacking f m g p Missing is = is
-verdict_lacking f m g p (NoCode s) is = is
-verdict_lacking f m g p (Refused s cause) is = is
 verdict_lacking f m g p Equivalent is = absurd is
 verdict_lacking f m g p Apart is = absurd is
+verdict_lacking f m g p _ is = is
 
 pub as_verdict : (f g : ClassFile) (m p : Method) (v : Verdict) → IsPartner m g.methods p → IsVerdictOn f m g p v → IsVerdict f g m v
 as_verdict f g m p Missing partner on = absurd on
-as_verdict f g m p (NoCode s) partner on = (p, partner, on)
-as_verdict f g m p (Refused s cause) partner on = (p, partner, on)
-as_verdict f g m p Equivalent partner on = (p, partner, on)
-as_verdict f g m p Apart partner on = (p, partner, on)
+as_verdict f g m p _ partner on = (p, partner, on)
 
 -- the verdict on a method and its partner at their places is the verdict on the method
 pub verdict_at : (f g : ClassFile) (place other : ℕ) (m : Method) (r : Result Verdict Memory) → slice_get f.methods place ≡ Some m → IsLikeAt m g.methods other → IfOk r (λ v. IsVerdictOnPlaces f place g other v) → IfOk r (λ v. IsVerdictAt f place g v)

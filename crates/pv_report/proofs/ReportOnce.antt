@@ -40,14 +40,13 @@ not_both bytes f b fits p q =
 
 verdicts_once : (f g : ClassFile) (methods : List Method) (vs ws : List Verdict) → AreDistinct g.methods → AllByRecursion HasBytes methods → AllByRecursion HasBytes g.methods → AllZip (IsVerdict f g) methods vs → AllZip (IsVerdict f g) methods ws → vs ≡ ws
 verdicts_once f g [] [] [] distinct x all h k = refl
-verdicts_once f g [] [] (w ∷ ws) distinct x all h k = absurd k
-verdicts_once f g [] (v ∷ vs) ws distinct x all h k = absurd h
-verdicts_once f g (m ∷ methods) [] ws distinct x all h k = absurd h
-verdicts_once f g (m ∷ methods) (v ∷ vs) [] distinct x all h k = absurd k
 verdicts_once f g (m ∷ methods) (v ∷ vs) (w ∷ ws) distinct x all h k =
     let one = line_once f g m v w distinct x.0 all h.0 k.0 in
     let rest = verdicts_once f g methods vs ws distinct x.1 all h.1 k.1 in
     cc (one, rest)
+verdicts_once f g [] [] _ distinct x all h k = absurd k
+verdicts_once f g (m ∷ methods) (v ∷ vs) _ distinct x all h k = absurd k
+verdicts_once f g _ _ ws distinct x all h k = absurd h
 
 report_once : (a b t u : List ℕ) (vs ws : List Verdict) → IsBytes a → IsBytes b → IsReport a b vs t → IsReport a b ws u → (vs ≡ ws) × (t ≡ u)
 report_once a b t u vs ws m n r s =
@@ -67,22 +66,13 @@ reading_of : (a b t : List ℕ) (s : Status) → Judged a b t s → Reading a b 
 reading_of a b t status.AllEquivalent (vs, r, is) = report vs r is
 reading_of a b t status.Others (vs, r, is) = report vs r is
 reading_of a b t status.BadClass h = bad refl h
-reading_of a b t status.BadCert (vs, r, is) = absurd is
-reading_of a b t status.BadWords (vs, r, is) = absurd is
-reading_of a b t status.ReadFault (vs, r, is) = absurd is
-reading_of a b t status.WriteFault (vs, r, is) = absurd is
-reading_of a b t status.Memory (vs, r, is) = absurd is
+reading_of a b t _ (vs, r, is) = absurd is
 
 -- one status goes with verdicts
 which : (vs : List Verdict) (s : Status) → IsStatusOf vs s → ((s ≡ status.AllEquivalent) × AreEquivalent vs) ⊎ ((s ≡ status.Others) × (AreEquivalent vs → ⊥))
 which vs status.AllEquivalent is = inl (refl, is)
 which vs status.Others is = inr (refl, is)
-which vs status.BadClass is = absurd is
-which vs status.BadCert is = absurd is
-which vs status.BadWords is = absurd is
-which vs status.ReadFault is = absurd is
-which vs status.WriteFault is = absurd is
-which vs status.Memory is = absurd is
+which vs _ is = absurd is
 
 status_once : (vs : List Verdict) (s t : Status) → IsStatusOf vs s → IsStatusOf vs t → s ≡ t
 status_once vs s t is is_too =

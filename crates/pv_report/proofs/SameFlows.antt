@@ -58,16 +58,14 @@ zipped (k ∷ xs) (l ∷ ys) e same = (same 0 k l refl refl, zipped xs ys (omega
 
 alike_at : (xs ys : List Loop) → AllZip IsSameLoop xs ys → (i : ℕ) → IsAlikeAt (slice_get xs i) (slice_get ys i)
 alike_at [] [] same i = tt
-alike_at [] (l ∷ ys) same i = absurd same
-alike_at (k ∷ xs) [] same i = absurd same
 alike_at (k ∷ xs) (l ∷ ys) same zero = same.0
 alike_at (k ∷ xs) (l ∷ ys) same (suc i) = alike_at xs ys same.1 i
+alike_at _ _ same i = absurd same
 
 one_header_and : (f g : Option ℕ → List ℕ) → ((at : Option ℕ) → f at ≡ g at) → (a b : Option Loop) → IsAlikeAt a b → header_and f a ≡ header_and g b
 one_header_and f g outer None None same = refl
-one_header_and f g outer None (Some l) same = absurd same
-one_header_and f g outer (Some k) None same = absurd same
 one_header_and f g outer (Some k) (Some l) same = ap (λ h. h ∷ f k.parent) same.header ∙ ap (λ (at : Option ℕ). l.header ∷ f at) same.parent ∙ ap (λ hs. l.header ∷ hs) (outer l.parent)
+one_header_and f g outer _ _ same = absurd same
 
 one_around : (n : ℕ) (xs ys : List Loop) → AllZip IsSameLoop xs ys → (at : Option ℕ) → headers_from n xs at ≡ headers_from n ys at
 unfolding headers_from

@@ -1,18 +1,13 @@
 -- There is one verdict on each method.
-use Rattle.std.proofs.Common.{◌≡◌, ◌⊎◌, ℕ, ◌<◌, List, [], ◌∷◌, length, get_or, Option, Some, None, Result, Ok, Err, inl, inr, refl, sym, ap, subst, ◌∙◌}
+use Rattle.std.proofs.Common.{◌≡◌, ◌⊎◌, ℕ, ◌<◌, List, length, get_or, Option, Some, None, inl, inr, refl, sym, ap, subst, ◌∙◌}
 use Rattle.std.specs.Prelude.{slice_get}
-use Rattle.std.specs.List.{AllByRecursion, AllZip, flat_map}
+use Rattle.std.specs.List.{AllByRecursion}
 use Rattle.pv_class.specs.declared.file.Method.{Method}
 use Rattle.pv_class.specs.declared.file.Code.{Code}
 use Rattle.pv_class.specs.declared.file.ClassFile.{ClassFile}
 use Rattle.pv_class.specs.ClassFiles.{AreDistinct}
-use Rattle.pv_pool.proofs.Cited.{IsBytes}
-use Rattle.pv_class.specs.declared.fault.ClassFault.{ClassFault}
-use Rattle.pv_class.specs.ClassFiles.{IsClass}
-use Rattle.pv_class.specs.ClassFaults.{IsBad}
-use Rattle.pv_class.proofs.Cited.{answer_once, HasBytes, class_bytes}
+use Rattle.pv_class.proofs.Cited.{HasBytes}
 use Rattle.pv_flow.specs.Edges.{edges_of}
-use Rattle.pv_report.specs.declared.verdict.Side.{Side}
 use Rattle.pv_report.specs.declared.verdict.Side.TheVariants as side
 use Rattle.pv_report.specs.declared.verdict.Verdict.{Verdict}
 use Rattle.pv_report.specs.declared.verdict.Verdict.TheVariants as verdict
@@ -25,8 +20,6 @@ use Rattle.pv_build.proofs.Cited.{one_shape_cause, not_structured}
 use Rattle.pv_report.specs.Roots.{HaveRoots, Alike}
 use Rattle.pv_report.specs.Verdicts.{HasCode, IsVerdict, IsVerdictOn}
 use Rattle.pv_report.specs.Partners.{IsPartner}
-use Rattle.pv_report.specs.Lines.{line_text, bad_class}
-use Rattle.pv_report.specs.Report.{IsReport, IsBadText, Judged, AreEquivalent, lines_of}
 use Rattle.pv_report.proofs.Places.{all_at, here_again}
 use Rattle.pv_report.proofs.SameRoots.{alike_least, alike_once}
 
@@ -147,10 +140,7 @@ partner_once m others p q distinct a b =
 -- what a verdict says, by whether there is a partner
 with_partner : (f g : ClassFile) (m : Method) (v : Verdict) → IsVerdict f g m v → ((v ≡ verdict.Missing) × ((p : Method) → IsPartner m g.methods p → ⊥)) ⊎ ((p : Method) × IsPartner m g.methods p × IsVerdictOn f m g p v)
 with_partner f g m verdict.Missing h = inl (refl, h)
-with_partner f g m (verdict.NoCode s) h = inr h
-with_partner f g m (verdict.Refused s c) h = inr h
-with_partner f g m verdict.Equivalent h = inr h
-with_partner f g m verdict.Apart h = inr h
+with_partner f g m _ h = inr h
 
 pub line_once : (f g : ClassFile) (m : Method) (v w : Verdict) → AreDistinct g.methods → HasBytes m → AllByRecursion HasBytes g.methods → IsVerdict f g m v → IsVerdict f g m w → v ≡ w
 line_once f g m v w distinct x all h k =

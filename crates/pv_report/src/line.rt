@@ -1,11 +1,12 @@
 //! The lines of a report.
 
-ghost use Rattle.std.specs.Prelude.{◌≡◌, ◌++◌, OnOk};
-ghost use Rattle.pv_report.specs.Lines.{side_word, kind_word, cause_text, verdict_text, method_text, line_of, line_text, pool_word, word_at, fault_text, bad_class};
+ghost use Rattle.std.specs.Prelude.{◌≡◌, ◌++◌, [], OnOk};
+ghost use Rattle.pv_token.specs.Words.{spaced};
+ghost use Rattle.pv_report.specs.Lines.{side_word, kind_word, verdict_words, method_line, line_of, line_text, pool_word, word_at, fault_words, bad_class};
 
 use crate::verdict::{Side, Verdict};
 use pv_class::{ClassFault, Method, PoolWord};
-use pv_frame::{Cause, CauseKind};
+use pv_frame::CauseKind;
 use pv_token::{push_decimal, push_shown};
 use pv_value::Name;
 use std::alloc::{AllocError, Global};
@@ -16,13 +17,13 @@ pub fn push_bad_class(out: &mut Vec<u8>, side: Side, fault: ClassFault) -> Resul
 {
     out.extend_from_slice(b"bad class ")?;
     out.extend_from_slice(side_word(side))?;
-    out.extend_from_slice(b" ")?;
     push_fault(out, fault)?;
     out.extend_from_slice(b"\n")
 }
 
+// The words of a fault, each after a blank.
 fn push_fault(out: &mut Vec<u8>, fault: ClassFault) -> Result<(), AllocError>
-    ensures { OnOk result (out.new.items ≡ out.old.items ++ fault_text fault) }
+    ensures { OnOk result (out.new.items ≡ out.old.items ++ spaced (fault_words fault)) }
 {
     match fault {
         ClassFault::Truncated(at) => push_word_at(out, b"truncated", at),
@@ -34,7 +35,7 @@ fn push_fault(out: &mut Vec<u8>, fault: ClassFault) -> Result<(), AllocError>
         ClassFault::Duplicate(at) => push_word_at(out, b"duplicate", at),
         ClassFault::Trailing(at) => push_word_at(out, b"trailing", at),
         ClassFault::TooLong(at) => push_word_at(out, b"too-long", at),
-        ClassFault::Memory => out.extend_from_slice(b"out of memory"),
+        ClassFault::Memory => out.extend_from_slice(b" out of memory"),
     }
 }
 
@@ -48,10 +49,11 @@ fn pool_word(word: PoolWord) -> &'static [u8]
     }
 }
 
-// A word and a place.
+// A word and a place, each word after a blank.
 fn push_word_at(out: &mut Vec<u8>, word: &[u8], at: usize) -> Result<(), AllocError>
-    ensures { OnOk result (out.new.items ≡ out.old.items ++ word_at word.now at) }
+    ensures { OnOk result (out.new.items ≡ out.old.items ++ spaced (word_at word.now at)) }
 {
+    out.extend_from_slice(b" ")?;
     out.extend_from_slice(word)?;
     out.extend_from_slice(b" at ")?;
     push_decimal(out, at)
@@ -78,40 +80,31 @@ pub fn push_method(
     name: &Name,
     desc: &Name,
 ) -> Result<(), AllocError>
-    ensures { OnOk result (out.new.items ≡ out.old.items ++ method_text name.now desc.now) }
+    ensures { OnOk result (out.new.items ≡ out.old.items ++ method_line name.now desc.now []) }
 {
     push_shown(alloc, out, name.bytes())?;
     out.extend_from_slice(b" ")?;
-    push_shown(alloc, out, desc.bytes())?;
-    out.extend_from_slice(b" ")
+    push_shown(alloc, out, desc.bytes())
 }
 
-/// The words of a verdict.
+/// The words of a verdict, each after a blank.
 pub fn push_verdict(out: &mut Vec<u8>, verdict: Verdict) -> Result<(), AllocError>
-    ensures { OnOk result (out.new.items ≡ out.old.items ++ verdict_text verdict) }
+    ensures { OnOk result (out.new.items ≡ out.old.items ++ spaced (verdict_words verdict)) }
 {
     match verdict {
-        Verdict::Missing => out.extend_from_slice(b"missing"),
+        Verdict::Missing => out.extend_from_slice(b" missing"),
         Verdict::NoCode(side) => {
-            out.extend_from_slice(b"nocode ")?;
+            out.extend_from_slice(b" nocode ")?;
             out.extend_from_slice(side_word(side))
         }
         Verdict::Refused(side, cause) => {
-            out.extend_from_slice(b"refused ")?;
+            out.extend_from_slice(b" refused ")?;
             out.extend_from_slice(side_word(side))?;
-            out.extend_from_slice(b" ")?;
-            push_cause(out, cause)
+            push_word_at(out, kind_word(cause.kind), cause.at as usize)
         }
-        Verdict::Equivalent => out.extend_from_slice(b"equivalent"),
-        Verdict::Apart => out.extend_from_slice(b"unknown apart"),
+        Verdict::Equivalent => out.extend_from_slice(b" equivalent"),
+        Verdict::Apart => out.extend_from_slice(b" unknown apart"),
     }
-}
-
-// A cause and the address of its instruction.
-fn push_cause(out: &mut Vec<u8>, cause: Cause) -> Result<(), AllocError>
-    ensures { OnOk result (out.new.items ≡ out.old.items ++ cause_text cause) }
-{
-    push_word_at(out, kind_word(cause.kind), cause.at as usize)
 }
 
 fn kind_word(kind: CauseKind) -> &'static [u8]

@@ -46,19 +46,12 @@ without_partner first second s k x read found at none m p are =
 
 -- a verdict without two roots is said of the section
 pub lacking : (first : ClassFile) (m : Method) (second : ClassFile) (p : Method) (s : Section) (v : Verdict) → LackRoots first m second p v → IsFindingOn first m second p s (finding.Verdict v)
-lacking first m second p s verdict.Missing is = is
-lacking first m second p s (verdict.NoCode side) is = is
-lacking first m second p s (verdict.Refused side cause) is = is
 lacking first m second p s verdict.Equivalent is = absurd is
-lacking first m second p s verdict.Apart is = is
+lacking first m second p s _ is = is
 
 as_finding : (first second : ClassFile) (s : Section) (m p : Method) (f : Finding) → AreOf first second s m p → IsFindingOn first m second p s f → IsFinding first second s f
 as_finding first second s m p (finding.Verdict verdict.Missing) are on = absurd on
-as_finding first second s m p (finding.Verdict (verdict.NoCode side)) are on = (m, p, are, on)
-as_finding first second s m p (finding.Verdict (verdict.Refused side cause)) are on = (m, p, are, on)
-as_finding first second s m p (finding.Verdict verdict.Equivalent) are on = (m, p, are, on)
-as_finding first second s m p (finding.Verdict verdict.Apart) are on = (m, p, are, on)
-as_finding first second s m p (finding.Rejected n) are on = (m, p, are, on)
+as_finding first second s m p _ are on = (m, p, are, on)
 
 -- what is said of the methods at their places is said of the section
 pub finding_at : (first second : ClassFile) (s : Section) (k j : ℕ) (x : Method) (r : Result Finding Memory) → IsNamedAt first.methods s.name s.desc k → slice_get first.methods k ≡ Some x → IsLikeAt x second.methods j

@@ -1,4 +1,5 @@
 pub mod Accepted
 pub mod Found
+pub mod SectionWords
 pub mod Rulings
 pub mod Cited

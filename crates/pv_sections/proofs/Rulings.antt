@@ -1,7 +1,7 @@
 -- What is said of what was fetched.
-use Rattle.std.proofs.Common.{◌≡◌, ◌≤◌, ◌<◌, ℕ, List, length, Some, None, Ok, Err, ap, subst, sym, ◌∙◌, arith}
+use Rattle.std.proofs.Common.{◌≡◌, ◌≤◌, ℕ, List, length, Some, None, Ok, Err, ap, subst, sym, ◌∙◌, arith}
 use Rattle.pv_class.specs.declared.class.TheConstants.{LONGEST_FILE}
-use Rattle.std.specs.List.{AllByRecursion, AllZip, flat_map}
+use Rattle.std.specs.List.{AllZip, flat_map}
 use Rattle.sha2.specs.Sha256.{sha256}
 use Rattle.pv_cert.specs.declared.cert.Cert.{Cert}
 use Rattle.pv_report.specs.Lines.{bad_class, line_text}
@@ -13,8 +13,7 @@ use Rattle.pv_report.specs.declared.pair.BadClass.{BadClass}
 use Rattle.pv_report.specs.declared.status.Status.{Status}
 use Rattle.pv_report.specs.declared.status.Status.TheVariants as status
 use Rattle.pv_report.specs.declared.verdict.Side.TheVariants as side
-use Rattle.pv_report.specs.Report.{IsBadPair}
-use Rattle.pv_report.specs.Judging.{IsBadSide, IsFetched, IsPair, ReadsPair}
+use Rattle.pv_report.specs.Judging.{IsFetched, ReadsPair}
 use Rattle.pv_report.proofs.Cited.{bad_pair}
 use Rattle.pv_sections.specs.declared.finding.Finding.{Finding}
 use Rattle.pv_sections.specs.declared.flaw.Flaw.{Flaw}
@@ -57,12 +56,7 @@ bad_names first second cert pair c f one two text s read has d e o said is a b t
 ruled_by : (a b t text : List ℕ) (findings : List Finding) (s : Status) → IsCertReport a b t findings text → IsStatusOf findings s → Ruled a b t text s
 ruled_by a b t text findings status.AllEquivalent r is = (findings, r, is)
 ruled_by a b t text findings status.Others r is = (findings, r, is)
-ruled_by a b t text findings status.BadClass r is = absurd is
-ruled_by a b t text findings status.BadCert r is = absurd is
-ruled_by a b t text findings status.BadWords r is = absurd is
-ruled_by a b t text findings status.ReadFault r is = absurd is
-ruled_by a b t text findings status.WriteFault r is = absurd is
-ruled_by a b t text findings status.Memory r is = absurd is
+ruled_by a b t text findings _ r is = absurd is
 
 -- these are the findings on all sections
 pub rules_all : (first second cert : Fetched) (pair : Pair) (c : Cert) (one two : List ℕ) (findings : List Finding) (text : List ℕ) (s : Status) → ReadsPair first second (Ok pair) → CertFetched cert (Ok c) → IsDigestOf first one → IsDigestOf second two → IsOther c one two None

@@ -1,14 +1,15 @@
 //! The lines of a report on a certificate.
 
 ghost use Rattle.std.specs.Prelude.{◌≡◌, ◌++◌, IfOk, OnOk, decimal};
+ghost use Rattle.pv_token.specs.Words.{spaced};
 ghost use Rattle.pv_report.specs.Lines.{line_text};
-ghost use Rattle.pv_sections.specs.Lines.{bad_certificate, cert_fault_text, finding_text, flaw_text, section_line};
+ghost use Rattle.pv_sections.specs.Lines.{bad_certificate, cert_fault_words, finding_words, flaw_words, section_line};
 
 use crate::finding::Finding;
 use crate::flaw::Flaw;
 use pv_cert::{CertFault, Section};
 use pv_report::{Answer, Status, push_method, push_verdict, side_word};
-use pv_token::{Digest, Token, push_decimal};
+use pv_token::{Digest, push, push_decimal};
 use std::alloc::{AllocError, Global};
 
 /// What is said of a section, and a line feed.
@@ -25,16 +26,17 @@ pub(crate) fn push_section(
     out.extend_from_slice(b"\n")
 }
 
+// The words of a finding, each after a blank.
 fn push_finding(out: &mut Vec<u8>, finding: Finding) -> Result<(), AllocError>
-    ensures { OnOk result (out.new.items ≡ out.old.items ++ finding_text finding) }
+    ensures { OnOk result (out.new.items ≡ out.old.items ++ spaced (finding_words finding)) }
 {
     match finding {
         Finding::Verdict(verdict) => push_verdict(out, verdict),
-        Finding::Rejected(n) => push_number(out, b"rejected ", n),
+        Finding::Rejected(n) => push_number(out, b" rejected ", n),
     }
 }
 
-// A word with its blank, and a number.
+// A word between blanks, and a number.
 fn push_number(out: &mut Vec<u8>, word: &[u8], n: usize) -> Result<(), AllocError>
     ensures { OnOk result (out.new.items ≡ out.old.items ++ word.now ++ decimal n) }
 {
@@ -48,7 +50,7 @@ pub(crate) fn bad_certificate(alloc: Global, flaw: Flaw) -> Result<Answer, Alloc
     ensures status { IfOk result (λ answer. answer.status ≡ Status.BadCert) }
 {
     let mut text = Vec::new(alloc);
-    text.extend_from_slice(b"bad certificate ")?;
+    text.extend_from_slice(b"bad certificate")?;
     push_flaw(&mut text, flaw)?;
     text.extend_from_slice(b"\n")?;
     Ok(Answer {
@@ -57,29 +59,29 @@ pub(crate) fn bad_certificate(alloc: Global, flaw: Flaw) -> Result<Answer, Alloc
     })
 }
 
+// The words of a flaw, each after a blank.
 fn push_flaw(out: &mut Vec<u8>, flaw: Flaw) -> Result<(), AllocError>
-    ensures { OnOk result (out.new.items ≡ out.old.items ++ flaw_text flaw) }
+    ensures { OnOk result (out.new.items ≡ out.old.items ++ spaced (flaw_words flaw)) }
 {
     match flaw {
-        Flaw::TooLong => out.extend_from_slice(b"too-long"),
+        Flaw::TooLong => out.extend_from_slice(b" too-long"),
         Flaw::Unread(fault) => push_cert_fault(out, fault),
         Flaw::OtherFile(side, written, actual) => {
+            out.extend_from_slice(b" ")?;
             out.extend_from_slice(side_word(side))?;
-            out.extend_from_slice(b" ")?;
-            Digest::push(out, written)?;
-            out.extend_from_slice(b" ")?;
-            Digest::push(out, actual)
+            push::<Digest>(out, written)?;
+            push::<Digest>(out, actual)
         }
     }
 }
 
 fn push_cert_fault(out: &mut Vec<u8>, fault: CertFault) -> Result<(), AllocError>
-    ensures { OnOk result (out.new.items ≡ out.old.items ++ cert_fault_text fault) }
+    ensures { OnOk result (out.new.items ≡ out.old.items ++ spaced (cert_fault_words fault)) }
 {
     match fault {
-        CertFault::Truncated => out.extend_from_slice(b"truncated"),
-        CertFault::Header => out.extend_from_slice(b"header"),
-        CertFault::Step(n) => push_number(out, b"line ", n),
-        CertFault::Memory => out.extend_from_slice(b"out of memory"),
+        CertFault::Truncated => out.extend_from_slice(b" truncated"),
+        CertFault::Header => out.extend_from_slice(b" header"),
+        CertFault::Step(n) => push_number(out, b" line ", n),
+        CertFault::Memory => out.extend_from_slice(b" out of memory"),
     }
 }

@@ -10,9 +10,8 @@ use Rattle.pv_top.specs.Words.{fetches, first_of, second_of}
 use Rattle.pv_top.specs.Run.{Says, SaidOf, Answered, IsAnswer}
 use Rattle.pv_top.specs.Promise.{EachEquivalent, Holds}
 use Rattle.pv_top.specs.Fetching.{HoldAll, AreFetched, AnswersFetched}
-use Rattle.pv_top.proofs.Saying.{answer_said, answered_said, each_equivalent, result_said, said_lines, is_said, IsTrueOf}
-use Rattle.pv_top.proofs.ReportLines.{judged_line}
-use Rattle.pv_top.proofs.CertLines.{ruled_line}
+use Rattle.pv_top.proofs.Saying.{answer_said, each_equivalent, result_said, said_lines, is_said, IsTrueOf}
+use Rattle.pv_top.proofs.TrueLines.{judged_line, ruled_line}
 
 -- the bytes that were fetched
 record Contents (held : Option Stored) (all : List (List ℕ × ℕ)) (fetched : List Fetched) : Type 0 where
@@ -23,18 +22,16 @@ record Contents (held : Option Stored) (all : List (List ℕ × ℕ)) (fetched :
 
 contents_of : (held : Option Stored) (all : List (List ℕ × ℕ)) (fetched : List Fetched) → HoldAll held all fetched → Contents held all fetched
 contents_of held [] [] h = record { contents = []; are_held = tt; are_bytes = tt; are_fetched = tt }
-contents_of held [] (x ∷ fetched) h = absurd h
-contents_of held (f ∷ all) [] h = absurd h
 contents_of held (f ∷ all) (x ∷ fetched) h =
     let one = h.0 in
     let rest = contents_of held all fetched h.1 in
     record { contents = one.0 ∷ rest.contents; are_held = (one.1, rest.are_held); are_bytes = (one.2, rest.are_bytes); are_fetched = (one.3, rest.are_fetched) }
+contents_of held _ _ h = absurd h
 
 pub fetched_length : (held : Option Stored) (all : List (List ℕ × ℕ)) (fetched : List Fetched) → HoldAll held all fetched → length fetched ≡ length all
 fetched_length held [] [] h = refl
-fetched_length held [] (x ∷ fetched) h = absurd h
-fetched_length held (f ∷ all) [] h = absurd h
 fetched_length held (f ∷ all) (x ∷ fetched) h = ap suc (fetched_length held all fetched h.1)
+fetched_length held _ _ h = absurd h
 
 pub said_of : (held : Option Stored) (c : Command (List ℕ)) (fetched : List Fetched) (old new : Option (List ℕ)) (rose : Type 0) (text : List ℕ) (s result : Status) → HoldAll held (fetches c) fetched → AnswersFetched c fetched text s → Says old new text s result rose → SaidOf held c old new rose result
 said_of held c fetched old new rose text s result h answers says =
@@ -46,15 +43,9 @@ said_result held c old new rose result s = result_said old new s.text s.meant re
 
 -- each whole line that says `equivalent` is true
 answer_lines : (held : Option Stored) (c : Command (List ℕ)) (contents : List (List ℕ)) (text : List ℕ) (s : Status) → AllZip (λ (f : List ℕ × ℕ) (bytes : List ℕ). Holds held f.0 bytes) (fetches c) contents → AllByRecursion AreBytes contents → IsAnswer c contents text s → IsTrueOf held (first_of c) (second_of c) text
-answer_lines held (Validate a b) [] text s h bytes is = absurd is
-answer_lines held (Validate a b) (x ∷ []) text s h bytes is = absurd is
 answer_lines held (Validate a b) (x ∷ y ∷ []) text s h bytes is = judged_line held a b x y text s (record { first_held = h.0; second_held = h.1.0; first_bytes = bytes.0; second_bytes = bytes.1.0 }) is
-answer_lines held (Validate a b) (x ∷ y ∷ z ∷ more) text s h bytes is = absurd is
-answer_lines held (Check a b c) [] text s h bytes is = absurd is
-answer_lines held (Check a b c) (x ∷ []) text s h bytes is = absurd is
-answer_lines held (Check a b c) (x ∷ y ∷ []) text s h bytes is = absurd is
 answer_lines held (Check a b c) (x ∷ y ∷ z ∷ []) text s h bytes is = ruled_line held a b x y z text s (record { first_held = h.0; second_held = h.1.0; first_bytes = bytes.0; second_bytes = bytes.1.0 }) is
-answer_lines held (Check a b c) (x ∷ y ∷ z ∷ w ∷ more) text s h bytes is = absurd is
+answer_lines held _ _ text s h bytes is = absurd is
 
 pub answered_equivalent : (held : Option Stored) (c : Command (List ℕ)) (old new : Option (List ℕ)) (read_rose write_rose : Type 0) (result : Status) → Answered held (Some c) old new read_rose write_rose result → EachEquivalent held (first_of c) (second_of c) old new
 answered_equivalent held c old new read_rose write_rose result =

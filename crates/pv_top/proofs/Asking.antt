@@ -1,7 +1,7 @@
 -- What the record of calls is after the fetches of a command.
 use Rattle.std.proofs.Common.{◌≡◌, ◌≢◌, ◌+◌, ◌<◌, ◌≤◌, ℕ, zero, suc, List, [], ◌∷◌, ◌++◌, length, get_or, map, take, Option, Some, None, Err, inl, inr, refl, sym, ap, subst, ◌∙◌, arith, length-append}
 use Rattle.std.proofs.lemmas.Option.{slice_get-get_or}
-use Rattle.std.proofs.lemmas.List.{append-nil, map-append, take-append-le, take_all, take_at}
+use Rattle.std.proofs.lemmas.List.{append-nil, map-append, take_all, take_at}
 use Rattle.std.specs.Prelude.{slice_get}
 use Rattle.std.specs.List.{AllByRecursion, AllZip}
 use Rattle.pv_base.specs.Stored.{Stored}
@@ -58,23 +58,13 @@ asked_next T held old mid new front rest name status.Memory rose p there failed 
   omega (arith, length-append front (name ∷ rest)),
   subst (GrewBy old new) (sym (take_one_more front rest name)) (grew_next old mid new front name p e),
 )
-asked_next T held old mid new front rest name status.AllEquivalent rose p there failed q = absurd failed
-asked_next T held old mid new front rest name status.Others rose p there failed q = absurd failed
-asked_next T held old mid new front rest name status.BadClass rose p there failed q = absurd failed
-asked_next T held old mid new front rest name status.BadCert rose p there failed q = absurd failed
-asked_next T held old mid new front rest name status.BadWords rose p there failed q = absurd failed
-asked_next T held old mid new front rest name status.WriteFault rose p there failed q = absurd failed
+asked_next T held old mid new front rest name _ rose p there failed q = absurd failed
 
 -- all fetches were answered, and something was said or memory ran out
 pub asked_all : (held : Option Stored) (old new : Option (List Asked)) (names : List (List ℕ)) (s : Status) → s ≢ status.ReadFault → GrewBy old new names → AskedFor held old new names s
 asked_all held old new names status.ReadFault other grew = absurd (other refl)
 asked_all held old new names status.Memory other grew = (length names, omega arith, subst (GrewBy old new) (sym (take_all (length names) names (omega arith))) grew)
-asked_all held old new names status.AllEquivalent other grew = grew
-asked_all held old new names status.Others other grew = grew
-asked_all held old new names status.BadClass other grew = grew
-asked_all held old new names status.BadCert other grew = grew
-asked_all held old new names status.BadWords other grew = grew
-asked_all held old new names status.WriteFault other grew = grew
+asked_all held old new names _ other grew = grew
 
 -- ---- the files of a command so far
 
@@ -101,9 +91,8 @@ asked_one_more held old mid new all k fetched d x now lt so same holds asked =
 
 there_of : (held : Option Stored) (front : List Wanted) (fetched : List Fetched) → AllZip (HoldsWanted held) front fetched → AllByRecursion (IsThere held) (wanted_names front)
 there_of held [] [] h = tt
-there_of held [] (x ∷ fetched) h = absurd h
-there_of held (w ∷ front) [] h = absurd h
 there_of held (w ∷ front) (x ∷ fetched) h = let one = h.0 in ((one.0, one.1), there_of held front fetched h.1)
+there_of held _ _ h = absurd h
 
 names_around : (all : List Wanted) (k : ℕ) (w : Wanted) → slice_get all k ≡ Some w → (rest : List (List ℕ)) × (wanted_names all ≡ wanted_names (take k all) ++ w.name.now ∷ rest)
 names_around [] k w at = absurd (cc at)
@@ -122,9 +111,4 @@ asked_at T held old mid new all k fetched d s rose lt so failed asks =
 pub failed_since : (s : Status) (old mid new : ℕ) → old ≤ mid → ReadFailed s (Rose mid new) → ReadFailed s (Rose old new)
 failed_since status.ReadFault old mid new le failed = rose_earlier old mid new le failed
 failed_since status.Memory old mid new le failed = tt
-failed_since status.AllEquivalent old mid new le failed = absurd failed
-failed_since status.Others old mid new le failed = absurd failed
-failed_since status.BadClass old mid new le failed = absurd failed
-failed_since status.BadCert old mid new le failed = absurd failed
-failed_since status.BadWords old mid new le failed = absurd failed
-failed_since status.WriteFault old mid new le failed = absurd failed
+failed_since _ old mid new le failed = absurd failed

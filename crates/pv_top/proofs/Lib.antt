@@ -1,11 +1,8 @@
-pub mod Decimals
 pub mod WholeLines
 pub mod Asking
-pub mod SaidLines
 pub mod Saying
 pub mod Files
-pub mod ReportLines
-pub mod CertLines
+pub mod TrueLines
 pub mod Answering
 pub mod Commands
 pub mod Cited

@@ -34,32 +34,19 @@ judged_said : (a b text : List ℕ) (s : Status) → Judged a b text s → is_sa
 judged_said a b text status.AllEquivalent h = refl
 judged_said a b text status.Others h = refl
 judged_said a b text status.BadClass h = refl
-judged_said a b text status.BadCert (vs, r, is) = absurd is
-judged_said a b text status.BadWords (vs, r, is) = absurd is
-judged_said a b text status.ReadFault (vs, r, is) = absurd is
-judged_said a b text status.WriteFault (vs, r, is) = absurd is
-judged_said a b text status.Memory (vs, r, is) = absurd is
+judged_said a b text _ (vs, r, is) = absurd is
 
 ruled_said : (a b cert text : List ℕ) (s : Status) → Ruled a b cert text s → is_said s ≡ true
 ruled_said a b cert text status.AllEquivalent h = refl
 ruled_said a b cert text status.Others h = refl
 ruled_said a b cert text status.BadClass h = refl
 ruled_said a b cert text status.BadCert h = refl
-ruled_said a b cert text status.BadWords (fs, r, is) = absurd is
-ruled_said a b cert text status.ReadFault (fs, r, is) = absurd is
-ruled_said a b cert text status.WriteFault (fs, r, is) = absurd is
-ruled_said a b cert text status.Memory (fs, r, is) = absurd is
+ruled_said a b cert text _ (fs, r, is) = absurd is
 
 pub answer_said : (c : Command (List ℕ)) (contents : List (List ℕ)) (text : List ℕ) (s : Status) → IsAnswer c contents text s → is_said s ≡ true
 answer_said (Validate a b) (x ∷ y ∷ []) text s h = judged_said x y text s h
-answer_said (Validate a b) [] text s h = absurd h
-answer_said (Validate a b) (x ∷ []) text s h = absurd h
-answer_said (Validate a b) (x ∷ y ∷ z ∷ more) text s h = absurd h
 answer_said (Check a b c) (x ∷ y ∷ z ∷ []) text s h = ruled_said x y z text s h
-answer_said (Check a b c) [] text s h = absurd h
-answer_said (Check a b c) (x ∷ []) text s h = absurd h
-answer_said (Check a b c) (x ∷ y ∷ []) text s h = absurd h
-answer_said (Check a b c) (x ∷ y ∷ z ∷ w ∷ more) text s h = absurd h
+answer_said _ _ text s h = absurd h
 
 pub result_said : (old new : Option (List ℕ)) (text : List ℕ) (meant result : Status) (rose : Type 0) → is_said meant ≡ true → Says old new text meant result rose → is_said result ≡ true
 result_said old new text meant result rose is says =
@@ -74,23 +61,13 @@ no_read_fault s is e = let no : is_said s ≡ false = ap is_said e in cc (is, no
 pub answered_said : (held : Option Stored) (c : Command (List ℕ)) (old new : Option (List ℕ)) (read_rose write_rose : Type 0) (result : Status) → is_said result ≡ true → SaidOf held c old new write_rose result → Answered held (Some c) old new read_rose write_rose result
 answered_said held c old new read_rose write_rose status.ReadFault is it = absurd (cc is)
 answered_said held c old new read_rose write_rose status.Memory is it = absurd (cc is)
-answered_said held c old new read_rose write_rose status.AllEquivalent is it = it
-answered_said held c old new read_rose write_rose status.Others is it = it
-answered_said held c old new read_rose write_rose status.BadClass is it = it
-answered_said held c old new read_rose write_rose status.BadCert is it = it
-answered_said held c old new read_rose write_rose status.BadWords is it = it
-answered_said held c old new read_rose write_rose status.WriteFault is it = it
+answered_said held c old new read_rose write_rose _ is it = it
 
 -- a fetch failed, and nothing was said
 pub answered_failed : (held : Option Stored) (c : Command (List ℕ)) (old new : Option (List ℕ)) (read_rose write_rose : Type 0) (s : Status) → ReadFailed s read_rose → new ≡ old → Answered held (Some c) old new read_rose write_rose s
 answered_failed held c old new read_rose write_rose status.ReadFault failed same = (failed, same)
 answered_failed held c old new read_rose write_rose status.Memory failed same = same
-answered_failed held c old new read_rose write_rose status.AllEquivalent failed same = absurd failed
-answered_failed held c old new read_rose write_rose status.Others failed same = absurd failed
-answered_failed held c old new read_rose write_rose status.BadClass failed same = absurd failed
-answered_failed held c old new read_rose write_rose status.BadCert failed same = absurd failed
-answered_failed held c old new read_rose write_rose status.BadWords failed same = absurd failed
-answered_failed held c old new read_rose write_rose status.WriteFault failed same = absurd failed
+answered_failed held c old new read_rose write_rose _ failed same = absurd failed
 
 -- ---- each whole line that says `equivalent`
 
@@ -130,9 +107,4 @@ pub each_equivalent : (held : Option Stored) (c : Command (List ℕ)) (a b : Lis
     → Answered held (Some c) old new read_rose write_rose result → EachEquivalent held a b old new
 each_equivalent held c a b old new read_rose write_rose status.ReadFault by h = silent held a b old new h.1
 each_equivalent held c a b old new read_rose write_rose status.Memory by h = silent held a b old new h
-each_equivalent held c a b old new read_rose write_rose status.AllEquivalent by h = by h
-each_equivalent held c a b old new read_rose write_rose status.Others by h = by h
-each_equivalent held c a b old new read_rose write_rose status.BadClass by h = by h
-each_equivalent held c a b old new read_rose write_rose status.BadCert by h = by h
-each_equivalent held c a b old new read_rose write_rose status.BadWords by h = by h
-each_equivalent held c a b old new read_rose write_rose status.WriteFault by h = by h
+each_equivalent held c a b old new read_rose write_rose _ by h = by h

@@ -1,5 +1,5 @@
 -- The command that was read from words.
-use Rattle.std.specs.Prelude.{ℕ, List, Option, Some, None, option_map}
+use Rattle.std.specs.Prelude.{ℕ, List, Option, Some, None}
 use Rattle.std.specs.Borrow.{Bor}
 use Rattle.pv_top.specs.declared.words.Command.{Command}
 use Rattle.pv_top.specs.declared.words.Command.TheVariants.{Validate, Check}

@@ -1,4 +1,4 @@
-use Rattle.pv_report.proofs.Naming.{lines_name}
+use Rattle.pv_report.proofs.LineWords.{lines_name}
 use Rattle.pv_report.proofs.laws.law_lines.Goals as goal
 
 pub returns : goal.returns

@@ -7,16 +7,8 @@ use Rattle.pv_report.proofs.pair.class_in.Goals as goal
 
 -- with memory, the fault is that of the file
 bad_file : (bytes : List ℕ) (f : ClassFault) → f ≢ fault.Memory → Answers bytes (Err f) → IsBad bytes f
-bad_file bytes (fault.Truncated at) has h = h
-bad_file bytes (fault.Magic at) has h = h
-bad_file bytes (fault.Version at) has h = h
-bad_file bytes (fault.Pool word at) has h = h
-bad_file bytes (fault.Descriptor at) has h = h
-bad_file bytes (fault.Code at) has h = h
-bad_file bytes (fault.Duplicate at) has h = h
-bad_file bytes (fault.Trailing at) has h = h
-bad_file bytes (fault.TooLong at) has h = h
 bad_file bytes fault.Memory has h = absurd (has refl)
+bad_file bytes _ has h = h
 
 pub returns-in_default : goal.returns-in_default
 returns-in_default c = bad_file c.args.bytes.now c.in-Err.fault c.in_default.not-Memory c.in-Err.ensures.exact

@@ -6,7 +6,5 @@ use Rattle.pv_cert.specs.Answers.{Answers}
 
 -- with memory, the fault is that of the text
 bad_text : (text : List ℕ) (f : CertFault) → f ≢ fault.Memory → Answers text (Err f) → BadCert text f
-bad_text text fault.Truncated has h = h
-bad_text text fault.Header has h = h
-bad_text text (fault.Step n) has h = h
 bad_text text fault.Memory has h = absurd (has refl)
+bad_text text _ has h = h

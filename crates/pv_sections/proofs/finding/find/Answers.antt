@@ -1,6 +1,5 @@
 use Rattle.std.specs.Prelude.{slice_get, Some}
 use Rattle.std.proofs.Common.{◌≡◌, ◌<◌, length}
-use Rattle.pv_class.specs.declared.file.Method.{Method}
 use Rattle.pv_class.specs.Places.{IsNamedAt}
 use Rattle.pv_report.specs.Judging.{IsLikeAt}
 use Rattle.pv_report.proofs.Cited.{here_again}

@@ -1,8 +1,7 @@
-use Rattle.std.proofs.Common.{List, ℕ, Option, Some}
 use Rattle.pv_base.specs.Outside.{Rose}
 use Rattle.pv_top.specs.Commands.{named}
 use Rattle.pv_top.specs.Fetching.{AnswersFetched}
-use Rattle.pv_top.specs.Run.{Says, SaidOf}
+use Rattle.pv_top.specs.Run.{Says}
 use Rattle.pv_top.specs.Words.{names_of}
 use Rattle.pv_top.proofs.Answering.{said_of, said_result}
 use Rattle.pv_top.proofs.Asking.{asked_all}

@@ -1,10 +1,9 @@
-use Rattle.std.proofs.Common.{◌≡◌, ◌≤◌, List, ℕ, Option, Some, Result, Err, inr, rules, sym, subst, ap, ◌∙◌, arith}
+use Rattle.std.proofs.Common.{◌≡◌, Result, Err, inr, rules, sym, subst, ap, ◌∙◌, arith}
 use Rattle.std.specs.Global.{Vec}
-use Rattle.pv_base.specs.Stored.{Stored}
 use Rattle.pv_report.specs.declared.pair.Fetched.{Fetched}
 use Rattle.pv_report.specs.declared.status.Status.{Status}
 use Rattle.pv_report.specs.declared.status.Status.TheVariants as status
-use Rattle.pv_top.specs.Fetching.{AsksAll, HoldsWanted, wanted_names}
+use Rattle.pv_top.specs.Fetching.{AsksAll, wanted_names}
 use Rattle.pv_top.proofs.Asking.{asked_at, asked_one_more}
 use Rattle.pv_top.proofs.top.fetch_all.Goals as goal
 

@@ -1,0 +1,106 @@
+-- Each whole line of an answer that says `equivalent` is true.
+use Rattle.std.proofs.Common.{◌≡◌, ℕ, List, ◌∷◌, ◌++◌, Option, inl, inr, sym, ap, subst, ◌∙◌}
+use Rattle.std.specs.Prelude.{codes}
+use Rattle.pv_base.specs.Stored.{Stored}
+use Rattle.pv_report.specs.declared.status.Status.{Status}
+use Rattle.pv_report.specs.declared.status.Status.TheVariants as status
+use Rattle.pv_report.specs.declared.verdict.Side.{Side}
+use Rattle.pv_report.specs.declared.verdict.Side.TheVariants as side
+use Rattle.pv_report.specs.declared.verdict.Verdict.{Verdict}
+use Rattle.pv_report.specs.declared.verdict.Verdict.TheVariants.{Equivalent}
+use Rattle.pv_report.specs.Lines.{fault_words, in_words, line_of, line_text, method_line, side_word, verdict_words}
+use Rattle.pv_report.specs.Report.{IsBadPair, IsBadText, IsReport, Judged}
+use Rattle.pv_report.specs.Verdicts.{IsVerdict}
+use Rattle.pv_report.proofs.Cited.{Lacks, bad_class_other, bad_class_whole, one_meaning, only_equivalent, whole_line}
+use Rattle.pv_sections.specs.declared.finding.Finding.{Finding}
+use Rattle.pv_sections.specs.declared.finding.Finding.TheVariants as finding
+use Rattle.pv_sections.specs.Findings.{IsFinding}
+use Rattle.pv_sections.specs.Lines.{bad_certificate, flaw_words, section_line}
+use Rattle.pv_sections.specs.Ruled.{IsCertReport, Ruled}
+use Rattle.pv_sections.proofs.Cited.{accepted_meaning, bad_certificate_other, bad_certificate_whole, only_accepted, whole_section}
+use Rattle.pv_sections.specs.declared.flaw.Flaw.{Flaw}
+use Rattle.pv_top.specs.Promise.{IsLineOf}
+use Rattle.pv_top.proofs.Files.{HoldsBoth, has_bytes}
+use Rattle.pv_top.proofs.Saying.{IsTrueOf}
+use Rattle.pv_top.proofs.WholeLines.{line_among, line_only}
+
+-- a text is one line, which doesn't say `equivalent`
+one_other : (held : Option Stored) (a b text said : List ℕ) → text ≡ line_text said → Lacks 10 said → ((front : List ℕ) → said ≡ front ++ codes " equivalent" → ⊥) → IsTrueOf held a b text
+one_other held a b text said e whole other line l ends = absurd (other ends.0 (sym (line_only said line whole (subst (λ (t : List ℕ). IsLineOf t line) e l)) ∙ ends.1))
+
+bad_text : (held : Option Stored) (a b bytes text : List ℕ) (s : Side) → IsBadText s bytes text → IsTrueOf held a b text
+bad_text held a b bytes text s (f, bad, e) = one_other held a b text (in_words (codes "bad" ∷ codes "class" ∷ side_word s ∷ fault_words f)) e (bad_class_whole s f) (bad_class_other s f)
+
+bad_pair : (held : Option Stored) (a b first second text : List ℕ) → IsBadPair first second text → IsTrueOf held a b text
+bad_pair held a b first second text (inl bad) = bad_text held a b first text side.First bad
+bad_pair held a b first second text (inr bad) = bad_text held a b second text side.Second bad.1
+
+-- ---- a report
+
+report_line : (held : Option Stored) (a b first second text : List ℕ) (verdicts : List Verdict) → HoldsBoth held a b first second → IsReport first second verdicts text → IsTrueOf held a b text
+report_line held a b first second text verdicts h r line l ends =
+    let found = line_among (IsVerdict r.first r.second) line_of whole_line r.first.methods verdicts line r.each (subst (λ (t : List ℕ). IsLineOf t line) r.text_is l) in
+    let m = found.thing in
+    let is = only_equivalent m found.answer ends.0 (sym found.says ∙ ends.1) in
+    let equal : IsVerdict r.first r.second m Equivalent = subst (λ (v : Verdict). IsVerdict r.first r.second m v) is found.is in
+    record {
+      first = first;
+      second = second;
+      first_held = h.first_held;
+      second_held = h.second_held;
+      first_file = r.first;
+      second_file = r.second;
+      first_is = r.first_is;
+      second_is = r.second_is;
+      method = m;
+      among = found.among;
+      partner = equal.0;
+      partner_is = equal.1;
+      says = found.says ∙ ap (line_of m) is;
+      equivalent = one_meaning r.first m r.second equal.0 equal.2 equal.1.like.desc (has_bytes first r.first m h.first_bytes r.first_is found.among) (has_bytes second r.second equal.0 h.second_bytes r.second_is equal.1.among);
+    }
+
+pub judged_line : (held : Option Stored) (a b first second text : List ℕ) (s : Status) → HoldsBoth held a b first second → Judged first second text s → IsTrueOf held a b text
+judged_line held a b first second text status.BadClass h bad = bad_pair held a b first second text bad
+judged_line held a b first second text status.AllEquivalent h (vs, r, is) = report_line held a b first second text vs h r
+judged_line held a b first second text status.Others h (vs, r, is) = report_line held a b first second text vs h r
+judged_line held a b first second text _ h (vs, r, is) = absurd is
+
+-- ---- a report on a certificate
+
+finding_line : (held : Option Stored) (a b first second cert text : List ℕ) (findings : List Finding) → HoldsBoth held a b first second → IsCertReport first second cert findings text → IsTrueOf held a b text
+finding_line held a b first second cert text findings h r line l ends =
+    let found = line_among (IsFinding r.first r.second) section_line whole_section r.certificate.sections findings line r.lines.each (subst (λ (t : List ℕ). IsLineOf t line) r.lines.text_is l) in
+    let s = found.thing in
+    let is = only_accepted s found.answer ends.0 (sym found.says ∙ ends.1) in
+    let equal : IsFinding r.first r.second s (finding.Verdict Equivalent) = subst (λ (f : Finding). IsFinding r.first r.second s f) is found.is in
+    let m = equal.0 in
+    let p = equal.1 in
+    let named = equal.2.named in
+    let partner = equal.2.partner in
+    record {
+      first = first;
+      second = second;
+      first_held = h.first_held;
+      second_held = h.second_held;
+      first_file = r.first;
+      second_file = r.second;
+      first_is = r.first_is;
+      second_is = r.second_is;
+      method = m;
+      among = named.among;
+      partner = p;
+      partner_is = partner;
+      says = found.says ∙ ap (section_line s) is ∙ ap (λ (n : List ℕ). method_line n s.desc (verdict_words Equivalent)) (sym named.name_is) ∙ ap (λ (d : List ℕ). method_line m.name d (verdict_words Equivalent)) (sym named.desc_is);
+      equivalent = accepted_meaning r.first m r.second p s equal.3 partner.like.desc (has_bytes first r.first m h.first_bytes r.first_is named.among) (has_bytes second r.second p h.second_bytes r.second_is partner.among);
+    }
+
+flaw_line : (held : Option Stored) (a b text : List ℕ) (f : Flaw) → text ≡ bad_certificate f → IsTrueOf held a b text
+flaw_line held a b text f e = one_other held a b text (in_words (codes "bad" ∷ codes "certificate" ∷ flaw_words f)) e (bad_certificate_whole f) (bad_certificate_other f)
+
+pub ruled_line : (held : Option Stored) (a b first second cert text : List ℕ) (s : Status) → HoldsBoth held a b first second → Ruled first second cert text s → IsTrueOf held a b text
+ruled_line held a b first second cert text status.BadClass h bad = bad_pair held a b first second text bad
+ruled_line held a b first second cert text status.BadCert h bad = flaw_line held a b text bad.2 bad.4
+ruled_line held a b first second cert text status.AllEquivalent h (fs, r, is) = finding_line held a b first second cert text fs h r
+ruled_line held a b first second cert text status.Others h (fs, r, is) = finding_line held a b first second cert text fs h r
+ruled_line held a b first second cert text _ h (fs, r, is) = absurd is

@@ -1,0 +1,3 @@
+-- The lemmas that the proofs of other crates cite, from one place.
+pub use Rattle.pv_witness.proofs.Numbering.{numbered_long, numbered_node, numbered_extends, numbered_graph, first_is}
+pub use Rattle.pv_witness.proofs.Copies.{longer, copy_kept, witness_kept, has_kept, node_has}

@@ -88,7 +88,7 @@ module _ (g : Graph) (is_graph : IsGraph g) (sealed : g.is_open ≡ false) where
       let others : ss ≡ ts = kids_same ks ls ss ts (omega arith) (λ j x y p q. each (suc j) x y p q) a.1 b.1 in
       cc (one, others)
 
-  congruent : (a b : ℕ) (o : Op) (ks ls : List ℕ) → IsNode g a → IsNode g b → form_at g.nodes a ≡ Some (form o ks) → form_at g.nodes b ≡ Some (form o ls) → length ks ≡ length ls
+  pub congruent : (a b : ℕ) (o : Op) (ks ls : List ℕ) → IsNode g a → IsNode g b → form_at g.nodes a ≡ Some (form o ks) → form_at g.nodes b ≡ Some (form o ls) → length ks ≡ length ls
       → ((j k l : ℕ) → slice_get ks j ≡ Some k → slice_get ls j ≡ Some l → Same k l) → Same a b
   congruent a b o ks ls there there' x y long each =
       let s = sort_there g is_graph a there in

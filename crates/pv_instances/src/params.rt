@@ -71,7 +71,8 @@ impl Params {
         }
     }
 
-    pub(crate) fn constant(&self, j: u32) -> Num
+    /// What a variable for constants stands for.
+    pub fn constant(&self, j: u32) -> Num
         ensures { result ≡ (params_seen self.now).constants j }
     {
         match self.constants.get(j as usize) {

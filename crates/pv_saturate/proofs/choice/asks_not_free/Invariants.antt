@@ -1,0 +1,8 @@
+use Rattle.std.proofs.Common.{map, take}
+use Rattle.pv_graph.specs.Walks.{In}
+use Rattle.pv_pattern.specs.Patterns.{not_free}
+use Rattle.pv_pattern.specs.Seen.{side_seen}
+use Rattle.pv_saturate.proofs.choice.asks_not_free.Given as goal
+
+abbrev pub invariant-loop-side : goal.invariant-loop-side
+invariant-loop-side l = In (map side_seen (take l.side-index l.sides)) (not_free l.j) → ⊥

@@ -1,0 +1,3 @@
+-- what public contracts say
+pub mod Choice
+pub mod Added

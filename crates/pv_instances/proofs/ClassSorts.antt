@@ -1,8 +1,8 @@
 -- Classes that have one sort each: what stands in them has their sort, and closing keeps them so.
-use Rattle.std.specs.Prelude.{◌≡◌, ◌⊎◌, ℕ, zero, suc, ◌<◌, false, List, [], ◌∷◌, length, Some, slice_get, refl}
-use Rattle.std.specs.List.{AllZip, AllByRecursion}
-use Rattle.std.proofs.Common.{inl, inr, sym, ap, ◌∙◌, subst, arith}
-use Rattle.std.proofs.lemmas.Option.{slice_get_within, same_Some}
+use Rattle.std.specs.Prelude.{◌≡◌, ℕ, zero, suc, false, List, [], ◌∷◌, length, Some, slice_get, refl}
+use Rattle.std.specs.List.{AllByRecursion}
+use Rattle.std.proofs.Common.{sym, ap, ◌∙◌, subst, arith}
+use Rattle.std.proofs.lemmas.Option.{same_Some}
 use Rattle.pv_graph.specs.declared.node.Op.{Op}
 use Rattle.pv_graph.specs.declared.node.Op.TheVariants as op
 use Rattle.pv_graph.specs.declared.node.OpSort.{OpSort}
@@ -11,15 +11,13 @@ use Rattle.pv_graph.specs.Walks.{In}
 use Rattle.pv_graph.specs.Ops.{sort_over, HaveSorts, HasSort}
 use Rattle.pv_graph.specs.Graphs.{Graph, form_at, IsGraph}
 use Rattle.pv_graph.proofs.Cited.{node_at, sort_there, tied, shape_takes}
-use Rattle.pv_heights.specs.Systems.{Hypothesis, IsOutside, AreThetas, Joined, given, same, flip, chain, kids, outer, assumed, induction}
+use Rattle.pv_heights.specs.Systems.{Hypothesis, Joined, given, same, flip, chain, kids, outer, assumed, induction}
 use Rattle.pv_heights.specs.Filled.{kid, variable, Filled, at, of, Parts, no_part, part}
 use Rattle.pv_heights.specs.Sides.{Match, InClass, AllInClass}
 use Rattle.pv_heights.specs.Searches.{nodes, IsNode, OneClass, Joining}
 use Rattle.pv_heights.specs.Heights.{Nothing}
 use Rattle.pv_instances.specs.Sorted.{IsSorted, AreSorted}
-use Rattle.pv_instances.specs.Made.{SortedOver}
 use Rattle.pv_instances.specs.Classes.{JoinedHaveOneSort, SidesHaveSorts, ClosingKeepsSorts, BeginningHasSorts}
-use Rattle.pv_instances.proofs.Growing.{sorts_once}
 
 zip_left : (all : List OpSort) (xs : List ℕ) (ss : List OpSort) (j u : ℕ) (s : OpSort) → HaveSorts all xs ss → slice_get xs j ≡ Some u → slice_get all u ≡ Some s → slice_get ss j ≡ Some s
 zip_left all [] ss j u s z e at_ = absurd (cc)

@@ -1,5 +1,5 @@
 -- A side that passes the test can be written, and has the sort that is said.
-use Rattle.std.specs.Prelude.{◌≡◌, ◌≢◌, ◌⊎◌, ℕ, suc, ◌+◌, ◌==◌, ℤ, Bool, true, false, ◌&&◌, ◌||◌, List, [], ◌∷◌, ◌++◌, map, length, Option, Some, None, slice_get, if◌then◌else◌, refl}
+use Rattle.std.specs.Prelude.{◌≡◌, ◌≢◌, ◌⊎◌, ℕ, suc, ◌+◌, ◌==◌, ℤ, Bool, true, false, ◌&&◌, ◌||◌, List, [], ◌∷◌, map, length, Option, Some, None, slice_get, if◌then◌else◌, refl}
 use Rattle.std.specs.List.{AllZip, AllByRecursion}
 use Rattle.std.proofs.Common.{inl, inr, sym, ap, ◌∙◌, subst, arith}
 use Rattle.std.proofs.lemmas.Bool.Decides.{Decides-eqb}
@@ -19,17 +19,16 @@ use Rattle.pv_graph.specs.declared.node.Op.{Op}
 use Rattle.pv_graph.specs.declared.node.Op.TheVariants as op
 use Rattle.pv_graph.specs.declared.node.OpSort.{OpSort}
 use Rattle.pv_graph.specs.declared.node.OpSort.TheVariants.{I, L, A, N, F, T, H, R}
-use Rattle.pv_graph.specs.Ops.{same_sort, same_sorts, exactly, but_root, alike, choice_sort, eval_sort, shift_sort, root_sort, is_result, word_sort, type_sort, type_sorts, kind_sort, field_sort, result_sort, CallSorts, call_sorts, is_depth, sort_over}
-use Rattle.pv_graph.proofs.Sorting.{same_sort_is, if_some}
+use Rattle.pv_graph.specs.Ops.{same_sort, same_sorts, exactly, but_root, alike, choice_sort, eval_sort, shift_sort, is_result, word_sort, type_sort, type_sorts, kind_sort, field_sort, result_sort, CallSorts, call_sorts, is_depth, sort_over}
+use Rattle.pv_graph.proofs.Sorting.{same_sort_is}
 use Rattle.pv_graph.proofs.Cited.{exactly_are, shape_takes, bind_some}
-use Rattle.pv_pattern.specs.Numbers.{op_number}
 use Rattle.pv_pattern.specs.Patterns.{Atom, number, named, By, by_symbol, by_kind, Head, fixed, theta_d, eval_d, pass_d, shift_d, getstatic, putstatic, getfield, putfield, load, store, Each, bare, shifted, evaluated, Pattern, var, constant, fold, narrowed, over, over_each, Patterns, none, first}
-use Rattle.pv_pattern.specs.Instances.{head_op, atom_of, folded, type_by, kind_type}
+use Rattle.pv_pattern.specs.Instances.{head_op, atom_of, type_by, kind_type}
 use Rattle.pv_heights.specs.Filled.{Params, kid, Filled, at, of, Parts, no_part, part, over0, over1, over2, constant_part, narrow, each_part, each_parts, filled, all_filled}
 use Rattle.pv_heights.specs.Filled as hole
 use Rattle.pv_heights.specs.Filled.{named as without_nodes}
 use Rattle.pv_instances.specs.Sorted.{IsSorted, AreSorted}
-use Rattle.pv_instances.specs.Facts.{num_sort, Said, whole, is, field, element, same_said, sort_said, Gives, any, gives_, unsaid, op_gives, head_gives, head_takes, Fact, variable, word, depth, symbol, family, same_fact, has_fact, Tells, head_tells}
+use Rattle.pv_instances.specs.Facts.{num_sort, Said, whole, is, field, element, same_said, sort_said, any, op_gives, head_gives, head_takes, Fact, variable, word, depth, symbol, family, same_fact, has_fact, Tells, head_tells}
 use Rattle.pv_instances.specs.Fits.{said_by, gives_said, all_known, atom_fits, atoms_fit, by_said, by_tells, each_fits, fits, fit_all}
 
 -- ---- tests

@@ -1,5 +1,5 @@
 -- What a graph keeps that grows, and a graph to which one node is added.
-use Rattle.std.specs.Prelude.{◌≡◌, ◌⊎◌, ℕ, zero, suc, ◌+◌, ◌<◌, ◌≤◌, Bool, true, false, List, [], ◌∷◌, ◌++◌, length, Option, Some, None, slice_get, if◌then◌else◌, refl}
+use Rattle.std.specs.Prelude.{◌≡◌, ◌⊎◌, ℕ, zero, suc, ◌+◌, ◌<◌, ◌≤◌, Bool, true, false, List, [], ◌∷◌, ◌++◌, length, Some, slice_get, if◌then◌else◌, refl}
 use Rattle.std.specs.List.{AllZip}
 use Rattle.std.proofs.Common.{inl, inr, sym, ap, ◌∙◌, subst, arith, get_or, take, map, option_map, length-append, Result, Ok, Err, IfOk}
 use Rattle.std.proofs.lemmas.Option.{slice_get_within, slice_get-get_or, slice_get-map, same_Some}
@@ -8,10 +8,10 @@ use Rattle.pv_graph.specs.declared.node.Op.{Op}
 use Rattle.pv_graph.specs.declared.node.OpSort.{OpSort}
 use Rattle.pv_graph.specs.declared.node.Node.{Node}
 use Rattle.pv_graph.specs.Forms.{Form, form}
-use Rattle.pv_graph.specs.Ops.{sort_over, HaveSorts, HasSort}
-use Rattle.pv_graph.specs.Graphs.{Graph, form_of, form_at, IsGraph, Extends}
+use Rattle.pv_graph.specs.Ops.{sort_over, HaveSorts}
+use Rattle.pv_graph.specs.Graphs.{Graph, form_at, IsGraph, Extends}
 use Rattle.pv_graph.specs.Nodes.{node_of}
-use Rattle.pv_graph.specs.Calls.{IsSame, appended, Added, AreNodes, FitsOver}
+use Rattle.pv_graph.specs.Calls.{IsSame, appended, Added, AreNodes}
 use Rattle.pv_graph.proofs.Cited.{bind_some, found, get_front, get_last, form_there, sort_there, tied}
 use Rattle.pv_heights.specs.Searches.{IsNode}
 use Rattle.pv_instances.specs.Made.{GrowsBy}

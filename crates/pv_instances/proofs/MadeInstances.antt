@@ -1,15 +1,15 @@
 -- Both sides of an instance, made one after the other.
-use Rattle.std.specs.Prelude.{◌≡◌, ◌⊎◌, ℕ, List, [], ◌∷◌, length, Some, slice_get, refl}
-use Rattle.std.proofs.Common.{inl, inr, sym, ap, ◌∙◌, subst, arith}
+use Rattle.std.specs.Prelude.{◌≡◌, ℕ, List, [], ◌∷◌, length, Some, slice_get, refl}
+use Rattle.std.proofs.Common.{inl, inr, sym, ◌∙◌, subst, arith}
 use Rattle.std.proofs.lemmas.Option.{same_Some}
 use Rattle.pv_graph.specs.declared.node.OpSort.{OpSort}
 use Rattle.pv_graph.specs.Ops.{HaveSorts}
 use Rattle.pv_graph.specs.Graphs.{Graph, Extends}
 use Rattle.pv_pattern.specs.Patterns.{Pattern}
 use Rattle.pv_heights.specs.Filled.{Filled, filled}
-use Rattle.pv_heights.specs.Sides.{Match, side}
+use Rattle.pv_heights.specs.Sides.{Match}
 use Rattle.pv_instances.specs.Laws.{KeepsSort}
-use Rattle.pv_instances.specs.Made.{SortedOver, CanMake, CanMakeBoth, IsPartAt, IsPartOfInstance, MadeSide, MadePattern, MadeInstance}
+use Rattle.pv_instances.specs.Made.{SortedOver, CanMake, CanMakeBoth, IsPartAt, IsPartOfInstance, MadePattern, MadeInstance}
 use Rattle.pv_instances.proofs.Growing.{grows_both}
 use Rattle.pv_instances.proofs.MadeSides.{side_kept, part_kept, sorted_later}
 

@@ -1,12 +1,12 @@
 -- What is made of a side, and of parts one after another.
-use Rattle.std.specs.Prelude.{◌≡◌, ◌⊎◌, ℕ, zero, suc, ◌<◌, false, List, [], ◌∷◌, ◌++◌, Option, Some, None, slice_get, refl}
-use Rattle.std.proofs.Common.{inl, inr, sym, ap, ◌∙◌, subst, arith}
+use Rattle.std.specs.Prelude.{◌≡◌, ℕ, zero, suc, false, List, [], ◌∷◌, ◌++◌, Some, None, slice_get, refl}
+use Rattle.std.proofs.Common.{inl, inr, sym, ap, ◌∙◌, subst}
 use Rattle.std.proofs.lemmas.Option.{same_Some}
 use Rattle.pv_graph.specs.declared.node.Op.{Op}
 use Rattle.pv_graph.specs.declared.node.OpSort.{OpSort}
 use Rattle.pv_graph.specs.Forms.{form}
-use Rattle.pv_graph.specs.Ops.{sort_over, HaveSorts, HasSort}
-use Rattle.pv_graph.specs.Graphs.{Graph, form_at, Extends}
+use Rattle.pv_graph.specs.Ops.{sort_over, HaveSorts}
+use Rattle.pv_graph.specs.Graphs.{Graph, Extends}
 use Rattle.pv_graph.specs.Nodes.{node_of}
 use Rattle.pv_graph.specs.Calls.{Added, FitsOver}
 use Rattle.pv_graph.proofs.Cited.{form_there}
@@ -15,7 +15,7 @@ use Rattle.pv_heights.specs.Sides.{Match, thing_at}
 use Rattle.pv_heights.specs.Rounds.{IsPart, IsPartOf}
 use Rattle.pv_instances.specs.Sorted.{IsSorted, AreSorted}
 use Rattle.pv_instances.specs.Seen.{parts}
-use Rattle.pv_instances.specs.Made.{SortedOver, GrowsBy, IsSideAt, IsPartAt, MadeSide}
+use Rattle.pv_instances.specs.Made.{SortedOver, IsSideAt, IsPartAt, MadeSide}
 use Rattle.pv_instances.specs.Parts.{AllSortedOver, AreSidesAt, IsPartOfAt, MadeSides}
 use Rattle.pv_instances.proofs.Growing.{zip_get, form_within, form_kept, node_kept, sorts_kept, Is, nothing_new, added_grows, grows_both, sort_is}
 

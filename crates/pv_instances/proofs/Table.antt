@@ -1,21 +1,18 @@
 -- The axioms of all tables keep their sorts.
-use Rattle.std.specs.Prelude.{◌≡◌, ◌≢◌, Bool, true, false, ◌&&◌, List, [], ◌∷◌, ◌++◌, length, Option, Some, None, refl}
-use Rattle.std.specs.List.{AllByRecursion}
-use Rattle.std.proofs.Common.{sym, ap, ◌∙◌, subst}
+use Rattle.std.specs.Prelude.{◌≡◌, true, List, [], ◌∷◌, ◌++◌, length, Option, Some, None, refl}
+use Rattle.std.proofs.Common.{sym, subst}
 use Rattle.pv_graph.specs.declared.node.OpSort.{OpSort}
-use Rattle.pv_graph.specs.declared.node.OpSort.TheVariants.{R}
-use Rattle.pv_graph.specs.Ops.{sort_over}
-use Rattle.pv_pattern.specs.Patterns.{Head, Pattern, var, constant, fold, narrowed, over, over_each, Patterns, Axiom}
+use Rattle.pv_pattern.specs.Patterns.{Pattern, over, Axiom}
 use Rattle.pv_pattern.specs.Instances.{head_op}
 use Rattle.pv_graph.proofs.Cited.{bind_some}
-use Rattle.pv_heights.specs.Filled.{Params, named, Filled, of, Parts, filled, all_filled}
+use Rattle.pv_heights.specs.Filled.{Params, named, Filled, of, filled, all_filled}
 use Rattle.pv_scalar.specs.Table.{scalar_axioms}
 use Rattle.pv_loopax.specs.Table.{loop_axioms}
 use Rattle.pv_heapax.specs.Table.{heap_axioms}
 use Rattle.pv_axioms.specs.Entries.{axioms}
 use Rattle.pv_instances.specs.Sorted.{IsSorted}
-use Rattle.pv_instances.specs.Facts.{Said, tells, head_gives}
-use Rattle.pv_instances.specs.Fits.{fits, said_by, head_said, keeps_sort_at, keeps_sort, keep_sorts}
+use Rattle.pv_instances.specs.Facts.{Said, tells}
+use Rattle.pv_instances.specs.Fits.{fits, head_said, keeps_sort_at, keeps_sort, keep_sorts}
 use Rattle.pv_instances.specs.Laws.{KeepsSort, KeepSorts}
 use Rattle.pv_instances.proofs.Telling.{told, head_says, all_append}
 use Rattle.pv_instances.proofs.Fitting.{both, not_root, fitting}

@@ -1,24 +1,22 @@
 -- What a side tells that has a sort, holds.
-use Rattle.std.specs.Prelude.{◌≡◌, ℕ, zero, suc, ◌+◌, ◌==◌, Bool, true, false, ◌&&◌, List, [], ◌∷◌, ◌++◌, map, length, Option, Some, None, slice_get, if◌then◌else◌, refl}
+use Rattle.std.specs.Prelude.{◌≡◌, ℕ, suc, ◌+◌, ◌==◌, Bool, true, false, List, [], ◌∷◌, ◌++◌, map, length, Option, Some, None, slice_get, if◌then◌else◌, refl}
 use Rattle.std.specs.List.{AllZip, AllByRecursion}
 use Rattle.std.proofs.Common.{sym, ap, ◌∙◌, subst, arith}
-use Rattle.pv_value.specs.Spelled.{bind}
-use Rattle.pv_value.specs.declared.operation.ScalarOp.{ScalarOp}
 use Rattle.pv_value.specs.Operations.{Word, takes, gives}
 use Rattle.pv_graph.specs.declared.node.Op.{Op}
 use Rattle.pv_graph.specs.declared.node.Op.TheVariants as op
 use Rattle.pv_graph.specs.declared.node.OpSort.{OpSort}
-use Rattle.pv_graph.specs.declared.node.OpSort.TheVariants.{I, L, A, N, F, T, H, R}
+use Rattle.pv_graph.specs.declared.node.OpSort.TheVariants.{I, L, A, N, F, T, H}
 use Rattle.pv_graph.specs.Ops.{word_sort, field_sort, kind_sort, is_depth, exactly, alike, eval_sort, shift_sort, sort_over}
 use Rattle.pv_graph.proofs.Cited.{exactly_are, shape_takes, bind_some}
 use Rattle.pv_value.specs.declared.number.Num.{Num}
 use Rattle.pv_value.specs.declared.number.Num.TheVariants as num
 use Rattle.pv_pattern.specs.Numbers.{op_number}
-use Rattle.pv_pattern.specs.Patterns.{Each, bare, shifted, evaluated, Head, fixed, theta_d, eval_d, pass_d, shift_d, getstatic, putstatic, getfield, putfield, load, store, Pattern, var, constant, fold, narrowed, over, over_each, Patterns, none, first}
+use Rattle.pv_pattern.specs.Patterns.{bare, shifted, evaluated, Head, fixed, theta_d, eval_d, pass_d, shift_d, getstatic, putstatic, getfield, putfield, load, store, Pattern, var, constant, fold, narrowed, over, over_each, Patterns, none, first}
 use Rattle.pv_pattern.specs.Instances.{head_op}
-use Rattle.pv_heights.specs.Filled.{Params, named, kid, variable, Filled, at, of, Parts, no_part, part, number_op, constant_part, each_parts, filled, all_filled}
+use Rattle.pv_heights.specs.Filled.{Params, named, variable, Filled, at, of, Parts, no_part, part, constant_part, each_parts, filled, all_filled}
 use Rattle.pv_instances.specs.Sorted.{IsSorted, AreSorted}
-use Rattle.pv_instances.specs.Facts.{num_sort, Said, whole, is, field, element, sort_said, Gives, any, gives_, unsaid, head_gives, head_takes, Fact, word, depth, symbol, family, Tells, head_tells, tells, tell_all}
+use Rattle.pv_instances.specs.Facts.{num_sort, Said, whole, is, field, element, sort_said, head_gives, head_takes, Fact, family, Tells, head_tells, tells, tell_all}
 use Rattle.pv_instances.specs.Fits.{said_by}
 
 if_depth : (t : Bool) (o : Option OpSort) (y : OpSort) → (if t then o else None) ≡ Some y → (t ≡ true) × (o ≡ Some y)

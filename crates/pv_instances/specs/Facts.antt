@@ -1,16 +1,14 @@
 -- What the left side of an axiom tells of the sorts of its variables, symbols and constants.
 use Rattle.std.specs.Prelude.{◌≡◌, ℕ, Bool, true, false, ◌&&◌, ◌||◌, List, [], ◌∷◌, ◌++◌, map, Option, Some, None, slice_get, ◌==◌}
-use Rattle.std.specs.List.{AllByRecursion}
-use Rattle.pv_value.specs.declared.operation.ScalarOp.{ScalarOp}
 use Rattle.pv_value.specs.declared.number.Num.{Num}
 use Rattle.pv_value.specs.declared.number.Num.TheVariants as num
-use Rattle.pv_value.specs.Operations.{Word, int, long, takes, gives}
+use Rattle.pv_value.specs.Operations.{takes, gives}
 use Rattle.pv_graph.specs.declared.node.Op.{Op}
 use Rattle.pv_graph.specs.declared.node.Op.TheVariants as op
 use Rattle.pv_graph.specs.declared.node.OpSort.{OpSort}
-use Rattle.pv_graph.specs.declared.node.OpSort.TheVariants.{I, L, A, N, F, T, H, R}
+use Rattle.pv_graph.specs.declared.node.OpSort.TheVariants.{I, L, A, N, F, T, H}
 use Rattle.pv_graph.specs.Ops.{same_sort, word_sort, field_sort, kind_sort, is_depth, sort_over}
-use Rattle.pv_pattern.specs.Patterns.{Atom, number, named, By, by_symbol, by_kind, Head, fixed, theta_d, eval_d, pass_d, shift_d, getstatic, putstatic, getfield, putfield, load, store, Each, bare, shifted, evaluated, Pattern, var, constant, fold, narrowed, over, over_each, Patterns, none, first, Axiom}
+use Rattle.pv_pattern.specs.Patterns.{Head, fixed, theta_d, eval_d, pass_d, shift_d, getstatic, putstatic, getfield, putfield, load, store, bare, Pattern, var, constant, fold, narrowed, over, over_each, Patterns, none, first}
 use Rattle.pv_pattern.specs.Numbers.{op_number}
 use Rattle.pv_heights.specs.Filled.{Params}
 

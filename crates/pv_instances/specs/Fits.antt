@@ -1,9 +1,9 @@
 -- The test of an axiom's sorts: whether what its left side tells gives its right side the same sort.
-use Rattle.std.specs.Prelude.{ℕ, Bool, true, false, ◌&&◌, List, [], ◌∷◌, Option, Some, None}
+use Rattle.std.specs.Prelude.{Bool, true, false, ◌&&◌, List, [], ◌∷◌, Option, Some, None}
 use Rattle.pv_value.specs.declared.number.Num.TheVariants as num
 use Rattle.pv_value.specs.Operations.{Word, int, long, takes, gives}
 use Rattle.pv_graph.specs.declared.node.OpSort.TheVariants.{N, R}
-use Rattle.pv_graph.specs.Ops.{same_sort, word_sort}
+use Rattle.pv_graph.specs.Ops.{word_sort}
 use Rattle.pv_pattern.specs.Patterns.{Atom, number, named, By, by_symbol, by_kind, Each, bare, shifted, evaluated, Pattern, var, constant, fold, narrowed, over, over_each, Patterns, none, first, Axiom}
 use Rattle.pv_instances.specs.Facts.{Said, whole, is, field, element, same_said, Gives, any, gives_, unsaid, head_gives, head_takes, Fact, variable, word, depth, symbol, family, has_fact, head_tells, tells}
 

@@ -1,5 +1,5 @@
 -- Filled sides, names and instances that a program has, as definitions see them.
-use Rattle.std.specs.Prelude.{ℕ, pos, List, [], ◌∷◌, map, slice_get, unwrap_or}
+use Rattle.std.specs.Prelude.{ℕ, pos, List, [], ◌∷◌, slice_get, unwrap_or}
 use Rattle.pv_value.specs.declared.heap.Kind.TheVariants as kind
 use Rattle.pv_value.specs.declared.number.Num.TheVariants as num
 use Rattle.pv_pattern.specs.Found.{empty_symbol}

@@ -1,5 +1,5 @@
 -- The node that is chosen for a variable.
-use Rattle.std.specs.Prelude.{◌≡◌, ◌⊎◌, ℕ, zero, suc, ◌<◌, ◌≤◌, false, List, [], ◌∷◌, length, Option, Some, None, slice_get, refl}
+use Rattle.std.specs.Prelude.{◌≡◌, ℕ, ◌<◌, false, List, [], length, Some, slice_get, refl}
 use Rattle.std.proofs.Common.{inl, inr, sym, ap, ◌∙◌, subst, arith}
 use Rattle.std.proofs.lemmas.Option.{slice_get_within, same_Some}
 use Rattle.pv_value.specs.declared.number.Num.{Num}
@@ -14,7 +14,7 @@ use Rattle.pv_graph.specs.Graphs.{Graph, IsGraph, form_at}
 use Rattle.pv_graph.specs.Calls.{IsSame, Added, FitsOver}
 use Rattle.pv_graph.proofs.Cited.{form_there, node_at, sort_there}
 use Rattle.pv_pattern.specs.declared.names.NameId.TheVariants as name
-use Rattle.pv_pattern.specs.Patterns.{Side, settled, not_free}
+use Rattle.pv_pattern.specs.Patterns.{settled, not_free}
 use Rattle.pv_pattern.specs.Binding.{names}
 use Rattle.pv_axioms.specs.Entries.{axioms}
 use Rattle.pv_heights.specs.Filled.{number_op}

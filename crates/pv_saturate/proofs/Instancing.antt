@@ -1,15 +1,14 @@
 -- The instance of a match, over the nodes that are chosen.
-use Rattle.std.specs.Prelude.{◌≡◌, ◌⊎◌, ℕ, zero, suc, ◌<◌, ◌≤◌, false, List, [], ◌∷◌, length, Some, slice_get, refl}
+use Rattle.std.specs.Prelude.{◌≡◌, ℕ, suc, ◌<◌, false, List, [], ◌∷◌, length, Some, slice_get, refl}
 use Rattle.std.specs.List.{AllZip, AllByRecursion}
-use Rattle.std.proofs.Common.{inl, inr, sym, ap, ◌∙◌, subst, arith}
+use Rattle.std.proofs.Common.{inl, inr, sym, ◌∙◌, subst, arith}
 use Rattle.pv_graph.specs.declared.node.OpSort.{OpSort}
 use Rattle.pv_graph.specs.Forms.{form}
 use Rattle.pv_graph.specs.Ops.{HaveSorts}
 use Rattle.pv_graph.specs.Walks.{In}
-use Rattle.pv_graph.specs.Graphs.{Graph, IsGraph, Extends}
+use Rattle.pv_graph.specs.Graphs.{Graph, IsGraph}
 use Rattle.pv_graph.specs.Calls.{IsSame}
 use Rattle.pv_graph.proofs.Cited.{sort_there}
-use Rattle.pv_heights.specs.Filled.{Filled}
 use Rattle.pv_heights.specs.Sides.{Match}
 use Rattle.pv_heights.specs.Rounds.{ClassCopy, IsInstanceOf}
 use Rattle.pv_heights.specs.Rounds as copy
@@ -17,9 +16,9 @@ use Rattle.pv_heights.specs.Searches.{nodes, IsNode, OneClass}
 use Rattle.pv_axioms.specs.Entries.{axioms}
 use Rattle.pv_instances.specs.Laws.{KeepsSort}
 use Rattle.pv_instances.specs.Classes.{JoinedHaveOneSort}
-use Rattle.pv_instances.specs.Made.{SortedOver, CanMake, CanMakeBoth, GrowsBy, IsPartOfInstance, MadeInstance}
+use Rattle.pv_instances.specs.Made.{SortedOver, CanMakeBoth, GrowsBy, IsPartOfInstance, MadeInstance}
 use Rattle.pv_instances.proofs.Cited.{form_kept, sorts_kept, both_can, all_kept, sides_have_sorts}
-use Rattle.pv_witness.specs.Numbered.{AreNumbered, class_of, numbered}
+use Rattle.pv_witness.specs.Numbered.{AreNumbered, numbered}
 use Rattle.pv_witness.proofs.Cited.{numbered_long, numbered_extends, numbered_graph, one_class, copy_kept, longer}
 use Rattle.pv_saturate.specs.declared.choice.Witnesses.{Witnesses}
 use Rattle.pv_saturate.specs.Choice.{CanChoose, IsChosenFor, AreChosenFor}

@@ -1,5 +1,5 @@
 -- What is known of a graph is known of one with the same nodes.
-use Rattle.std.specs.Prelude.{◌≡◌, ◌⊎◌, ℕ, refl, ◌+◌, ◌<◌, false, List, [], ◌∷◌, ◌++◌, length, Some, slice_get}
+use Rattle.std.specs.Prelude.{◌≡◌, ◌⊎◌, ℕ, refl, List, [], ◌∷◌, ◌++◌, length, Some, slice_get}
 use Rattle.std.proofs.Common.{inl, inr, sym, ap, ◌∙◌, subst, arith, length-append}
 use Rattle.std.proofs.lemmas.Option.{slice_get_within}
 use Rattle.pv_graph.specs.Graphs.{Graph}

@@ -1,6 +1,6 @@
 -- The nodes over which the instance of a match is made. The match has a node for each of its classes. Here h has the nodes with class
 -- numbers, and g grew from it.
-use Rattle.std.specs.Prelude.{◌≡◌, ◌↔◌, ℕ, ◌<◌, ◌≤◌, List, [], length, Option, Some, slice_get}
+use Rattle.std.specs.Prelude.{◌≡◌, ◌↔◌, ℕ, ◌<◌, List, [], length, Option, Some, slice_get}
 use Rattle.pv_value.specs.declared.number.Num.{Num}
 use Rattle.pv_graph.specs.declared.node.Op.{Op}
 use Rattle.pv_graph.specs.Forms.{form}

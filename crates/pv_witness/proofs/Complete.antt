@@ -1,16 +1,13 @@
 -- The supports are complete: they cover each class of which the condition holds.
-use Rattle.std.specs.Prelude.{◌≡◌, ◌≢◌, ◌⊎◌, ℕ, zero, suc, ◌<◌, Bool, false, List, [], ◌∷◌, length, Some, slice_get, refl}
+use Rattle.std.specs.Prelude.{◌≡◌, ℕ, zero, suc, Bool, List, [], ◌∷◌, length, Some, slice_get}
 use Rattle.std.proofs.Common.{inl, inr, sym, ap, ◌∙◌, subst, arith}
 use Rattle.std.proofs.lemmas.Option.{slice_get_within, same_Some}
 use Rattle.pv_graph.specs.declared.node.Op.{Op}
 use Rattle.pv_graph.specs.declared.node.Op.TheVariants as op
-use Rattle.pv_graph.specs.Forms.{form}
 use Rattle.pv_graph.specs.Ops.{shape, theta}
 use Rattle.pv_graph.specs.Walks.{In, open_kids}
-use Rattle.pv_graph.specs.Reach.{IsMarked}
-use Rattle.pv_graph.specs.Graphs.{Graph, form_at}
+use Rattle.pv_graph.specs.Graphs.{Graph}
 use Rattle.pv_steps.specs.Facts.{View}
-use Rattle.pv_heights.specs.Heights.{IsBase}
 use Rattle.pv_heights.specs.Sides.{ClassHas}
 use Rattle.pv_heights.specs.Conditions.{ClassNode, Settled, NotFree}
 use Rattle.pv_heights.specs.Searches.{nodes, IsNode, OneClass}
@@ -18,7 +15,7 @@ use Rattle.pv_witness.specs.declared.condition.Condition.{Condition}
 use Rattle.pv_witness.specs.declared.condition.Condition.TheVariants as condition
 use Rattle.pv_witness.specs.Numbered.{class_of}
 use Rattle.pv_witness.specs.Conditions.{HoldsAt, HoldsOfClass, AreStarts}
-use Rattle.pv_witness.specs.Supports.{HandsOn, counted, Covers, IsReady, AreAllSupports}
+use Rattle.pv_witness.specs.Supports.{HandsOn, counted, Covers, AreAllSupports}
 
 -- nodes of one class have one class number
 pub class_same : (numbers : List ℕ) (a b : ℕ) → OneClass numbers a b → class_of numbers a ≡ class_of numbers b

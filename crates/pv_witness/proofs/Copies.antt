@@ -1,27 +1,23 @@
 -- Copies of nodes in a graph that grows, and what holds of them.
-use Rattle.std.specs.Prelude.{◌≡◌, ◌≢◌, ◌⊎◌, ◌↔◌, ℕ, zero, suc, ◌+◌, ◌<◌, ◌≤◌, Bool, true, false, List, [], ◌∷◌, ◌++◌, length, Option, Some, None, slice_get, slice_set, ◌==◌, if◌then◌else◌, refl}
+use Rattle.std.specs.Prelude.{◌≡◌, ◌≢◌, ◌⊎◌, ℕ, zero, suc, ◌<◌, ◌≤◌, Bool, true, false, List, [], ◌∷◌, ◌++◌, length, Option, Some, slice_get, ◌==◌, if◌then◌else◌, refl}
 use Rattle.std.specs.List.{AllZip}
-use Rattle.std.proofs.Common.{inl, inr, sym, ap, ◌∙◌, subst, arith, get_or, length-append}
+use Rattle.std.proofs.Common.{inl, inr, sym, ap, ◌∙◌, subst, arith}
 use Rattle.std.proofs.lemmas.Option.{slice_get_within, slice_get-get_or, same_Some}
 use Rattle.pv_graph.specs.declared.node.Op.{Op}
 use Rattle.pv_graph.specs.declared.node.OpSort.{OpSort}
-use Rattle.pv_graph.specs.declared.node.Node.{Node}
 use Rattle.pv_graph.specs.Forms.{Form, form}
-use Rattle.pv_graph.specs.Ops.{Shape, plain, choice, theta, eval, pass, shift, root, shape, may_not_end, sort_over, HaveSorts, HasSort}
+use Rattle.pv_graph.specs.Ops.{Shape, plain, choice, theta, eval, pass, shift, root, shape, may_not_end, HaveSorts}
 use Rattle.pv_graph.specs.Walks.{In, open_kids, Free, here, below, Reaches, itself, along, IsSettled}
-use Rattle.pv_graph.specs.Reach.{IsMarked}
-use Rattle.pv_graph.specs.Nodes.{node_of}
-use Rattle.pv_graph.specs.Graphs.{Graph, form_of, form_at, IsGraph, Extends}
-use Rattle.pv_graph.specs.Calls.{IsSame, appended, Added, AreNodes, FitsOver}
-use Rattle.pv_graph.proofs.Cited.{equal_or_not, found, form_there, node_at, kid_within, in_cases, set_length, set_other, set_same, get_front, get_last, bind_some, sort_there, tied}
+use Rattle.pv_graph.specs.Graphs.{Graph, form_at, IsGraph, Extends}
+use Rattle.pv_graph.proofs.Cited.{found, form_there, node_at, kid_within, bind_some, sort_there}
 use Rattle.pv_witness.specs.declared.condition.Condition.{Condition}
 use Rattle.pv_witness.specs.declared.condition.Condition.TheVariants as condition
 use Rattle.pv_witness.specs.Numbered.{class_of}
 use Rattle.pv_witness.specs.Conditions.{HoldsOfNode}
 use Rattle.pv_heights.specs.Rounds.{Copy}
 use Rattle.pv_heights.specs.Rounds as copy
-use Rattle.pv_heights.specs.Searches.{nodes, IsNode, OneClass}
-use Rattle.pv_witness.specs.Supports.{HandsOn, counted, Covers, IsReady, IsSupport}
+use Rattle.pv_heights.specs.Searches.{OneClass}
+use Rattle.pv_witness.specs.Supports.{HandsOn, counted}
 use Rattle.pv_instances.specs.Classes.{JoinedHaveOneSort}
 use Rattle.pv_witness.specs.Witnesses.{IsCopy, IsWitness}
 use Rattle.pv_witness.specs.Table.{IsChosen, AreChosen}

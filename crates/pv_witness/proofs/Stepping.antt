@@ -1,31 +1,28 @@
 -- One witness more.
-use Rattle.std.specs.Prelude.{◌≡◌, ◌≢◌, ◌⊎◌, ◌↔◌, ℕ, zero, suc, ◌+◌, ◌<◌, ◌≤◌, Bool, true, false, List, [], ◌∷◌, ◌++◌, length, Option, Some, None, slice_get, slice_set, refl}
-use Rattle.std.specs.List.{AllZip}
+use Rattle.std.specs.Prelude.{◌≡◌, ◌⊎◌, ℕ, ◌<◌, ◌≤◌, Bool, false, List, [], ◌∷◌, ◌++◌, length, Option, Some, None, slice_get, slice_set, refl}
 use Rattle.std.proofs.Common.{inl, inr, sym, ap, ◌∙◌, subst, arith, take, take_all}
-use Rattle.std.proofs.lemmas.Option.{slice_get_within, same_Some}
+use Rattle.std.proofs.lemmas.Option.{slice_get_within}
 use Rattle.pv_graph.specs.declared.node.Op.{Op}
 use Rattle.pv_graph.specs.declared.node.OpSort.{OpSort}
 use Rattle.pv_graph.specs.declared.node.Node.{Node}
-use Rattle.pv_graph.specs.Forms.{Form, form}
-use Rattle.pv_graph.specs.Ops.{sort_over, HaveSorts, HasSort}
+use Rattle.pv_graph.specs.Forms.{form}
+use Rattle.pv_graph.specs.Ops.{HasSort}
 use Rattle.pv_graph.specs.Walks.{In}
-use Rattle.pv_graph.specs.Reach.{IsMarked}
-use Rattle.pv_graph.specs.Graphs.{Graph, form_of, form_at, IsGraph, Extends}
-use Rattle.pv_graph.specs.Calls.{Added, FitsOver}
+use Rattle.pv_graph.specs.Graphs.{Graph, form_at, IsGraph, Extends}
 use Rattle.pv_graph.proofs.Cited.{equal_or_not, found, form_there, kid_within, in_cases, push_cases, set_length, set_other, set_same, sort_there, tied}
 use Rattle.pv_witness.specs.declared.condition.Condition.{Condition}
 use Rattle.pv_witness.specs.Numbered.{class_of}
 use Rattle.pv_witness.specs.Conditions.{HoldsOfNode}
 use Rattle.pv_heights.specs.Rounds as copy
-use Rattle.pv_heights.specs.Searches.{nodes, IsNode, OneClass}
+use Rattle.pv_heights.specs.Searches.{OneClass}
 use Rattle.pv_instances.specs.Made.{GrowsBy}
 use Rattle.pv_instances.proofs.Cited.{same_extends, extends_both, added_grows, sort_is, sorts_kept}
 use Rattle.pv_witness.specs.Supports.{HandsOn, counted, Covers, IsReady, IsSupport, AreSupports, none, more}
 use Rattle.pv_instances.specs.Classes.{JoinedHaveOneSort}
-use Rattle.pv_witness.specs.Witnesses.{IsCopy, IsCopied, IsWitness}
-use Rattle.pv_witness.specs.Table.{IsOldOrCopied, HoldsOfMarked, AreWitnessed, IsChosen, AreChosen, IsMadeAgain, FitsAgain, HasNumberedKids, IsTaken}
+use Rattle.pv_witness.specs.Witnesses.{IsCopy, IsWitness}
+use Rattle.pv_witness.specs.Table.{IsOldOrCopied, HoldsOfMarked, AreWitnessed, IsChosen, IsMadeAgain, FitsAgain, HasNumberedKids, IsTaken}
 use Rattle.pv_witness.proofs.Supporting.{take_front}
-use Rattle.pv_witness.proofs.Copies.{form_kept, has_kept, node_has, copy_kept, longer, witness_kept, one_class, counted_chosen, chosen_sorts, chosen_copies}
+use Rattle.pv_witness.proofs.Copies.{has_kept, node_has, copy_kept, longer, witness_kept, counted_chosen, chosen_sorts, chosen_copies}
 
 pub none_witnessed : (g old : Graph) (numbers : List ℕ) (t : Condition) (starts : List Bool) (table : List (Option ℕ)) → Extends g old → old.is_open ≡ g.is_open → old.base ≡ g.base → length table ≡ length g.nodes
     → ((c w : ℕ) → slice_get table c ≡ Some (Some w) → ⊥) → AreWitnessed g old old numbers t starts [] table

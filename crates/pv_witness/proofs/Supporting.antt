@@ -1,5 +1,5 @@
 -- How the supports of a condition are found.
-use Rattle.std.specs.Prelude.{◌≡◌, ◌≢◌, ◌⊎◌, ◌↔◌, ℕ, zero, suc, ◌+◌, ◌<◌, ◌≤◌, Bool, true, false, List, [], ◌∷◌, ◌++◌, length, map, Option, Some, None, slice_get, slice_set, ◌==◌, if◌then◌else◌, refl}
+use Rattle.std.specs.Prelude.{◌≡◌, ◌⊎◌, ◌↔◌, ℕ, zero, suc, ◌+◌, ◌<◌, ◌≤◌, Bool, true, false, List, [], ◌∷◌, ◌++◌, length, map, Some, slice_get, slice_set, ◌==◌, if◌then◌else◌, refl}
 use Rattle.std.proofs.Common.{inl, inr, sym, ap, ◌∙◌, subst, arith, get_or, take, length-append, append_assoc, true≢false, replicate}
 use Rattle.std.proofs.lemmas.Option.{slice_get_within, slice_get-get_or, same_Some}
 use Rattle.std.proofs.lemmas.List.{take_more}
@@ -9,14 +9,14 @@ use Rattle.pv_graph.specs.Forms.{form}
 use Rattle.pv_graph.specs.Ops.{Shape, plain, choice, theta, eval, pass, shift, root, shape}
 use Rattle.pv_graph.specs.Walks.{In, open_kids}
 use Rattle.pv_graph.specs.Reach.{IsMarked, unmarked}
-use Rattle.pv_graph.specs.Graphs.{Graph, form_of, form_at, IsGraph}
-use Rattle.pv_graph.proofs.Cited.{equal_or_not, found, form_there, in_cases, in_front, in_last, set_length, set_other, set_same, bind_some}
+use Rattle.pv_graph.specs.Graphs.{Graph, form_of, IsGraph}
+use Rattle.pv_graph.proofs.Cited.{equal_or_not, form_there, in_cases, in_last, set_length, set_other, set_same, bind_some}
 use Rattle.pv_witness.specs.declared.condition.Condition.{Condition}
 use Rattle.pv_witness.specs.declared.condition.Condition.TheVariants as condition
 use Rattle.pv_witness.specs.Numbered.{class_of}
 use Rattle.pv_witness.specs.Parents.{NodeLists, IsListed, AreParents}
 use Rattle.pv_witness.specs.Supports.{HandsOn, counted, Covers, IsReady, IsSupport, AreSupports, none, more, AreAllSupports}
-use Rattle.pv_witness.specs.Found.{IsFound, IsReadyBy, IsClosedBy, Lists, Spreads, Begins, IsSwept}
+use Rattle.pv_witness.specs.Found.{IsFound, IsReadyBy, Lists, Spreads, Begins, IsSwept}
 
 -- ---- counting
 

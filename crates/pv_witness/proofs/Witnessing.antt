@@ -1,5 +1,5 @@
 -- What a whole table of witnesses is.
-use Rattle.std.specs.Prelude.{◌≡◌, ◌⊎◌, ℕ, ◌<◌, ◌≤◌, Bool, List, length, Option}
+use Rattle.std.specs.Prelude.{◌≡◌, ℕ, Bool, List, length, Option}
 use Rattle.std.proofs.Common.{inl, inr, sym, ◌∙◌, arith}
 use Rattle.pv_graph.specs.Graphs.{Graph}
 use Rattle.pv_witness.specs.declared.condition.Condition.{Condition}

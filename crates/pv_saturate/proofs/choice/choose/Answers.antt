@@ -4,7 +4,7 @@ use Rattle.std.proofs.lemmas.Option.{slice_get-get_or}
 use Rattle.pv_instances.specs.Seen.{instance_seen}
 use Rattle.pv_witness.specs.Numbered.{numbered}
 use Rattle.pv_saturate.specs.Choice.{IsChosenFor, AreChosenFor}
-use Rattle.pv_saturate.proofs.Same.{same_both, same_numbered, same_sorts, same_can, chosen_back, none_chosen, chosen_more}
+use Rattle.pv_saturate.proofs.Same.{same_both, same_can, chosen_back, chosen_more}
 use Rattle.pv_saturate.proofs.choice.choose.Goals as goal
 
 pub choose_one-requires-clause-can : goal.choose_one-requires-clause-can

@@ -1,4 +1,4 @@
-use Rattle.std.proofs.Common.{ℕ, List, map, sym, ◌∙◌, subst, true≢false, IsTrue, true, false, ◌≡◌}
+use Rattle.std.proofs.Common.{List, map, sym, ◌∙◌, subst, true≢false}
 use Rattle.pv_value.specs.declared.number.Num.{Num}
 use Rattle.pv_graph.specs.Walks.{In}
 use Rattle.pv_pattern.specs.Patterns.{settled, not_free}

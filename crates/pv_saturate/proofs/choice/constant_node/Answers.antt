@@ -1,8 +1,5 @@
-use Rattle.std.proofs.Common.{ℕ, List, sym, ◌∙◌, subst, IfOk}
-use Rattle.pv_graph.specs.Calls.{IsSame, Added}
-use Rattle.pv_instances.proofs.Cited.{if_ok_more}
-use Rattle.pv_saturate.specs.Choice.{IsConstantNode}
-use Rattle.pv_saturate.proofs.Choosing.{constant_fits, constant_found}
+use Rattle.std.proofs.Common.{sym, ◌∙◌}
+use Rattle.pv_saturate.proofs.Choosing.{constant_fits}
 use Rattle.pv_saturate.proofs.choice.constant_node.Goals as goal
 
 pub add_fitting-requires-clause-fits : goal.add_fitting-requires-clause-fits

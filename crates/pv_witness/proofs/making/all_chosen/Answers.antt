@@ -1,7 +1,6 @@
-use Rattle.std.proofs.Common.{ℕ, List, ◌+◌, ◌++◌, ◌∷◌, [], subst, sym, take, get_or}
+use Rattle.std.proofs.Common.{take, get_or}
 use Rattle.std.proofs.lemmas.List.{take_more}
 use Rattle.pv_graph.proofs.Cited.{in_at}
-use Rattle.pv_witness.specs.Table.{AreChosen, IsChosen}
 use Rattle.pv_witness.proofs.Copies.{chosen_more}
 use Rattle.pv_witness.proofs.making.all_chosen.Goals as goal
 

@@ -1,4 +1,4 @@
-use Rattle.std.proofs.Common.{ℕ, List, Option, Some, ◌≡◌, ◌<◌, ◌+◌, refl, sym, ◌∙◌, subst, take, get_or, length, slice_get, slice_set, arith}
+use Rattle.std.proofs.Common.{ℕ, List, Option, Some, ◌<◌, refl, sym, ◌∙◌, subst, take, get_or, length, slice_set, arith}
 use Rattle.std.proofs.lemmas.List.{take_more}
 use Rattle.std.proofs.lemmas.Option.{slice_get-get_or}
 use Rattle.pv_graph.proofs.Cited.{in_at}

@@ -4,7 +4,6 @@ use Rattle.pv_witness.specs.Numbered.{numbered}
 use Rattle.pv_witness.specs.Supports.{AreAllSupports}
 use Rattle.pv_witness.specs.Table.{AreWitnessed}
 use Rattle.pv_witness.specs.Witnesses.{AreWitnesses}
-use Rattle.pv_witness.proofs.Numbering.{numbered_long}
 use Rattle.pv_witness.proofs.Witnessing.{all_witnesses}
 use Rattle.pv_witness.proofs.making.witnesses.Goals as goal
 

@@ -1,11 +1,11 @@
-use Rattle.std.proofs.Common.{ℕ, List, ◌+◌, ◌++◌, ◌∷◌, [], sym, ◌∙◌, inl, inr, true, false, subst, take, get_or, true≢false, arith}
+use Rattle.std.proofs.Common.{ℕ, List, sym, ◌∙◌, inl, inr, true, false, subst, take, get_or, true≢false}
 use Rattle.std.proofs.lemmas.List.{take_more}
 use Rattle.std.proofs.lemmas.Option.{same_Some}
 use Rattle.pv_witness.proofs.Supporting.{mark_at}
 use Rattle.pv_graph.proofs.Cited.{in_at, in_cases}
 use Rattle.pv_graph.specs.Walks.{In}
 use Rattle.pv_graph.specs.Reach.{IsMarked}
-use Rattle.pv_witness.specs.Numbered.{class_of, numbered}
+use Rattle.pv_witness.specs.Numbered.{class_of}
 use Rattle.pv_witness.proofs.supports.all_have.Goals as goal
 
 pub bounds-numbers-kid : goal.bounds-numbers-kid

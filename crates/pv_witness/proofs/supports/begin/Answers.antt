@@ -1,4 +1,4 @@
-use Rattle.std.proofs.Common.{ℕ, List, Bool, ◌≡◌, ◌<◌, ◌+◌, sym, ap, ◌∙◌, inl, inr, true, false, subst, length, slice_get, arith, true≢false}
+use Rattle.std.proofs.Common.{List, Bool, ◌≡◌, ◌<◌, ◌+◌, sym, ap, ◌∙◌, inl, inr, true, false, subst, length, slice_get, arith, true≢false}
 use Rattle.std.proofs.lemmas.Option.{same_Some}
 use Rattle.pv_witness.specs.declared.supports.Found.{Found}
 use Rattle.pv_witness.specs.Numbered.{numbered}

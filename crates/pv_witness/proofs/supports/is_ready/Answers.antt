@@ -1,4 +1,4 @@
-use Rattle.std.proofs.Common.{ℕ, List, sym, subst}
+use Rattle.std.proofs.Common.{ℕ, List, subst}
 use Rattle.pv_graph.specs.Walks.{In}
 use Rattle.pv_witness.proofs.Supporting.{counted_is_kid}
 use Rattle.pv_witness.proofs.supports.is_ready.Goals as goal

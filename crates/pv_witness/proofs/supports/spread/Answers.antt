@@ -1,6 +1,5 @@
-use Rattle.std.proofs.Common.{ℕ, List, Bool, ◌≡◌, ◌<◌, ◌+◌, sym, ◌∙◌, subst, take, get_or, length, arith, true≢false}
+use Rattle.std.proofs.Common.{ℕ, List, Bool, ◌+◌, sym, ◌∙◌, subst, take, get_or, arith, true≢false}
 use Rattle.std.proofs.lemmas.List.{take_more}
-use Rattle.pv_graph.specs.Walks.{In}
 use Rattle.pv_graph.proofs.Cited.{in_at}
 use Rattle.pv_witness.specs.declared.supports.Found.{Found}
 use Rattle.pv_witness.specs.Numbered.{numbered}

@@ -31,7 +31,7 @@ pub struct Sides {
 }
 
 /// Makes one side of an instance: it is filled in, and its parts are added to the graph where they aren't there yet. After
-/// `Memory` the graph has its old nodes, and others may follow.
+/// `Memory` nothing is promised of the graph.
 pub fn make_pattern(
     alloc: Global,
     graph: &mut Graph,
@@ -49,7 +49,7 @@ pub fn make_pattern(
     }
 }
 
-/// Makes both sides of an instance. After `Memory` the graph has its old nodes, and others may follow.
+/// Makes both sides of an instance. After `Memory` nothing is promised of the graph.
 pub fn add_instance(alloc: Global, graph: &mut Graph, instance: &Instance) -> Result<Sides, Memory>
     requires sealed { graph.old.is_open ≡ false }
     requires few { length instance.now.kids.now < 2 ^ 32 }

@@ -45,7 +45,7 @@ fn node_at(instance: &Instance, hole: Hole) -> Option<NodeId>
 }
 
 /// Makes a filled side over the nodes of an instance: its parts are added to the graph where they aren't there yet. After
-/// `Memory` the graph has its old nodes, and others may follow.
+/// `Memory` nothing is promised of the graph.
 #[cycle(make)]
 pub fn make(
     alloc: Global,

@@ -24,8 +24,8 @@ pub struct MatchNodes {
 }
 
 /// Makes the instance of a match. The match has a node for each of its classes; of the classes of which its axiom asks a
-/// condition the witnesses are taken, and of those of variables for constants the constants. After `Memory` the graph
-/// has its old nodes, and others may follow.
+/// condition the witnesses are taken, and of those of variables for constants the constants. After `Memory` nothing
+/// is promised of the graph.
 pub fn add_match(
     alloc: Global,
     graph: &mut Graph,

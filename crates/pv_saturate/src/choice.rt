@@ -158,7 +158,7 @@ fn choose_one(
 }
 
 /// The nodes over which the instance of a match is made, one for each variable. The graph keeps its nodes and gets no
-/// other, also after `Memory`.
+/// other. After `Memory` nothing is promised of it.
 pub fn choose(
     alloc: Global,
     graph: &mut Graph,

@@ -128,8 +128,8 @@ fn fill_table(
 
 /// For each class of which the condition holds a node of which it holds, at the class's number: a marked node of
 /// the class, or a copy of a node of it over witnesses of its kids' classes, which is added to the graph. The class
-/// numbers and marks are those of the first nodes; the graph may have grown since. After `Memory` the graph
-/// has its old nodes, and others may follow.
+/// numbers and marks are those of the first nodes; the graph may have grown since. After `Memory` nothing is
+/// promised of the graph.
 pub fn witnesses(
     alloc: Global,
     graph: &mut Graph,

@@ -17,7 +17,8 @@ use Rattle.pv_steps.specs.Steps.{Block, Loop, Ending, OpenBlock, outer_of, pairs
 use Rattle.std.specs.List.{AllZip}
 use Rattle.pv_steps.specs.Right.{GraphAfter, Gives, ClosesPair, Instances, Right}
 use Rattle.pv_steps.specs.Accepted.{AllRight, LastStates, first_steps}
-use Rattle.pv_trim.specs.Citing.{named, facts, is_end, IsInnermost, Cites, IsNoPair, HasMembers, HaveMembers}
+use Rattle.pv_trim.specs.Citing.{named, facts, is_end, IsInnermost, Cites}
+use Rattle.pv_trim.specs.Spelling.{IsNoPair, HasMembers, HaveMembers}
 use Rattle.pv_trim.specs.Moving.{count, is_kept, moved, moved_reason, moved_pair, moved_facts, moved_congruence, kept_steps}
 use Rattle.pv_trim.specs.Keeping.{is_node, KeepsWithNode, KeepsCited, AllKeepCited, AreWanted}
 use Rattle.pv_trim.specs.Marks.{is_on, IsOn, innermost, ended, AreEnds, IsCiting, AreMarks}

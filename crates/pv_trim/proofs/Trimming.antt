@@ -1,5 +1,5 @@
 -- The section that is left.
-use Rattle.std.specs.Prelude.{◌≡◌, ◌⊎◌, ℕ, ◌+◌, ◌<◌, Bool, false, List, [], ◌∷◌, ◌++◌, length, reverse, Option}
+use Rattle.std.specs.Prelude.{◌≡◌, ◌⊎◌, ℕ, ◌+◌, ◌<◌, Bool, false, List, [], ◌∷◌, ◌++◌, length, reverse, Option, Result, Ok, Err, IfOk}
 use Rattle.std.proofs.Common.{inl, inr, sym, ap, ◌∙◌, subst, arith}
 use Rattle.std.proofs.lemmas.List.{length-reverse, reverse-append}
 use Rattle.pv_graph.specs.Walks.{In}
@@ -8,7 +8,8 @@ use Rattle.pv_graph.proofs.Cited.{in_front, in_last}
 use Rattle.pv_steps.specs.declared.step.Step.{Step}
 use Rattle.pv_steps.specs.Accepted.{LastStates, Derives}
 use Rattle.pv_axioms.specs.Entries.{Instance}
-use Rattle.pv_trim.specs.Citing.{IsLean, HaveMembers}
+use Rattle.pv_trim.specs.Citing.{IsLean}
+use Rattle.pv_trim.specs.Spelling.{HaveMembers}
 use Rattle.pv_trim.specs.Moving.{count, kept_steps}
 use Rattle.pv_trim.specs.Marks.{is_on, AreEnds, AreMarks}
 use Rattle.pv_trim.proofs.Kept.{IsTrimmed}
@@ -48,3 +49,7 @@ done g made sealed a b low low' section h differ ends are marks nodes base e m s
           lean = λ j one less. t.cited j one (let z = length-reverse new in omega (arith, z, less));
           members = λ s i. ms s (in_reverse new s i);
         }
+
+pub if_ok : {T E : Type 0} {P Q : T → Type 0} (r : Result T E) → ((x : T) → P x → Q x) → IfOk r P → IfOk r Q
+if_ok (Ok x) f h = f x h
+if_ok (Err e) f h = tt

@@ -63,6 +63,7 @@ pub fn answer<R: Files + Threads + Sync>(rt: &R, bench: &Bench, line: &str) -> A
         "cert" => certs::cert(bench, rest),
         "section" => sections::section(bench, rest),
         "steps" => sections::steps(bench, rest),
+        "trim" => sections::trim(bench, rest),
 
         "run" => runs::running(rt, bench, rest),
         "validate" => runs::validation(rt, bench, rest),

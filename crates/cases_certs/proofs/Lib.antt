@@ -1,1 +1,1 @@
-mod Sealed
+mod Roots

@@ -1,13 +1,15 @@
-//! Calls of `pv_check`.
+//! Calls of `pv_check` and `pv_trim`.
 //!
 //! | Line | Answer |
 //! |---|---|
 //! | `section BYTES; METHOD ..; METHOD ..` | for each section of the certificate whether it is accepted over the least graph of the roots of two methods, the first of each class, or the step for which it is rejected; or the verdict on the two where they don't both have a root, or the fault of the certificate |
 //! | `steps BYTES; METHOD ..; METHOD ..` | for each step of the sections, in order, whether it is `right` or `wrong` over that graph; else as `section` |
+//! | `trim BYTES; METHOD ..; METHOD ..` | for each section what `section` answers; after `Accepted`, also the lines of the section without the steps that nothing needs, and what `section` answers of these; else as `section` |
 //!
 //! `samples` says how a METHOD is written, and what may stand before it.
 
 ghost use Rattle.std.specs.Prelude.{◌≡◌, ◌<◌, IfOk, false, length};
+ghost use Rattle.pv_graph.specs.Graphs.{IsWellMade};
 ghost use Rattle.pv_report.specs.Judging.{IsRead};
 
 use cases_files::samples::class_of;
@@ -16,18 +18,22 @@ use cases_words::bench::{Bench, words};
 use pv_alike::Least;
 use pv_axioms::Axioms;
 use pv_base::OpenGate;
-use pv_cert::{CertFault, Section, read_cert};
-use pv_check::Checker;
+use pv_cert::{Cert, CertFault, Section, read_cert, write_cert};
+use pv_check::{Checked, Checker};
 use pv_class::{ClassFault, ClassFile, read_class};
+use pv_list::Listed;
 use pv_report::{Verdict, least_roots};
-use pv_value::Memory;
+use pv_steps::Step;
+use pv_trim::trim as without_needless;
+use pv_value::{Memory, Name};
 use std::alloc::Global;
 
-// What a line asks of sections: whether each is accepted, or whether each step is right.
+// What a line asks of sections: whether each is accepted, whether each step is right, or what is left of each.
 #[derive(Clone, Copy)]
 enum Question {
     Accepted,
     Right,
+    Left,
 }
 
 /// `section BYTES; METHOD ..; METHOD ..`
@@ -38,6 +44,11 @@ pub fn section(bench: &Bench, rest: &str) -> Answer {
 /// `steps BYTES; METHOD ..; METHOD ..`
 pub fn steps(bench: &Bench, rest: &str) -> Answer {
     asked(bench, Question::Right, rest)
+}
+
+/// `trim BYTES; METHOD ..; METHOD ..`
+pub fn trim(bench: &Bench, rest: &str) -> Answer {
+    asked(bench, Question::Left, rest)
 }
 
 // `BYTES; METHOD ..; METHOD ..`
@@ -60,7 +71,10 @@ fn asked(bench: &Bench, question: Question, rest: &str) -> Answer {
 
 // What is answered on the sections over a least graph.
 fn answered(alloc: Global, question: Question, roots: &Least, sections: &[Section]) -> Answer
-    requires { roots.now.graph.is_open ≡ false }
+    requires made { IsWellMade roots.now.graph }
+    requires sealed { roots.now.graph.is_open ≡ false }
+    requires first { roots.now.first < length roots.now.graph.nodes }
+    requires second { roots.now.second < length roots.now.graph.nodes }
 {
     let axioms = Axioms::new(alloc)?;
     let mut list = List::new(alloc);
@@ -72,6 +86,7 @@ fn answered(alloc: Global, question: Question, roots: &Least, sections: &[Sectio
                 list.add(shown(alloc, answer)?.as_str())?;
             }
             Question::Right => add_steps(alloc, &checker, &mut list)?,
+            Question::Left => add_left(alloc, &axioms, roots, section, &mut list)?,
         }
     }
     list.into_text()
@@ -88,6 +103,56 @@ fn add_steps(alloc: Global, checker: &Checker, list: &mut List) -> Result<(), No
     Ok(())
 }
 
+// Puts the answer on a section; where it is accepted, also the lines of what is left of it, and the answer on that.
+fn add_left(
+    alloc: Global,
+    axioms: &Axioms,
+    roots: &Least,
+    section: &Section,
+    list: &mut List,
+) -> Result<(), NoAnswer>
+    requires made { IsWellMade roots.now.graph }
+    requires sealed { roots.now.graph.is_open ≡ false }
+    requires first { roots.now.first < length roots.now.graph.nodes }
+    requires second { roots.now.second < length roots.now.graph.nodes }
+{
+    let checker = Checker::new(axioms, roots, section.steps.as_slice());
+    let answer = checker.check(alloc, &OpenGate)?;
+    list.add(shown(alloc, answer)?.as_str())?;
+    if let Checked::Accepted = answer {
+        let steps = without_needless(alloc, roots, &section.steps)?;
+        let again = Checker::new(axioms, roots, steps.as_slice()).check(alloc, &OpenGate)?;
+        add_lines(alloc, section, steps, list)?;
+        list.add(shown(alloc, again)?.as_str())?;
+    }
+    Ok(())
+}
+
+// Puts the lines of a section with other steps.
+fn add_lines(
+    alloc: Global,
+    section: &Section,
+    steps: Listed<Step>,
+    list: &mut List,
+) -> Result<(), NoAnswer> {
+    let section = Section {
+        name: Name::new(alloc, section.name.bytes())?,
+        desc: Name::new(alloc, section.desc.bytes())?,
+        steps,
+    };
+    let cert = Cert {
+        first: [0; 32],
+        second: [0; 32],
+        sections: Listed::from(vec![in alloc; section]?),
+    };
+    let text = write_cert(alloc, &cert)?;
+    let text = str::from_utf8(&text).map_err(|_| NoAnswer::Unreadable)?;
+    for line in text.lines().skip(3) {
+        list.add(line)?;
+    }
+    Ok(())
+}
+
 // The least graph of the roots of the first methods of two classes, or the verdict where they don't both have a root.
 fn first_roots(
     alloc: Global,
@@ -98,7 +163,10 @@ fn first_roots(
     requires second { IsRead second.now }
     requires method { 0 < length first.now.methods }
     requires partner { 0 < length second.now.methods }
-    ensures { IfOk result (λ found. IfOk found (λ roots. roots.graph.is_open ≡ false)) }
+    ensures made { IfOk result (λ found. IfOk found (λ roots. IsWellMade roots.graph)) }
+    ensures sealed { IfOk result (λ found. IfOk found (λ roots. roots.graph.is_open ≡ false)) }
+    ensures first { IfOk result (λ found. IfOk found (λ roots. roots.first < length roots.graph.nodes)) }
+    ensures second { IfOk result (λ found. IfOk found (λ roots. roots.second < length roots.graph.nodes)) }
 {
     least_roots(alloc, first, 0, second, 0)
 }

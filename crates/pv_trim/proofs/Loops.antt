@@ -16,13 +16,14 @@ use Rattle.pv_steps.specs.declared.step.Step.TheVariants as steps
 use Rattle.pv_steps.specs.declared.step.Step.TheVariants.{Axiom, Flip, Chain, Set, Open, Close, Assume, Finish}
 use Rattle.pv_steps.specs.Steps.{OpenBlock, outer_of, open_after}
 use Rattle.pv_steps.specs.Accepted.{first_steps}
+use Rattle.pv_steps.proofs.Cited.{next_steps}
 use Rattle.pv_trim.specs.Citing.{reason_facts, set_facts}
 use Rattle.pv_trim.specs.Moving.{count, moved, kept_steps}
 use Rattle.pv_trim.specs.Marks.{is_on, IsOn, marking_step, marking_facts, steps_with, nodes_with, innermost, ended, AreEnds, AreMarks}
 use Rattle.pv_trim.specs.Stacks.{numbers, first, without_first, effect_of, stack_after, ended_by, AreEndsTo}
 use Rattle.pv_trim.specs.Ranks.{AreCounts, AreCountsTo}
 use Rattle.pv_trim.proofs.Counting.{count_no, count_low, yes_or_no}
-use Rattle.pv_trim.proofs.Fronts.{next_first, count_first, less_cases, element}
+use Rattle.pv_trim.proofs.Fronts.{count_first, less_cases, element}
 use Rattle.pv_trim.proofs.Marking.{marks_back, on_within}
 
 -- ---- facts of sets
@@ -99,7 +100,7 @@ ends_next section k s ends stack new end there h e f =
           f ∙ ap (stack_after (effect_of s) (k + 1)) h.blocks
           ∙ ap (λ (n : ℕ). stack_after (effect_of s) n (numbers (open_after (first_steps k section)))) (let z : k + 1 ≡ suc (length (first_steps k section)) = omega (arith, long) in z)
           ∙ sym (numbers_after s (first_steps k section))
-          ∙ ap (λ (q : List Step). numbers (open_after q)) (sym (next_first section k s there));
+          ∙ ap (λ (q : List Step). numbers (open_after q)) (sym (next_steps section k s there));
     })
 
 pub ends_all : (section : List Step) (k : ℕ) (ends : List (Option ℕ)) (stack : List ℕ) → k ≡ length section → AreEndsTo section k ends stack → AreEnds section ends
@@ -248,7 +249,7 @@ kept_next keep f r section k s old there on h =
     reverse-append old (moved f r s ∷ [])
     ∙ ap (λ (q : List Step). moved f r s ∷ q) h
     ∙ sym (ap (λ (b : Bool). if b then moved f r s ∷ kept_steps keep f r (first_steps k section) else kept_steps keep f r (first_steps k section)) (ap keep long ∙ on))
-    ∙ ap (kept_steps keep f r) (sym (next_first section k s there))
+    ∙ ap (kept_steps keep f r) (sym (next_steps section k s there))
     ∙ ap (λ (n : ℕ). kept_steps keep f r (first_steps n section)) (let z : suc k ≡ k + 1 = omega arith in z)
 
 pub kept_less : (keep : ℕ → Bool) (f r : ℕ → ℕ) (section : List Step) (k : ℕ) (s : Step) (old : List Step) → slice_get section k ≡ Some s → keep k ≡ false → reverse old ≡ kept_steps keep f r (first_steps k section)
@@ -258,5 +259,5 @@ kept_less keep f r section k s old there off h =
     let long = count_first section k (omega (arith, low)) in
     h
     ∙ sym (ap (λ (b : Bool). if b then moved f r s ∷ kept_steps keep f r (first_steps k section) else kept_steps keep f r (first_steps k section)) (ap keep long ∙ off))
-    ∙ ap (kept_steps keep f r) (sym (next_first section k s there))
+    ∙ ap (kept_steps keep f r) (sym (next_steps section k s there))
     ∙ ap (λ (n : ℕ). kept_steps keep f r (first_steps n section)) (let z : suc k ≡ k + 1 = omega arith in z)

@@ -17,6 +17,7 @@ use Rattle.pv_steps.specs.Steps.{Block, Loop, Ending, OpenBlock, outer_of, pairs
 use Rattle.std.specs.List.{AllZip}
 use Rattle.pv_steps.specs.Right.{GraphAfter, Gives, ClosesPair, Instances, Right}
 use Rattle.pv_steps.specs.Accepted.{AllRight, LastStates, first_steps}
+use Rattle.pv_steps.proofs.Cited.{next_steps, right_at, whole_steps}
 use Rattle.pv_trim.specs.Citing.{named, facts, is_end, IsInnermost, Cites}
 use Rattle.pv_trim.specs.Spelling.{IsNoPair, HasMembers, HaveMembers}
 use Rattle.pv_trim.specs.Moving.{count, is_kept, moved, moved_reason, moved_pair, moved_facts, moved_congruence, kept_steps}
@@ -28,7 +29,7 @@ use Rattle.pv_trim.proofs.Living.{facts_seen, open_below, open_started, AreBelow
 use Rattle.pv_trim.proofs.StepsMoved.{AreCarried}
 use Rattle.pv_trim.proofs.Kept.{IsTrimmed, trimmed}
 use Rattle.pv_trim.proofs.Naming.{AreOfNodes, AreLow, NamesNodes, right_names, grown_low}
-use Rattle.pv_trim.proofs.Fronts.{next_first, count_first, whole_first, less_cases, element, right_first, stated_first, makes_first, none_stated}
+use Rattle.pv_trim.proofs.Fronts.{count_first, less_cases, element, stated_first, makes_first, none_stated}
 
 -- two tests that agree one way and the other are one
 same_test : (a b : Bool) → (a ≡ true → b ≡ true) → (b ≡ true → a ≡ true) → a ≡ b
@@ -56,10 +57,10 @@ module _ (Instance : Instances) (of_nodes : AreOfNodes Instance) (g : Graph) (ma
     (section : List Step) (right : AllRight Instance g (reverse section)) (ends : List (Option ℕ)) (are_ends : AreEnds section ends)
     (marks nodes : List Bool) (m : AreMarks section ends (length g.nodes) (length g.nodes + length section) 0 marks nodes) where
   all_right : AllRight Instance g (first_steps (length section) section)
-  all_right = subst (AllRight Instance g) (sym (whole_first section)) right
+  all_right = subst (AllRight Instance g) (sym (whole_steps section)) right
 
-  right_at : (k : ℕ) (s : Step) → slice_get section k ≡ Some s → Right Instance g (first_steps k section) s
-  right_at k s there = right_first Instance g section (length section) (omega arith) all_right k s (slice_get_within section k s there) there
+  right_there : (k : ℕ) (s : Step) → slice_get section k ≡ Some s → Right Instance g (first_steps k section) s
+  right_there k s there = right_at Instance g section (length section) k (omega arith) all_right (slice_get_within section k s there) s there
 
   -- a fact that a step cites is one of an earlier step that makes no node
   record IsFactOf (k j : ℕ) (x : Fact) : Type 0 where
@@ -74,7 +75,7 @@ module _ (Instance : Instances) (of_nodes : AreOfNodes Instance) (g : Graph) (ma
   fact_of k s there x i =
       let low = slice_get_within section k s there in
       let long = count_first section k (omega (arith, low)) in
-      let r = right_at k s there in
+      let r = right_there k s there in
       let sees = facts_seen Instance r.0 (first_steps k section) s r.2 x i in
       let st = bind_some (stated_at (first_steps k section) x.step) _ sees.e sees.stated in
       let place = place_of (first_steps k section) x.step st.0 st.1 in
@@ -143,7 +144,7 @@ module _ (Instance : Instances) (of_nodes : AreOfNodes Instance) (g : Graph) (ma
   names_first zero low names j t less there = absurd (omega (arith, less))
   names_first (suc n) low names j t less there =
       let last = element section n (omega (arith, low)) in
-      let names_ : NamesNodes Instance of_nodes g (last.0 ∷ first_steps n section) = subst (NamesNodes Instance of_nodes g) (next_first section n last.0 last.1) names in
+      let names_ : NamesNodes Instance of_nodes g (last.0 ∷ first_steps n section) = subst (NamesNodes Instance of_nodes g) (next_steps section n last.0 last.1) names in
       elim (less_cases j n less) [
         | inl h ↦ names_first n (omega (arith, low)) names_.1 j t h there
         | inr same ↦
@@ -154,14 +155,14 @@ module _ (Instance : Instances) (of_nodes : AreOfNodes Instance) (g : Graph) (ma
   -- a named node is one of the graph of the moment
   names : (j : ℕ) (t : Step) → slice_get section j ≡ Some t → (now : Graph) → GraphAfter g (first_steps j section) now → AreLow (length now.nodes) (named t)
   names j t there =
-      names_first (length section) (omega arith) (subst (NamesNodes Instance of_nodes g) (sym (whole_first section)) (right_names Instance of_nodes g made sealed (reverse section) right)) j t (slice_get_within section j t there) there
+      names_first (length section) (omega arith) (subst (NamesNodes Instance of_nodes g) (sym (whole_steps section)) (right_names Instance of_nodes g made sealed (reverse section) right)) j t (slice_get_within section j t there) there
 
   -- .. and of later ones
   named_at : (k : ℕ) → k ≤ length section → (now : Graph) → GraphAfter g (first_steps k section) now → (j n : ℕ) (t : Step) → j < k → slice_get section j ≡ Some t → In (named t) n → n < length now.nodes
   named_at zero low now after j n t less there i = absurd (omega (arith, less))
   named_at (suc k) low now after j n t less there i =
       let last = element section k (omega (arith, low)) in
-      let after_ : GraphAfter g (last.0 ∷ first_steps k section) now = subst (λ (q : List Step). GraphAfter g q now) (next_first section k last.0 last.1) after in
+      let after_ : GraphAfter g (last.0 ∷ first_steps k section) now = subst (λ (q : List Step). GraphAfter g q now) (next_steps section k last.0 last.1) after in
       let grows = grown_low Instance of_nodes last.0 after_.0 now after_.2 in
       let old : n < length after_.0.nodes = elim (less_cases j k less) [
         | inl h ↦ named_at k (omega (arith, low)) after_.0 after_.1 j n t h there i
@@ -172,7 +173,7 @@ module _ (Instance : Instances) (of_nodes : AreOfNodes Instance) (g : Graph) (ma
 
   -- the number of a node that a step makes is that of the nodes before it
   made_at : (k n : ℕ) (o : Op) (kids : List ℕ) → slice_get section k ≡ Some (steps.Node n o kids) → (now : Graph) × GraphAfter g (first_steps k section) now × (n ≡ length now.nodes)
-  made_at k n o kids there = let r = right_at k (steps.Node n o kids) there in (r.0, r.1, r.2.1.number)
+  made_at k n o kids there = let r = right_there k (steps.Node n o kids) there in (r.0, r.1, r.2.1.number)
 
   first_low : (k : ℕ) (now : Graph) → GraphAfter g (first_steps k section) now → length g.nodes ≤ length now.nodes
   first_low k now after = go (first_steps k section) now after
@@ -234,7 +235,7 @@ module _ (Instance : Instances) (of_nodes : AreOfNodes Instance) (g : Graph) (ma
   all_keep zero low = tt
   all_keep (suc n) low =
       let last = element section n (omega (arith, low)) in
-      subst (AllKeepCited (is_on marks) (is_on nodes) (length g.nodes + length section)) (sym (next_first section n last.0 last.1)) (keeps_at n last.0 last.1 (first_steps n section) refl, all_keep n (omega (arith, low)))
+      subst (AllKeepCited (is_on marks) (is_on nodes) (length g.nodes + length section)) (sym (next_steps section n last.0 last.1)) (keeps_at n last.0 last.1 (first_steps n section) refl, all_keep n (omega (arith, low)))
 
   -- ---- each is wanted
 
@@ -296,7 +297,7 @@ module _ (Instance : Instances) (of_nodes : AreOfNodes Instance) (g : Graph) (ma
         ],
       )
       in
-      subst (AreWanted (is_on marks) W) (sym (next_first section n last.0 last.1)) (here, are_wanted n (omega (arith, low)) (λ j. W j ⊎ ((is_on marks (length (first_steps n section)) ≡ true) × Cites (first_steps n section) last.0 j)) later)
+      subst (AreWanted (is_on marks) W) (sym (next_steps section n last.0 last.1)) (here, are_wanted n (omega (arith, low)) (λ j. W j ⊎ ((is_on marks (length (first_steps n section)) ≡ true) × Cites (first_steps n section) last.0 j)) later)
     where
       from_cases : (n k : ℕ) → n ≤ k → (n ≡ k) ⊎ (suc n ≤ k)
       from_cases n k h = grind arith
@@ -324,10 +325,10 @@ module _ (Instance : Instances) (of_nodes : AreOfNodes Instance) (g : Graph) (ma
   used : (a b : ℕ) → LastStates (reverse section) a b → (k : ℕ) (s : Step) → slice_get section k ≡ Some s → IsOn marks k → is_node s ≡ false → HasPairs k s ⊎ IsEnded k
   used a b last k s there on other = elim (m.wanted k on) [
     | inl e ↦ inl (λ none.
-        let long : length (reverse section) ≡ suc k = ap length (sym (whole_first section)) ∙ count_first section (length section) (omega arith) ∙ sym e in
+        let long : length (reverse section) ≡ suc k = ap length (sym (whole_steps section)) ∙ count_first section (length section) (omega arith) ∙ sym e in
         let st : Some (states s (suc k) (open_after (first_steps k section))) ≡ Some last.stated =
         sym (stated_first section (length section) k s (omega arith) (omega (arith, e)) there)
-        ∙ ap (λ (q : List Step). stated_at q (suc k)) (whole_first section) ∙ ap (stated_at (reverse section)) (sym long) ∙ last.last
+        ∙ ap (λ (q : List Step). stated_at q (suc k)) (whole_steps section) ∙ ap (stated_at (reverse section)) (sym long) ∙ last.last
         in
         subst (λ (q : List (ℕ × ℕ)). In {A = ℕ × ℕ} q (a, b)) (sym (ap (λ (q : Stated). q.pairs) (same_Some _ _ st)) ∙ none) last.states_)
     | inr y ↦ elim y [
@@ -422,7 +423,7 @@ module _ (Instance : Instances) (of_nodes : AreOfNodes Instance) (g : Graph) (ma
           close_pairs a b last h.at e fs (h.there ∙ ap Some same) h.on (ap pairs_of inner ∙ ap (λ (x : Block). elim x [ Loop u v ↦ v | Ending u v ↦ [] ]) block ∙ none)
       go (Finish x y t u v w) same z =
           let (p, qs, inner, block) = block_is in
-          let r = (right_at h.at (Finish x y t u v w) (h.there ∙ ap Some same)).2 in
+          let r = (right_there h.at (Finish x y t u v w) (h.there ∙ ap Some same)).2 in
           let one : record { opened = r.opened; block = Ending x r.nodes } ≡ p = (let w : record { opened = r.opened; block = Ending x r.nodes } ∷ r.outer ≡ p ∷ qs = sym r.innermost ∙ inner in cc w) in
           let e : Ending x r.nodes ≡ Loop d ps = ap (λ (q : OpenBlock). q.block) one ∙ block in
           absurd (cc e)
@@ -445,12 +446,12 @@ module _ (Instance : Instances) (of_nodes : AreOfNodes Instance) (g : Graph) (ma
   ])
   has_members a b last k (Open d ps) there on = elim (used a b last k (Open d ps) there on refl) [ inl some ↦ some | inr h ↦ open_members a b last k d ps there h ]
   has_members a b last k (Close d fs) there on =
-      let r = (right_at k (Close d fs) there).2 in
+      let r = (right_there k (Close d fs) there).2 in
       let some : r.pairs ≢ [] = λ none. close_pairs a b last k d fs there on (ap pairs_of r.innermost ∙ none) in
       some_facts _ (first_steps k section) d (open_after (first_steps k section)) r.outer r.pairs fs r.each some
   has_members a b last k (Assume p ns) there on = tt
   has_members a b last k (Finish p q t u v w) there on =
-      let r = (right_at k (Finish p q t u v w) there).2 in
+      let r = (right_there k (Finish p q t u v w) there).2 in
       let before = first_steps k section in (
         no_pair (first_steps k section) r.outer t r.left.token r.right.token r.tokens,
         no_pair (first_steps k section) (open_after (first_steps k section)) u r.left.fault_ r.right.fault_ r.faults,
@@ -484,7 +485,7 @@ module _ (Instance : Instances) (of_nodes : AreOfNodes Instance) (g : Graph) (ma
   kept_members a b last f r (suc n) low s i =
       let t = element section n (omega (arith, low)) in
       let long = count_first section n (omega (arith, low)) in
-      let e = ap (kept_steps (is_on marks) f r) (next_first section n t.0 t.1) in
+      let e = ap (kept_steps (is_on marks) f r) (next_steps section n t.0 t.1) in
       let again = kept_members a b last f r n (omega (arith, low)) in
       go t.0 t.1 (is_on marks (length (first_steps n section))) refl (ap (is_on marks) long) again (subst (λ (q : List Step). In q s) e i)
     where
@@ -497,15 +498,15 @@ module _ (Instance : Instances) (of_nodes : AreOfNodes Instance) (g : Graph) (ma
       go t there false q same again i = again s (subst (λ (c : Bool). In (if c then moved f r t ∷ kept_steps (is_on marks) f r (first_steps n section) else kept_steps (is_on marks) f r (first_steps n section)) s) q i)
 
   pub members : (a b : ℕ) → LastStates (reverse section) a b → (f r : ℕ → ℕ) → HaveMembers (kept_steps (is_on marks) f r (reverse section))
-  members a b last f r = subst (λ (q : List Step). HaveMembers (kept_steps (is_on marks) f r q)) (whole_first section) (kept_members a b last f r (length section) (omega arith))
+  members a b last f r = subst (λ (q : List Step). HaveMembers (kept_steps (is_on marks) f r q)) (whole_steps section) (kept_members a b last f r (length section) (omega arith))
 
   -- ---- the last step
 
   -- the last step states something, so it makes no node
   last_kept : (a b : ℕ) → LastStates (reverse section) a b → is_kept (is_on marks) (length section) ≡ true
   last_kept a b h =
-      let long : length (reverse section) ≡ length section = ap length (sym (whole_first section)) ∙ count_first section (length section) (omega arith) in
-      let st : stated_at (first_steps (length section) section) (length section) ≡ Some h.stated = ap (λ (q : List Step). stated_at q (length section)) (whole_first section) ∙ ap (stated_at (reverse section)) (sym long) ∙ h.last in
+      let long : length (reverse section) ≡ length section = ap length (sym (whole_steps section)) ∙ count_first section (length section) (omega arith) in
+      let st : stated_at (first_steps (length section) section) (length section) ≡ Some h.stated = ap (λ (q : List Step). stated_at q (length section)) (whole_steps section) ∙ ap (stated_at (reverse section)) (sym long) ∙ h.last in
       let place = place_of (first_steps (length section) section) (length section) h.stated st in
       let t = element section place.0 (let e = place.1 in omega (arith, e)) in
       let same : h.stated ≡ states t.0 (suc place.0) (open_after (first_steps place.0 section)) =
@@ -522,12 +523,12 @@ module _ (Instance : Instances) (of_nodes : AreOfNodes Instance) (g : Graph) (ma
   pub kept_derive : AreCarried Instance → (a b : ℕ) → a < length g.nodes → b < length g.nodes → open_after (reverse section) ≡ [] → LastStates (reverse section) a b
       → IsTrimmed Instance g a b (kept_steps (is_on marks) (count (is_on nodes)) (count (is_on marks)) (reverse section))
   kept_derive carried a b low low' closed states_ =
-      let long : length (reverse section) ≡ length section = ap length (sym (whole_first section)) ∙ count_first section (length section) (omega arith) in
+      let long : length (reverse section) ≡ length section = ap length (sym (whole_steps section)) ∙ count_first section (length section) (omega arith) in
       let keep : AllKeepCited (is_on marks) (is_on nodes) (length g.nodes + length section) (reverse section) =
-      subst (AllKeepCited (is_on marks) (is_on nodes) (length g.nodes + length section)) (whole_first section) (all_keep (length section) (omega arith))
+      subst (AllKeepCited (is_on marks) (is_on nodes) (length g.nodes + length section)) (whole_steps section) (all_keep (length section) (omega arith))
       in
       let want : AreWanted (is_on marks) (λ j. j ≡ length (reverse section)) (reverse section) =
-      subst (AreWanted (is_on marks) (λ j. j ≡ length (reverse section))) (whole_first section)
+      subst (AreWanted (is_on marks) (λ j. j ≡ length (reverse section))) (whole_steps section)
       (are_wanted (length section) (omega arith) (λ j. j ≡ length (reverse section)) (sym long, λ i k s from less there on cites. let l = slice_get_within section k s there in absurd (omega (arith, l, from))))
       in
       trimmed Instance carried (is_on marks) (is_on nodes) (length g.nodes + length section) g made.graph m.first a b low low' (reverse section) (omega (arith, long)) right closed states_ keep want

@@ -26,8 +26,9 @@ fn effect_of(step: &Step) -> Effect
     }
 }
 
-// The number of the step that opened the block which the step with this number ends, if it ends one. The stack has the
-// numbers of the steps that opened the open blocks, the innermost last, and is brought from before the step to after it.
+// The number of the step that opened the block which the step with this number ends, if it ends one. The stack has
+// the numbers of the steps that opened the open blocks, the innermost last: before the step at first, and after it
+// at the end.
 fn follow(stack: &mut Vec<usize>, number: usize, step: &Step) -> Result<Option<usize>, Memory>
     ensures ended { IfOk result (λ n. n ≡ ended_by (effect_of step.now) (reverse stack.old.items)) }
     ensures blocks { OnOk result (reverse stack.new.items ≡ stack_after (effect_of step.now) number (reverse stack.old.items)) }
@@ -42,8 +43,8 @@ fn follow(stack: &mut Vec<usize>, number: usize, step: &Step) -> Result<Option<u
     }
 }
 
-// Of each step the number of the step that opened the block which it ends, if it ends one. Steps are counted from 1. The
-// time is linear.
+// Of each step the number of the step that opened the block which it ends, if it ends one. Steps are counted from 1.
+// The time is linear.
 pub(crate) fn ends_of(alloc: Global, steps: &[Step]) -> Result<Vec<Option<usize>>, Memory>
     ensures { IfOk result (λ ends. AreEnds steps.now ends.items) }
 {

@@ -58,12 +58,12 @@ fn needed(alloc: Global, least: &Least, steps: &[Step]) -> Result<Vec<Step>, Mem
 
 /// The steps of an accepted section that its last step needs, in their order and under new numbers.
 ///
-/// They are accepted over the same graph (`derives`). Each of them is the last, or a later one cites it (`lean`). Each has a
-/// spelling, so they can be written as a section of a certificate (`spelled`). Where the roots are one node, no step is
-/// needed (`none`).
+/// They are accepted over the same graph (`derives`). Each of them is the last, or a later one cites it (`lean`).
+/// Each has a spelling, so that they can be written as a section of a certificate (`spelled`). Where the roots are
+/// one node, no step is needed (`none`).
 ///
-/// Time and memory are linear in the number of nodes of the graph and the size of the steps. The only error is that memory
-/// runs out.
+/// Time and memory are linear in the number of nodes of the graph and the size of the steps. The only error is that
+/// memory runs out.
 pub fn trim(alloc: Global, least: &Least, steps: &Listed<Step>) -> Result<Listed<Step>, Memory>
     requires made { IsWellMade least.now.graph }
     requires sealed { least.now.graph.is_open ≡ false }

@@ -1,8 +1,9 @@
 //! Steps have a spelling.
 //!
-//! The text of a certificate is the spelling of its steps. A step has one where its numbers, constants and texts are in
-//! range and no list of it that must have a member is empty. The first holds of each value of the types, and the second
-//! of the steps that are left. Each function here says so of a part of a step: it walks over the part, and does nothing.
+//! The text of a certificate is the spelling of its steps. A step has one where its numbers, constants and texts are
+//! in range and no list of it that must have a member is empty. The first holds of each value of the types, and the
+//! second of the steps that are left. Each function here says so of a part of a step: it walks over the part, and
+//! does nothing.
 
 ghost use Rattle.std.specs.List.{AllByRecursion};
 ghost use Rattle.pv_token.specs.Spellings.{AreBytes};

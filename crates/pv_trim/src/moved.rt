@@ -129,13 +129,11 @@ impl Numbers {
         ensures { IfOk result (λ new. new ≡ moved (count (is_on self.now.nodes)) (count (is_on self.now.steps)) step.now) }
     {
         Ok(match step {
-            Step::Node(n, op, kids) => {
-                Step::Node(
-                    self.node(*n),
-                    op.copy(alloc)?,
-                    self.kids(alloc, kids.as_slice())?,
-                )
-            }
+            Step::Node(n, op, kids) => Step::Node(
+                self.node(*n),
+                op.copy(alloc)?,
+                self.kids(alloc, kids.as_slice())?,
+            ),
             Step::Axiom(number, a, b, nodes) => Step::Axiom(
                 *number,
                 self.node(*a),
@@ -150,10 +148,8 @@ impl Numbers {
                 self.fact(*second),
             ),
             Step::Set(set) => Step::Set(self.set(alloc, set.as_slice())?),
-            Step::Open(depth, pairs) => Step::Open(*depth, self.pairs(alloc, pairs.as_slice())?),
-            Step::Close(depth, facts) => {
-                Step::Close(*depth, self.fact_pairs(alloc, facts.as_slice())?)
-            }
+            Step::Open(d, pairs) => Step::Open(*d, self.pairs(alloc, pairs.as_slice())?),
+            Step::Close(d, facts) => Step::Close(*d, self.fact_pairs(alloc, facts.as_slice())?),
             Step::Assume(p, nodes) => {
                 Step::Assume(self.node(*p), self.kids(alloc, nodes.as_slice())?)
             }

@@ -6,6 +6,7 @@
 //! does nothing.
 
 ghost use Rattle.std.specs.List.{AllByRecursion};
+ghost use Rattle.pv_steps.specs.declared.step.Step.TheVariants as steps;
 ghost use Rattle.pv_token.specs.Spellings.{AreBytes};
 ghost use Rattle.pv_token.specs.Tokens.{int_token, long_token, u32_token};
 ghost use Rattle.pv_cert.specs.Operations.{OpFits};
@@ -53,13 +54,18 @@ fn nodes_fit(nodes: &[NodeId])
     ensures { AllByRecursion u32_token.fits nodes.now }
 {}
 
+fn pair_fits(pair: (NodeId, NodeId))
+    ensures { PairFits pair }
+{
+    number_fits(pair.0);
+    number_fits(pair.1);
+}
+
 fn pairs_fit(pairs: &[(NodeId, NodeId)])
     ensures { AllByRecursion PairFits pairs.now }
 {
     for pair in pairs {
-        let (a, b) = *pair;
-        number_fits(a);
-        number_fits(b);
+        pair_fits(*pair);
     }
 }
 
@@ -67,13 +73,18 @@ fn fact_fits(fact: Fact)
     ensures { fact_token.fits fact }
 {}
 
+fn fact_pair_fits(pair: (Fact, Fact))
+    ensures { FactPairFits pair }
+{
+    fact_fits(pair.0);
+    fact_fits(pair.1);
+}
+
 fn fact_pairs_fit(pairs: &[(Fact, Fact)])
     ensures { AllByRecursion FactPairFits pairs.now }
 {
     for pair in pairs {
-        let (first, second) = *pair;
-        fact_fits(first);
-        fact_fits(second);
+        fact_pair_fits(*pair);
     }
 }
 
@@ -142,53 +153,59 @@ fn operation_fits(op: &Op)
     }
 }
 
+fn node_fits(number: NodeId, op: &Op, kids: &[NodeId])
+    ensures { StepFits (steps.Node number op.now kids.now) }
+{
+    number_fits(number);
+    operation_fits(op);
+    nodes_fit(kids);
+}
+
+fn finish_fits(roots: (NodeId, NodeId), token: Reason, fault: Reason, given: Reason, heap: Reason)
+    requires { HasMembers (steps.Finish roots.0 roots.1 token fault given heap) }
+    ensures { StepFits (steps.Finish roots.0 roots.1 token fault given heap) }
+{
+    pair_fits(roots);
+    reason_fits(token);
+    reason_fits(fault);
+    reason_fits(given);
+    reason_fits(heap);
+}
+
 fn step_fits(step: &Step)
     requires { HasMembers step.now }
     ensures { StepFits step.now }
 {
     match step {
-        Step::Node(n, op, kids) => {
-            number_fits(*n);
-            operation_fits(op);
-            nodes_fit(kids.as_slice());
+        Step::Node(n, op, kids) => node_fits(*n, op, kids.as_slice()),
+        Step::Axiom(number, a, b, nodes) => {
+            number_fits(*number);
+            pair_fits((*a, *b));
+            nodes_fit(nodes.as_slice());
         }
-        Step::Axiom(n, a, b, list) => {
-            number_fits(*n);
-            number_fits(*a);
-            number_fits(*b);
-            nodes_fit(list.as_slice());
+        Step::Flip(a, b, fact) => {
+            pair_fits((*a, *b));
+            fact_fits(*fact);
         }
-        Step::Flip(a, b, f) => {
-            number_fits(*a);
-            number_fits(*b);
-            fact_fits(*f);
+        Step::Chain(a, b, first, second) => {
+            pair_fits((*a, *b));
+            fact_pair_fits((*first, *second));
         }
-        Step::Chain(a, b, f, g) => {
-            number_fits(*a);
-            number_fits(*b);
-            fact_fits(*f);
-            fact_fits(*g);
+        Step::Set(set) => set_fits(set.as_slice()),
+        Step::Open(depth, pairs) => {
+            number_fits(*depth);
+            pairs_fit(pairs.as_slice());
         }
-        Step::Set(cs) => set_fits(cs.as_slice()),
-        Step::Open(d, ps) => {
-            number_fits(*d);
-            pairs_fit(ps.as_slice());
+        Step::Close(depth, facts) => {
+            number_fits(*depth);
+            fact_pairs_fit(facts.as_slice());
         }
-        Step::Close(d, fs) => {
-            number_fits(*d);
-            fact_pairs_fit(fs.as_slice());
-        }
-        Step::Assume(p, list) => {
+        Step::Assume(p, nodes) => {
             number_fits(*p);
-            nodes_fit(list.as_slice());
+            nodes_fit(nodes.as_slice());
         }
-        Step::Finish(p, q, t, f, r, h) => {
-            number_fits(*p);
-            number_fits(*q);
-            reason_fits(*t);
-            reason_fits(*f);
-            reason_fits(*r);
-            reason_fits(*h);
+        Step::Finish(p, q, token, fault, result, heap) => {
+            finish_fits((*p, *q), *token, *fault, *result, *heap);
         }
     }
 }

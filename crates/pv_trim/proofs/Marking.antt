@@ -154,15 +154,6 @@ own_same (steps.Node n o kids) k marks nodes is = absurd (cc)
 own_same s k marks nodes is = refl
 
 module _ (s : Step) (k : ℕ) (e : Option ℕ) (marks nodes : List Bool) where
-  abbrev new_steps : List Bool
-  new_steps = steps_with s k e marks nodes
-
-  abbrev new_nodes : List Bool
-  new_nodes = nodes_with s k marks nodes
-
-  abbrev own : List Bool
-  own = own_mark s k marks nodes
-
   steps_yes : IsOn (own_mark s k marks nodes) k → steps_with s k e marks nodes ≡ marking_end k e (marking_facts k (facts s) (own_mark s k marks nodes))
   steps_yes h = ap (λ (b : Bool). if b then marking_end k e (marking_facts k (facts s) (own_mark s k marks nodes)) else own_mark s k marks nodes) h
 
@@ -220,12 +211,6 @@ module _ (s : Step) (k : ℕ) (e : Option ℕ) (marks nodes : List Bool) where
 -- ---- the marks after it
 
 module _ (all : List Step) (ends : List (Option ℕ)) (base bound k : ℕ) (marks nodes : List Bool) (h : AreMarks all ends base bound (suc k) marks nodes) (s : Step) (e : Option ℕ) (at : slice_get all k ≡ Some s) (end : slice_get ends k ≡ Some e) where
-  abbrev S : List Bool
-  S = steps_with s k e marks nodes
-
-  abbrev N : List Bool
-  N = nodes_with s k marks nodes
-
   -- an old mark of another step stays
   stays : (i : ℕ) → i ≢ k → IsOn marks i → IsOn (steps_with s k e marks nodes) i
   stays i ne z = with_own s k e marks nodes i (own_other s k marks nodes i ne ∙ z)

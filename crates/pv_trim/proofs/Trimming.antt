@@ -1,5 +1,5 @@
 -- The section that is left.
-use Rattle.std.specs.Prelude.{◌≡◌, ◌⊎◌, ℕ, ◌+◌, ◌<◌, Bool, false, List, [], ◌∷◌, ◌++◌, length, reverse, Option, Result, Ok, Err, IfOk}
+use Rattle.std.specs.Prelude.{◌≡◌, ◌⊎◌, ℕ, ◌+◌, suc, ◌<◌, ◌≤◌, Bool, true, false, List, [], ◌∷◌, ◌++◌, length, reverse, if◌then◌else◌, Option, Result, Ok, Err, IfOk}
 use Rattle.std.proofs.Common.{inl, inr, sym, ap, ◌∙◌, subst, arith}
 use Rattle.std.proofs.lemmas.List.{length-reverse, reverse-append}
 use Rattle.pv_graph.specs.Walks.{In}
@@ -10,7 +10,7 @@ use Rattle.pv_steps.specs.Accepted.{LastStates, Derives}
 use Rattle.pv_axioms.specs.Entries.{Instance}
 use Rattle.pv_trim.specs.Citing.{IsLean}
 use Rattle.pv_trim.specs.Spelling.{HaveMembers}
-use Rattle.pv_trim.specs.Moving.{count, kept_steps}
+use Rattle.pv_trim.specs.Moving.{count, moved, kept_steps}
 use Rattle.pv_trim.specs.Marks.{is_on, AreEnds, AreMarks}
 use Rattle.pv_trim.proofs.Kept.{IsTrimmed}
 use Rattle.pv_trim.proofs.Marked.{kept_derive, members}
@@ -49,6 +49,23 @@ done g made sealed a b low low' section h differ ends are marks nodes base e m s
           lean = λ j one less. t.cited j one (let z = length-reverse new in omega (arith, z, less));
           members = λ s i. ms s (in_reverse new s i);
         }
+
+kept_size : (keep : ℕ → Bool) (f r : ℕ → ℕ) (all : List Step) → length (kept_steps keep f r all) ≤ length all
+kept_size keep f r [] = omega arith
+kept_size keep f r (s ∷ before) = go (keep (length before)) (kept_size keep f r before)
+  where
+    go : (b : Bool) → length (kept_steps keep f r before) ≤ length before → length (if b then moved f r s ∷ kept_steps keep f r before else kept_steps keep f r before) ≤ suc (length before)
+    go true low = omega (arith, low)
+    go false low = omega (arith, low)
+
+-- there are no more steps than before
+pub new_size : (keep : ℕ → Bool) (f r : ℕ → ℕ) (section new : List Step) → reverse new ≡ kept_steps keep f r (reverse section) → length new ≤ length section
+new_size keep f r section new is =
+    let old = length-reverse section in
+    let left = length-reverse new in
+    let same = ap length is in
+    let low = kept_size keep f r (reverse section) in
+    omega (arith, old, left, same, low)
 
 pub if_ok : {T E : Type 0} {P Q : T → Type 0} (r : Result T E) → ((x : T) → P x → Q x) → IfOk r P → IfOk r Q
 if_ok (Ok x) f h = f x h

@@ -1,6 +1,6 @@
 //! A section without the steps that nothing needs.
 
-ghost use Rattle.std.specs.Prelude.{◌≡◌, ◌≢◌, ◌<◌, [], IfOk, false, length, reverse};
+ghost use Rattle.std.specs.Prelude.{◌≡◌, ◌≢◌, ◌<◌, ◌≤◌, [], IfOk, false, length, reverse};
 ghost use Rattle.std.specs.List.{AllByRecursion};
 ghost use Rattle.pv_graph.specs.Graphs.{IsWellMade};
 ghost use Rattle.pv_steps.specs.Accepted.{Derives};
@@ -46,6 +46,7 @@ fn needed(alloc: Global, least: &Least, steps: &[Step]) -> Result<Vec<Step>, Mem
     ensures derives { IfOk result (λ new. Derives Instance least.now.graph least.now.first least.now.second new.items) }
     ensures lean { IfOk result (λ new. IsLean new.items) }
     ensures members { IfOk result (λ new. HaveMembers new.items) }
+    ensures size { IfOk result (λ new. length new.items ≤ length steps.now) }
 {
     let ends = ends_of(alloc, steps)?;
     let marks = marks_of(alloc, steps, &ends, least.graph().len())?;
@@ -59,8 +60,8 @@ fn needed(alloc: Global, least: &Least, steps: &[Step]) -> Result<Vec<Step>, Mem
 /// The steps of an accepted section that its last step needs, in their order and under new numbers.
 ///
 /// They are accepted over the same graph (`derives`). Each of them is the last, or a later one cites it (`lean`).
-/// Each has a spelling, so that they can be written as a section of a certificate (`spelled`). Where the roots are
-/// one node, no step is needed (`none`).
+/// Each has a spelling, so that they can be written as a section of a certificate (`spelled`). There are no more of
+/// them than before (`size`). Where the roots are one node, no step is needed (`none`).
 ///
 /// Time and memory are linear in the number of nodes of the graph and the size of the steps. The only error is that
 /// memory runs out.
@@ -74,6 +75,7 @@ pub fn trim(alloc: Global, least: &Least, steps: &Listed<Step>) -> Result<Listed
     ensures derives { IfOk result (λ new. Derives Instance least.now.graph least.now.first least.now.second new) }
     ensures lean { IfOk result (λ new. IsLean new) }
     ensures spelled { IfOk result (λ new. AllByRecursion StepFits new) }
+    ensures size { IfOk result (λ new. length new ≤ length steps.now) }
 {
     if least.first() == least.second() {
         return Ok(Listed::from(Vec::new(alloc)));

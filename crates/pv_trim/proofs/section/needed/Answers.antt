@@ -3,7 +3,7 @@ use Rattle.pv_graph.specs.Graphs.{Graph}
 use Rattle.pv_steps.specs.declared.step.Step.{Step}
 use Rattle.pv_trim.specs.Moving.{count, kept_steps}
 use Rattle.pv_trim.specs.Marks.{is_on, AreMarks}
-use Rattle.pv_trim.proofs.Trimming.{IsDone, done, if_ok}
+use Rattle.pv_trim.proofs.Trimming.{IsDone, done, new_size, if_ok}
 use Rattle.pv_trim.proofs.section.needed.Goals as goal
 
 is_done : (c : goal.After-drop-ends-2) → (new : List Step) → reverse new ≡ kept_steps (is_on c.in_ok-new-2.field-0) (count (is_on c.in_ok-new.field-0)) (count (is_on c.in_ok-new-2.field-0)) (reverse c.args.steps.now) → IsDone c.args.least.now.graph c.args.least.now.first c.args.least.now.second new
@@ -21,3 +21,6 @@ returns-clause-lean c = if_ok c.kept.result (λ new is. (is_done c new.items is)
 
 pub returns-clause-members : goal.returns-clause-members
 returns-clause-members c = if_ok c.kept.result (λ new is. (is_done c new.items is).members) c.kept.ensures
+
+pub returns-clause-size : goal.returns-clause-size
+returns-clause-size c = if_ok c.kept.result (λ new is. new_size (is_on c.in_ok-new-2.field-0) (count (is_on c.in_ok-new.field-0)) (count (is_on c.in_ok-new-2.field-0)) c.args.steps.now new.items is) c.kept.ensures

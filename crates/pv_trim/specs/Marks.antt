@@ -27,7 +27,7 @@ abbrev pub marking_step : ℕ → ℕ → List Bool → List Bool
 marking_step k zero marks = marks
 marking_step k (suc j) marks = if nat_le (suc j) k then slice_set marks j true else marks
 
--- the steps of these facts are
+-- the steps that state these facts are marked, where they are among the first k
 abbrev pub marking_facts : ℕ → List Fact → List Bool → List Bool
 marking_facts k [] marks = marks
 marking_facts k (x ∷ xs) marks = marking_facts k xs (marking_step k x.step marks)
@@ -37,12 +37,12 @@ abbrev pub own_mark : Step → ℕ → List Bool → List Bool → List Bool
 own_mark (steps.Node n o kids) k marks nodes = slice_set marks k (is_on nodes n)
 own_mark s k marks nodes = marks
 
--- the step with this number is, where there is one
+-- the step with this number is marked, where there is a number
 abbrev pub marking_end : ℕ → Option ℕ → List Bool → List Bool
 marking_end k None marks = marks
 marking_end k (Some number) marks = marking_step k number marks
 
--- step number k + 1, which ends the block that step e opened, or none: where it is marked, it marks what it cites
+-- after step number k + 1, which ends the block that step e opened, or none: where it is marked, what it cites is marked
 abbrev pub steps_with : Step → ℕ → Option ℕ → List Bool → List Bool → List Bool
 steps_with s k e marks nodes =
     if is_on (own_mark s k marks nodes) k then marking_end k e (marking_facts k (facts s) (own_mark s k marks nodes)) else own_mark s k marks nodes
@@ -67,11 +67,11 @@ pub record AreEnds (section : List Step) (ends : List (Option ℕ)) : Type 0 whe
 
 -- ---- what the marks say
 
--- step k + 1 is marked, is this one, and names the node
+-- step k + 1 is marked and names the node
 abbrev pub IsNaming : List Step → List Bool → ℕ → ℕ → Type 0
 IsNaming section marks n k = (s : Step) × (slice_get section k ≡ Some s) × IsOn marks k × In (named s) n
 
--- .. and cites step j + 1
+-- step k + 1 is marked and cites step j + 1
 abbrev pub IsCiting : List Step → List (Option ℕ) → List Bool → ℕ → ℕ → Type 0
 IsCiting section ends marks j k =
     (s : Step) × (slice_get section k ≡ Some s) × IsOn marks k
@@ -83,8 +83,7 @@ pub record MarksCited (section : List Step) (ends : List (Option ℕ)) (bound : 
   pub facts_ : (x : Fact) (j : ℕ) (t : Step) → In (facts s) x → x.step ≡ suc j → j < k → slice_get section j ≡ Some t → is_node t ≡ false → IsOn marks j
   pub ends_ : (j : ℕ) (t : Step) → slice_get ends k ≡ Some (Some (suc j)) → j < k → slice_get section j ≡ Some t → is_node t ≡ false → IsOn marks j
 
--- the marks after the steps from number i + 1 on were looked at, in the order from the last one back, where the nodes below
--- `base` need no step
+-- the marks, once the steps from the last one back to number i + 1 were looked at; the nodes below `base` need no step
 pub record AreMarks (section : List Step) (ends : List (Option ℕ)) (base bound i : ℕ) (marks nodes : List Bool) : Type 0 where
   pub steps_long : length marks ≡ length section
   pub nodes_long : length nodes ≡ bound

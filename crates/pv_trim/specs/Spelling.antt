@@ -1,4 +1,4 @@
--- When a step has a spelling: each number, constant and text of a value of the types has one, and the rest is said here.
+-- What a step owes to have a spelling, beyond numbers, constants and texts in the ranges of their types.
 use Rattle.std.specs.Prelude.{◌≢◌, ℕ, List, []}
 use Rattle.pv_graph.specs.Walks.{In}
 use Rattle.pv_token.specs.Tokens.{u32_token}

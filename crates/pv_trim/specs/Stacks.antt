@@ -39,7 +39,7 @@ abbrev pub ended_by : Effect → List ℕ → Option ℕ
 ended_by Ends ns = first ns
 ended_by does ns = None
 
--- of the first k steps the numbers of the blocks that they end, and of the open blocks after them
+-- for the first k steps: the numbers of the steps that opened the blocks which they end, and those of the blocks open after them
 pub record AreEndsTo (section : List Step) (k : ℕ) (ends : List (Option ℕ)) (stack : List ℕ) : Type 0 where
   pub long : length ends ≡ k
   pub each : (i : ℕ) (s : Step) → i < k → slice_get section i ≡ Some s → slice_get ends i ≡ Some (ended s (open_after (first_steps i section)))

@@ -24,7 +24,6 @@ use pv_class::{ClassFault, ClassFile, read_class};
 use pv_list::Listed;
 use pv_report::{Verdict, least_roots};
 use pv_steps::Step;
-use pv_trim::trim as without_needless;
 use pv_value::{Memory, Name};
 use std::alloc::Global;
 
@@ -120,7 +119,7 @@ fn add_left(
     let answer = checker.check(alloc, &OpenGate)?;
     list.add(shown(alloc, answer)?.as_str())?;
     if let Checked::Accepted = answer {
-        let steps = without_needless(alloc, roots, &section.steps)?;
+        let steps = pv_trim::trim(alloc, roots, &section.steps)?;
         let again = Checker::new(axioms, roots, steps.as_slice()).check(alloc, &OpenGate)?;
         add_lines(alloc, section, steps, list)?;
         list.add(shown(alloc, again)?.as_str())?;

@@ -94,7 +94,7 @@ module _ (Instance : Instances) (of_nodes : AreOfNodes Instance) (g : Graph) (ma
                 let same : st.0 ≡ states t.0 (suc place.0) (open_after (first_steps place.0 section)) =
                 same_Some _ _ (sym st.1 ∙ ap (stated_at (first_steps k section)) place.1 ∙ stated_first section k place.0 t.0 (omega (arith, low)) less t.1) in
                 let none : st.0.pairs ≡ [] = ap (λ (q : Stated). q.pairs) same ∙ no_pairs t.0 (suc place.0) (open_after (first_steps place.0 section)) is in
-                absurd (numbered_sides [] x.place p.0 (subst (λ (q : List (ℕ × ℕ)). numbered q x.place ≡ Some p.0) none p.1)).0)
+                absurd {A = is_node t.0 ≡ false} (numbered_sides [] x.place p.0 (subst (λ (q : List (ℕ × ℕ)). numbered q x.place ≡ Some p.0) none p.1)).0)
             | inr is ↦ is
           ];
           states_ = (sees.e, sees.stated);

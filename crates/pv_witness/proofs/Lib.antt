@@ -8,6 +8,7 @@ pub mod Complete
 pub mod Copies
 pub mod Stepping
 pub mod Witnessing
+pub mod Starting
 -- 4. What axioms ask of each variable.
 pub mod Asking
 -- For the crates above.

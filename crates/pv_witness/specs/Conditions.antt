@@ -1,12 +1,13 @@
 -- What a condition says of a node and of a class, and marks by which it is known of nodes.
-use Rattle.std.specs.Prelude.{ℕ, Bool, List}
+use Rattle.std.specs.Prelude.{ℕ, ◌≤◌, Bool, List, length}
 use Rattle.pv_graph.specs.Walks.{Free, IsSettled}
 use Rattle.pv_graph.specs.Reach.{IsMarked}
-use Rattle.pv_graph.specs.Graphs.{Graph, form_at}
+use Rattle.pv_graph.specs.Graphs.{Graph, form_at, IsGraph, Extends}
 use Rattle.pv_steps.specs.Facts.{View}
 use Rattle.pv_heights.specs.Heights.{IsBase}
 use Rattle.pv_heights.specs.Conditions.{Settled, NotFree}
 use Rattle.pv_heights.specs.Searches.{nodes, IsNode, OneClass}
+use Rattle.pv_witness.specs.Numbered.{numbered}
 use Rattle.pv_witness.specs.declared.condition.Condition.{Condition}
 use Rattle.pv_witness.specs.declared.condition.Condition.TheVariants as condition
 
@@ -28,3 +29,8 @@ HoldsOfClass view assumed g numbers (condition.NotFree d) n = NotFree view d (no
 pub record AreStarts (view : View) (assumed : List ℕ) (g : Graph) (k : Condition) (starts : List Bool) : Type 0 where
   pub hold : (n : ℕ) → IsMarked starts n → HoldsOfNode g assumed k n
   pub least : (n : ℕ) → IsBase view n → HoldsAt view assumed k n → IsMarked starts n
+
+-- .. whichever graph is the least one, from which the others grew
+abbrev pub AreStartsOver : Graph → List ℕ → List ℕ → Condition → List Bool → Type 0
+AreStartsOver g numbers assumed k starts =
+    (least : Graph) → IsGraph least → Extends least g → length least.nodes ≤ length numbers → AreStarts (form_at least.nodes) assumed (numbered g numbers) k starts

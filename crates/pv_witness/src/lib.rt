@@ -7,8 +7,8 @@
 //! This layer stands on `pv_heights`, which says when a class is settled (`Settled`) and when a depth isn't free in it
 //! (`NotFree`), and on `pv_instances` for nodes that fit. The layer above uses `witnesses` (`specs/Witnesses`,
 //! `AreWitnesses`): for each class of which the condition holds it gives a node of which it holds, a copy (`Copy`) of a node of
-//! that class, with its sort; and each node that it adds is such a copy. What is known before are marks (`specs/Conditions`,
-//! `AreStarts`) of nodes of which the condition holds. Class numbers and marks are those of the first nodes, so
+//! that class, with its sort; and each node that it adds is such a copy. It starts by marks of nodes of which the condition
+//! holds (`specs/Conditions`, `AreStarts`), which `marks` finds. Class numbers and marks are those of the first nodes, so
 //! that witnesses of one condition can be made after those of another (`specs/Numbered`). That an instance needs one
 //! witness at most for each variable is a law (`law_asked`, `specs/Asked`).
 //!
@@ -21,8 +21,10 @@
 mod condition;
 pub mod laws;
 mod making;
+mod marking;
 mod parents;
 mod supports;
 
 pub use condition::Condition;
 pub use making::witnesses;
+pub use marking::marks;

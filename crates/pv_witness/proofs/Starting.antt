@@ -1,6 +1,6 @@
 -- Marks of the nodes of which a condition holds are those that witnesses start by.
-use Rattle.std.specs.Prelude.{◌≡◌, ◌↔◌, ℕ, ◌<◌, ◌≤◌, Bool, true, false, not, List, [], ◌∷◌, suc, length, map, take, IsTrue, Some, slice_get, refl}
-use Rattle.std.proofs.Common.{sym, ap, ◌∙◌, subst, arith, true≢false, option_map}
+use Rattle.std.specs.Prelude.{◌≡◌, ◌↔◌, ℕ, ◌<◌, Bool, true, false, not, List, [], ◌∷◌, suc, length, map, take, IsTrue, Some, slice_get, refl}
+use Rattle.std.proofs.Common.{sym, ap, ◌∙◌, arith, true≢false, option_map}
 use Rattle.std.proofs.lemmas.Option.{slice_get_within, slice_get-map, same_Some}
 use Rattle.pv_graph.specs.Forms.{form}
 use Rattle.pv_graph.specs.Walks.{Free, here, below, Reaches, itself, along}

@@ -1,8 +1,8 @@
 //! Witnesses of conditions on classes, made as nodes of a graph.
 //!
 //! An axiom may ask of the class of a variable that it is settled, or that a depth isn't free in it (`Condition`). A match
-//! asks this of a class; an instance of the axiom needs a node of which it holds, and a class of which it holds need
-//! not have one: it may only have a node whose operation hands the condition on from kids of which classes hold it.
+//! asks this of a class; an instance of the axiom needs a node of which it holds. The class need not have one: it may have
+//! only a node whose operation hands the condition on from its kids, where it holds of the classes of the kids.
 //!
 //! This layer stands on `pv_heights`, which says when a class is settled (`Settled`) and when a depth isn't free in it
 //! (`NotFree`), and on `pv_instances` for nodes that fit. The layer above uses `witnesses` (`specs/Witnesses`,
@@ -14,7 +14,7 @@
 //!
 //! The rest is private to this crate. `supports` lists for each such class a node by which the condition holds, in an order in
 //! which each rests on earlier ones (`specs/Supports`). A node is looked at again where a class of its kids gets its support
-//! (`parents`), so no node is looked at more often than it has kids. Then the witnesses are made in the order of the
+//! (`parents`), so beside once at the beginning no node is looked at more often than it has kids. Then the witnesses are made in the order of the
 //! supports (`specs/Table`): a marked node is its own witness, another one is made again over the witnesses of its kids' classes.
 #![tactic(auto)]
 

@@ -20,8 +20,7 @@ use Rattle.pv_graph.specs.declared.node.Op.TheVariants as op
 use Rattle.pv_graph.specs.declared.node.OpSort.{OpSort}
 use Rattle.pv_graph.specs.declared.node.OpSort.TheVariants.{I, L, A, N, F, T, H, R}
 use Rattle.pv_graph.specs.Ops.{same_sort, same_sorts, exactly, but_root, alike, choice_sort, eval_sort, shift_sort, is_result, word_sort, type_sort, type_sorts, kind_sort, field_sort, result_sort, CallSorts, call_sorts, is_depth, sort_over}
-use Rattle.pv_graph.proofs.Sorting.{same_sort_is}
-use Rattle.pv_graph.proofs.Cited.{exactly_are, shape_takes, bind_some}
+use Rattle.pv_graph.proofs.Cited.{bind_some, exactly_are, same_sort_is, shape_takes}
 use Rattle.pv_pattern.specs.Patterns.{Atom, number, named, By, by_symbol, by_kind, Head, fixed, theta_d, eval_d, pass_d, shift_d, getstatic, putstatic, getfield, putfield, load, store, Each, bare, shifted, evaluated, Pattern, var, constant, fold, narrowed, over, over_each, Patterns, none, first}
 use Rattle.pv_pattern.specs.Instances.{head_op, atom_of, type_by, kind_type}
 use Rattle.pv_heights.specs.Filled.{Params, kid, Filled, at, of, Parts, no_part, part, over0, over1, over2, constant_part, narrow, each_part, each_parts, filled, all_filled}

@@ -1,0 +1,12 @@
+use Rattle.std.proofs.Common.{◌≡◌, Bool, true, sym, ap, ◌∙◌, subst}
+use Rattle.std.specs.Bool.{OnTrue}
+use Rattle.pv_pattern.specs.Seen.{axiom_seen}
+use Rattle.pv_match.proofs.finder.Finder.find.Goals as goal
+
+on_true : (b : Bool) (P : Type 0) → b ≡ true → OnTrue b P → P
+on_true b P e h = subst (λ (v : Bool). OnTrue v P) e h
+
+pub returns-then-is_over : goal.returns-then-is_over
+returns-then-is_over g c assumed marks =
+    let many = on_true c.in_ok-is_over.is_over _ c.if-is_over.true (c.in_ok-is_over.ensures.found assumed marks).0 in
+    (c.len-count.ensures.len ∙ many.long, c.find_in.new.found.keys, many, c.len-count.ensures.ordered)

@@ -1,0 +1,39 @@
+use Rattle.std.proofs.Common.{◌≡◌, ◌≤◌, ℕ, Bool, true, false, List, [], map, length, get_or, take, take_all, sym, subst, arith}
+use Rattle.std.specs.Bool.{OnTrue, OnFalse}
+use Rattle.std.proofs.lemmas.List.{take_more}
+use Rattle.pv_graph.specs.Walks.{In}
+use Rattle.pv_pattern.specs.Seen.{axiom_seen}
+use Rattle.pv_match.specs.declared.found.Match.{Match}
+use Rattle.pv_match.specs.All.{AreMatchesOf}
+use Rattle.pv_match.proofs.AllOf.{where_none}
+use Rattle.pv_match.proofs.finder.Finder.find_in.Goals as goal
+
+on_true : (b : Bool) (P : Type 0) → b ≡ true → OnTrue b P → P
+on_true b P e h = subst (λ (v : Bool). OnTrue v P) e h
+
+on_false : (b : Bool) (P : Type 0) → b ≡ false → OnFalse b P → P
+on_false b P e h = subst (λ (v : Bool). OnFalse v P) e h
+
+pub loop-n-init : goal.loop-n-init
+loop-n-init g c = record {
+  few = subst (λ (ks : List Match). length ks ≤ c.args.self.now.limit) (sym c.requires.empty) (omega arith);
+  found = λ assumed marks. subst (λ (ks : List Match). AreMatchesOf c.args.self.now.reader.graph.now c.args.self.now.reader.numbers.now assumed (map axiom_seen c.args.self.now.table.now) [] ks) (sym c.requires.empty)
+      (where_none c.args.self.now.reader.graph.now c.args.self.now.reader.numbers.now assumed (λ a n. In (map axiom_seen c.args.self.now.table.now) a × In [] n) (λ a n h. h.1));
+}
+
+pub returns-then-is_over-clause-found : goal.returns-then-is_over-clause-found
+returns-then-is_over-clause-found g c assumed marks = (on_true c.in_ok-is_over.is_over _ c.if-is_over.true (c.in_ok-is_over.ensures.found assumed (take c.loop-n.n-index c.args.items.now) marks (c.loop-n.invariant.found assumed marks)).0, tt)
+
+pub loop-n-preserved : goal.loop-n-preserved
+loop-n-preserved g c = record {
+  few = on_false c.in_ok-is_over.is_over _ c.if-is_over.false c.in_ok-is_over.ensures.few;
+  found = λ assumed marks. subst (λ (ns : List ℕ). AreMatchesOf c.args.self.now.reader.graph.now c.args.self.now.reader.numbers.now assumed (map axiom_seen c.args.self.now.table.now) ns c.find_at.new.found.keys) (sym (take_more c.args.items.now c.loop-n.n-index 0 c.loop-n-test.true))
+      (on_false c.in_ok-is_over.is_over _ c.if-is_over.false (c.in_ok-is_over.ensures.found assumed (take c.loop-n.n-index c.args.items.now) marks (c.loop-n.invariant.found assumed marks)).1);
+}
+
+pub returns-clause-found : goal.returns-clause-found
+returns-clause-found g c assumed marks =
+    (tt, subst (λ (ns : List ℕ). AreMatchesOf c.args.self.now.reader.graph.now c.args.self.now.reader.numbers.now assumed (map axiom_seen c.args.self.now.table.now) ns c.loop-n.found.keys) (take_all c.loop-n.n-index c.args.items.now c.loop-n-test.false) (c.loop-n.invariant.found assumed marks))
+
+pub returns-clause-few : goal.returns-clause-few
+returns-clause-few g c = c.loop-n.invariant.few

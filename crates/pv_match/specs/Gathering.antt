@@ -1,0 +1,64 @@
+-- How the matches of a table are gathered in a set, node by node, up to a limit.
+use Rattle.std.specs.Prelude.{◌≡◌, ◌⊎◌, ℕ, suc, ◌≤◌, Bool, List, length, Some, slice_get}
+use Rattle.std.specs.Bool.{OnTrue, OnFalse}
+use Rattle.pv_graph.specs.Walks.{In}
+use Rattle.pv_graph.specs.Graphs.{Graph}
+use Rattle.pv_pattern.specs.Patterns.{Axiom}
+use Rattle.pv_match.specs.declared.found.Match.{Match}
+use Rattle.pv_match.specs.Matches.{IsMatch}
+use Rattle.pv_match.specs.All.{AreMatchesOf, AreMatchesWhere}
+use Rattle.std.specs.List.Sorted.{IsStrictlySortedBy}
+use Rattle.pv_match.specs.declared.found.Matches as answers
+use Rattle.pv_match.specs.declared.found.Matches.TheVariants.{All, More}
+use Rattle.pv_match.specs.Orders.{match_cmp, AreOne}
+
+-- ---- sets
+
+-- the set has one for each match of the list
+abbrev pub HasOne : List Match → Match → Type 0
+HasOne set x = (y : Match) × In set y × AreOne x y
+
+-- the set holds what it held before, some of a list, and nothing else
+pub record GathersSome (old more new : List Match) : Type 0 where
+  pub each : (x : Match) → In new x → In old x ⊎ In more x
+  pub kept : (x : Match) → In old x → In new x
+
+-- .. and all of the list
+pub record GathersAll (old more new : List Match) : Type 0 where
+  pub some_ : GathersSome old more new
+  pub has : (x : Match) → In more x → HasOne new x
+
+-- .. and all of the list but what is still to come
+pub record IsGathering (old more set rest : List Match) : Type 0 where
+  pub some_ : GathersSome old more set
+  pub within : (x : Match) → In rest x → In more x
+  pub has : (x : Match) → In more x → In rest x ⊎ HasOne set x
+
+-- ---- the matches of a table
+
+-- one of the axioms at these places
+abbrev pub IsTried : List Axiom → List ℕ → Axiom → Type 0
+IsTried table places a = (i : ℕ) × In places i × (slice_get table i ≡ Some a)
+
+-- all axioms at the nodes before, and those at some places at the node at hand
+abbrev pub TriedAt : List Axiom → List ℕ → List ℕ → ℕ → Axiom → ℕ → Type 0
+TriedAt table before places n a m = (In table a × In before m) ⊎ (IsTried table places a × (m ≡ n))
+
+-- one more match than the limit
+pub record AreTooMany (g : Graph) (numbers assumed : List ℕ) (table : List Axiom) (limit : ℕ) (list : List Match) : Type 0 where
+  pub long : length list ≡ suc limit
+  pub each : (x : Match) → In list x → (a : Axiom) × In table a × (x.axiom ≡ a.number) × IsMatch g numbers assumed a x.params.items x.classes.items
+
+-- the set has one more match than the limit, or exactly the matches at the nodes before and those of the axioms at some places at the
+-- node at hand
+abbrev pub Tries : Graph → List ℕ → List ℕ → List Axiom → ℕ → List ℕ → List ℕ → ℕ → Bool → List Match → Type 0
+Tries g numbers assumed table limit before places n over set = OnTrue over (AreTooMany g numbers assumed table limit set) × OnFalse over (AreMatchesWhere g numbers assumed (TriedAt table before places n) set)
+
+-- the set has one more match than the limit, or exactly the matches at these nodes
+abbrev pub Finds : Graph → List ℕ → List ℕ → List Axiom → ℕ → List ℕ → Bool → List Match → Type 0
+Finds g numbers assumed table limit items over set = OnTrue over (AreTooMany g numbers assumed table limit set) × OnFalse over (AreMatchesOf g numbers assumed table items set)
+
+-- what is found at these nodes: one more match than the limit; or exactly the matches there, no more than the limit; in their order
+abbrev pub IsFound : Graph → List ℕ → List ℕ → List Axiom → ℕ → List ℕ → answers.Matches → Type 0
+IsFound g numbers assumed table limit items (All list) = AreMatchesOf g numbers assumed table items list.items × IsStrictlySortedBy match_cmp list.items × (length list.items ≤ limit)
+IsFound g numbers assumed table limit items (More n) = (n ≡ suc limit) × (list : List Match) × AreTooMany g numbers assumed table limit list × IsStrictlySortedBy match_cmp list

@@ -1,0 +1,17 @@
+-- what public contracts say
+pub mod Reading
+pub mod Parameters
+pub mod AllMatches
+pub mod Orders
+-- matches by the numbers of classes, as this crate's own functions speak of them
+pub mod Standing
+pub mod Matches
+pub mod All
+-- how they are found
+pub mod Bindings
+pub mod Finishing
+pub mod Grouping
+pub mod Rules
+pub mod Gathering
+-- how class numbers are classes of nodes
+pub mod Agreeing

@@ -1,0 +1,31 @@
+//! The matches of axioms over the classes of a graph's nodes.
+//!
+//! This layer stands on `pv_pattern`, which says what an axiom is, on `pv_classes` for the classes, on `pv_marks` for what holds of a
+//! class, and on `pv_base` for the gate. The definition that it meets is that of `pv_heights`: `matches` gives a list of all matches
+//! (`AreAllAt`), each once and in order, or says that there are more than a limit (`AtLeastAt`). `specs/AllMatches` says so of the
+//! program's `Match`, with its parameters (`specs/Parameters`). `specs/Reading` says which left sides are read; each axiom's is (`law_table`).
+//!
+//! The functions of this crate speak of class numbers: `specs/Standing` says when a side of an axiom stands in a class, `specs/Matches`
+//! what a match is, and `specs/All` which matches start at some nodes. That these are the matches of `pv_heights` is shown in the proofs.
+//! `law_pieces` says that the matches at two pieces of the nodes are those at both.
+//!
+//! How it goes: the classes' nodes are grouped by the numbers of their operations (`members`), and the axioms by those of their heads
+//! (`rules`). A left side is read along a node and the classes of its kids (`reader`), which gives bindings (`binding`): a node for each name, and a
+//! class for each variable. A binding of the whole left side whose conditions hold is a match (`matching`). Matches are gathered
+//! in a set (`finder`), so each is kept once, and the search ends as soon as there is one more than the limit.
+#![tactic(auto)]
+
+mod all;
+mod binding;
+mod finder;
+mod found;
+mod heads;
+pub mod laws;
+mod matching;
+mod members;
+mod reader;
+mod rules;
+mod shown;
+
+pub use all::matches;
+pub use found::{Match, Matches, Param};

@@ -9,10 +9,10 @@ use Rattle.pv_graph.specs.declared.node.Node.{Node}
 use Rattle.pv_graph.specs.Walks.{In}
 use Rattle.pv_graph.specs.Graphs.{Graph, IsGraph}
 use Rattle.pv_graph.proofs.Cited.{in_at}
-use Rattle.pv_pattern.specs.Numbers.{op_number, op_numbers}
+use Rattle.pv_pattern.specs.Numbers.{op_number}
 use Rattle.pv_classes.specs.Numbered.{nodes_from}
-use Rattle.pv_classes.specs.Learning.{Tells, AreParents, AreNumbered, HasEmptyLists}
-use Rattle.pv_classes.proofs.Elements.{none_in, take_cases, take_keeps, take_new}
+use Rattle.pv_classes.specs.Learning.{Tells, AreParents, HasEmptyLists}
+use Rattle.pv_classes.proofs.Elements.{take_cases, take_keeps, take_new}
 
 equal_or_not : (a b : ℕ) → (a ≡ b) ⊎ (a ≢ b)
 equal_or_not a b = grind arith
@@ -170,17 +170,4 @@ parents_wider nodes n count more old new h b e = record {
   long = b.long ∙ ap (λ (m : ℕ). m + more) h.long ∙ e;
   has = λ m k node lt is there. subst (λ (xs : List ℕ). Contains xs m) (sym (b.same k)) (h.has m k node lt is there);
   within = λ m k there. h.within m k (subst (λ (xs : List ℕ). Contains xs m) (b.same k) there);
-}
-
-pub parents_none : (nodes : List Node) (parents : List (List ℕ)) → parents ≡ [] → AreParents nodes 0 0 parents
-parents_none nodes parents e = record {
-  long = ap length e;
-  has = λ m k node lt is there. absurd (omega arith);
-  within = λ m k there. absurd (none_in m (subst (λ (xs : List (List ℕ)). Contains (get_or xs k []) m) e there));
-}
-
-pub numbered_none : (lists old : List (List ℕ)) → old ≡ [] → HasEmptyLists old lists op_numbers → AreNumbered [] lists
-numbered_none lists old e b = record {
-  long = b.long ∙ ap (λ (xs : List (List ℕ)). length xs + op_numbers) e;
-  says = λ number. b.same number ∙ ap (λ (xs : List (List ℕ)). get_or xs number []) e;
 }

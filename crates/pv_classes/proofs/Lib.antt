@@ -13,6 +13,7 @@ pub mod Keys
 pub mod Inserting
 pub mod Advancing
 pub mod Visiting
+pub mod Keying
 -- 5. A closing: passes over the waiting nodes; where none waits, all is joined that is to be joined.
 pub mod Passes
 -- 6. New nodes: their parents and numbers; the index of the first nodes becomes one of all.

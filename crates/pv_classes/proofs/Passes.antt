@@ -115,23 +115,6 @@ module _ (nodes : List Node) (fixed : List ℕ) (work : List ℕ) (at_ : ℕ) (l
 
 -- ---- the passes
 
--- with no node that waits, where those that waited are work
-pub emptied_index : (nodes : List Node) (i : Index) → IsIndex nodes i → IsIndex nodes (record i { waiting = [] })
-emptied_index nodes i index = record {
-  long = index.long;
-  parts = index.parts;
-  kids = index.kids;
-  parents_long = index.parents_long;
-  parents = index.parents;
-  parents_in = index.parents_in;
-  numbers_long = index.numbers_long;
-  numbered = index.numbered;
-  shared = index.shared;
-  own = index.own;
-  waiting_in = λ n c. absurd (none_in n c);
-  by_own_in = index.by_own_in;
-}
-
 found_still : (nodes : List Node) (i : Index) (w : List ℕ) (n : ℕ) → IsFound nodes i n → IsFound nodes (record i { waiting = w }) n
 found_still nodes i w n f = record { node = f.node; e = f.e; is = f.is; finds = f.finds; one = f.one; noted = f.noted }
 

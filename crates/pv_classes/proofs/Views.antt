@@ -1,5 +1,5 @@
 -- What calls do, as callers see it.
-use Rattle.std.proofs.Common.{◌≡◌, ◌⊎◌, ◌↔◌, inl, inr, ℕ, ◌<◌, ◌≤◌, List, [], ◌∷◌, ◌++◌, length, Option, Some, None, refl, sym, ◌∙◌, ap, subst, arith}
+use Rattle.std.proofs.Common.{◌≡◌, ◌⊎◌, ◌↔◌, inl, inr, ℕ, ◌<◌, List, [], ◌∷◌, ◌++◌, length, Option, Some, None, refl, sym, ◌∙◌, ap, subst}
 use Rattle.std.specs.List.{Contains}
 use Rattle.std.proofs.lemmas.Option.{none-some}
 use Rattle.std.proofs.lemmas.List.Elements.{Contains-append_left, Contains-append_right, Contains-append_cases}
@@ -13,7 +13,7 @@ use Rattle.pv_classes.specs.Closest.{Closest}
 use Rattle.pv_classes.specs.Index.{Index, found_in, first_of, key_of, IsIndex, IsTracked, AreJoined, JoinsNodes, IsCopy}
 use Rattle.pv_classes.specs.Closing.{Closed}
 use Rattle.pv_classes.specs.Learning.{Learns}
-use Rattle.pv_classes.specs.Calls.{classes_of, IsClasses, IsNew, Grows, Knows, Joins, Closes, Copies, AddsBlock}
+use Rattle.pv_classes.specs.Calls.{classes_of, IsClasses, Grows, Knows, Joins, Closes, Copies, AddsBlock}
 use Rattle.pv_classes.proofs.Elements.{none_in}
 use Rattle.pv_classes.proofs.Links.{closest_over}
 use Rattle.pv_classes.proofs.Advancing.{joined_index, tracked_after}
@@ -189,24 +189,3 @@ grows_are nodes old new joins blocks h l = record {
   knows = record { numbers = refl; long = h.parts.long ∙ l.more.long; index = l.index; tracked = l.tracked };
   classes = classes_are new joins blocks h;
 }
-
-pub new_are : (nodes : List Node) (old new : Index) (joins : List Join) (blocks : List Block) → joins ≡ [] → blocks ≡ [] → old.parts.numbers ≡ [] → AreJoined new.parts joins → Learns nodes old new → IsNew nodes (classes_of new joins blocks)
-new_are nodes old new joins blocks j b e h l = record {
-  long = h.parts.long ∙ l.more.long;
-  own = λ k lt. l.more.own k (subst (λ (xs : List ℕ). length xs ≤ k) (sym e) (omega arith)) lt;
-  joins = j;
-  blocks = b;
-  knows = record { numbers = refl; long = h.parts.long ∙ l.more.long; index = l.index; tracked = l.tracked };
-  classes = classes_are new joins blocks h;
-}
-
--- no node, no join
-pub joined_none : (p : Parts) (joins : List Join) → IsPartition p → p.labels ≡ [] → joins ≡ [] → AreJoined p joins
-joined_none p joins part e j = record {
-  parts = part;
-  within = λ i c. absurd (none_in i (subst (λ (xs : List Join). Contains xs i) j c));
-  linked = λ a b la lb. absurd (none a la);
-}
-  where
-    none : (a : ℕ) → a < length p.labels → ⊥
-    none a lt = let l : a < 0 = subst (λ (xs : List ℕ). a < length xs) e lt in omega arith

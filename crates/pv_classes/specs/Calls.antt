@@ -8,7 +8,7 @@ use Rattle.pv_classes.specs.Blocks.{Block}
 use Rattle.pv_classes.specs.Partition.{at, AreOne, IsThrough}
 use Rattle.pv_classes.specs.Linked.{Linked}
 use Rattle.pv_classes.specs.Closest.{Closest, AreOfKids}
-use Rattle.pv_classes.specs.Index.{Index, IsIndex, IsTracked}
+use Rattle.pv_classes.specs.Index.{Index, AreJoined, IsIndex, IsTracked}
 
 -- classes of nodes: the number of each node's class, which is its least node; the joins, the oldest first; the blocks; and the index
 pub record Classes : Type 0 where
@@ -101,3 +101,36 @@ pub record AddsBlock (old new : Classes) (b : Block) (n : ℕ) : Type 0 where
   pub joins : new.joins ≡ old.joins
   pub knows : (nodes : List Node) → Knows nodes old → Knows nodes new
   pub classes : IsClasses new
+
+-- ---- classes that are saved
+
+-- classes without their joins and blocks, of which there were so many
+pub record Saved : Type 0 where
+  pub index : Index
+  pub joins : ℕ
+  pub blocks : ℕ
+
+-- these classes were saved
+pub record IsSaved (c : Classes) (saved : Saved) : Type 0 where
+  pub index : saved.index ≡ c.index
+  pub numbers : c.numbers ≡ c.index.parts.numbers
+  pub joins : saved.joins ≡ length c.joins
+  pub blocks : saved.blocks ≡ length c.blocks
+  pub joined : AreJoined c.index.parts c.joins
+
+-- the new classes have these joins and blocks after the old ones
+pub record HaveMore (old new : Classes) (joins : List Join) (blocks : List Block) : Type 0 where
+  pub joins_are : new.joins ≡ old.joins ++ joins
+  pub blocks_are : new.blocks ≡ old.blocks ++ blocks
+
+-- the classes come after those that were saved
+pub record CanRestore (saved : Saved) (c : Classes) : Type 0 where
+  pub outer : Classes
+  pub is : IsSaved outer saved
+  pub joins : List Join
+  pub blocks : List Block
+  pub more : HaveMore outer c joins blocks
+
+-- the classes are those that were saved again, and these joins and blocks are what the others had more
+pub record Restores (saved : Saved) (old new : Classes) (joins : List Join) (blocks : List Block) : Type 0 where
+  pub back : (outer : Classes) (more : List Join) (added : List Block) → IsSaved outer saved → HaveMore outer old more added → (new ≡ outer) × (joins ≡ more) × (blocks ≡ added)

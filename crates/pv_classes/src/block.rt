@@ -105,7 +105,7 @@ impl Block {
 
 /// Copies of blocks.
 #[cycle(copying)]
-pub fn copy_blocks(alloc: Global, blocks: &[Block]) -> Result<Vec<Block>, Memory>
+pub(crate) fn copy_blocks(alloc: Global, blocks: &[Block]) -> Result<Vec<Block>, Memory>
     ensures { IfOk result (λ copies. copies.items ≡ blocks.now) }
 {
     let mut copies = Vec::new(alloc);

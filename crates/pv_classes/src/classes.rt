@@ -1,17 +1,20 @@
 //! The classes of the nodes of a graph.
 
 ghost use Rattle.std.specs.Prelude.{◌≡◌, ◌≢◌, ◌<◌, ◌↔◌, [], List, length, IsTrue, IfOk, OnOk};
+ghost use Rattle.std.specs.List.{All};
 ghost use Rattle.pv_graph.specs.declared.node.Node.{Node};
 ghost use Rattle.pv_classes.specs.Partition.{at, AreOne};
 ghost use Rattle.pv_classes.specs.Numbered.{nodes_with};
-ghost use Rattle.pv_classes.specs.Calls.{AddsBlock, Closes, Copies, Grows, IsClasses, IsNew, Joins, Knows, KnowsFirst};
+ghost use Rattle.pv_classes.specs.Forms.{AreFirst, AreMembers, IsClassWith};
+ghost use Rattle.pv_classes.specs.Calls.{AddsBlock, CanRestore, Closes, Copies, Grows, IsClasses, IsNew, IsSaved, Joins, Knows, KnowsFirst, Restores};
 
 use crate::block::{Block, copy_blocks};
 use crate::closing;
 use crate::congruence::{Congruence, join_nodes};
+use crate::forms::{first_keys, node_with};
 use crate::join::{Join, Reason, copy_joins};
 use crate::known::{empty_congruence, learn};
-use pv_graph::{Graph, NodeId};
+use pv_graph::{Graph, NodeId, Op};
 use pv_value::Memory;
 use std::alloc::Global;
 use std::marker::Model;
@@ -43,6 +46,23 @@ impl Model for Classes {
     ghost view = { λ c. calls.classes_of (index_of c.congruence) c.joins.items c.blocks.items };
 
     ghost invariant = { λ c. AreJoined c.congruence.parts c.joins.items };
+}
+
+/// Classes as they were saved, without their joins and blocks.
+#[derive(Drop)]
+pub struct Saved {
+    congruence: Congruence,
+    joins: usize,
+    blocks: usize,
+}
+
+impl Model for Saved {
+    ghost use Rattle.pv_classes.specs.Calls as calls;
+    ghost use Rattle.pv_classes.specs.Congruence.{index_of};
+
+    ghost Value = { calls.Saved };
+
+    ghost view = { λ s. record { index = index_of s.congruence; joins = s.joins; blocks = s.blocks } };
 }
 
 impl Classes {
@@ -89,6 +109,50 @@ impl Classes {
         ensures { IsTrue result ↔ AreOne self.now.numbers a b }
     {
         self.of(a) == self.of(b)
+    }
+
+    /// The numbers of all nodes' classes, by node.
+    pub fn numbers(&self, alloc: Global) -> Result<Vec<NodeId>, Memory>
+        ensures { IfOk result (λ numbers. numbers.items ≡ self.now.numbers) }
+    {
+        self.congruence.parts.numbers(alloc)
+    }
+
+    /// The nodes of a node's class: one of them, and the others, in no order.
+    pub fn members(&self, n: NodeId) -> (NodeId, &[NodeId])
+        requires { n < length self.now.numbers }
+        ensures { AreMembers self.now.numbers n result.0 result.1.now }
+    {
+        self.congruence.parts.members(n)
+    }
+
+    /// The number of a class with a node of this operation whose kids are, place by place, in the classes of
+    /// these nodes, if there is one. It is found by one look-up, and by a look at the nodes that wait. After a
+    /// closing with no fixed depth none waits, and such nodes are in one class.
+    pub fn class_with(
+        &self,
+        alloc: Global,
+        g: &Graph,
+        op: &Op,
+        over: &[NodeId],
+    ) -> Result<Option<NodeId>, Memory>
+        requires knows { Knows g.now.nodes self.now }
+        requires over { All (λ k. k < length self.now.numbers) over.now }
+        ensures { IfOk result (λ found. IsClassWith g.now.nodes self.now.numbers op.now over.now found) }
+    {
+        match node_with(alloc, g, &self.congruence, op, over)? {
+            Some(n) => Ok(Some(self.congruence.parts.number(n))),
+            None => Ok(None),
+        }
+    }
+
+    /// For each node whether it is the first of its form, which is its operation over the classes of its kids. Two
+    /// nodes of one form match the same patterns. It takes a key of each node.
+    pub fn first_of_forms(&self, alloc: Global, g: &Graph) -> Result<Vec<bool>, Memory>
+        requires { Knows g.now.nodes self.now }
+        ensures { IfOk result (λ firsts. AreFirst g.now.nodes self.now.numbers firsts.items) }
+    {
+        first_keys(alloc, g, &self.congruence.parts)
     }
 
     /// All joins so far, those of `close` included, the oldest first.
@@ -147,7 +211,7 @@ impl Classes {
         closing::close(alloc, g, fixed, &mut self.congruence, &mut self.joins)
     }
 
-    /// Equal classes, with the same joins and blocks.
+    /// Equal classes, with the same joins and blocks, which are copied. Where the copy is let go again, `save` costs less.
     pub fn copy(&self, alloc: Global) -> Result<Classes, Memory>
         ensures { IfOk result (λ copy. Copies self.now copy) }
     {
@@ -156,6 +220,41 @@ impl Classes {
             joins: copy_joins(alloc, &self.joins)?,
             blocks: copy_blocks(alloc, &self.blocks)?,
         })
+    }
+
+    /// Saves the classes, all but the joins and blocks, and goes on with equal ones, which share the index. So what is
+    /// joined from here on can be taken back by `restore`. It costs no more where there are many joins.
+    pub fn save(&mut self, alloc: Global) -> Result<Saved, Memory>
+        ensures saved { IfOk result (λ saved. IsSaved self.old saved) }
+        ensures same { OnOk result (Copies self.old self.new) }
+    {
+        let copy = self.congruence.copy(alloc)?;
+        let congruence = std::mem::replace(&mut self.congruence, copy);
+        Ok(Saved {
+            congruence,
+            joins: self.joins.len(),
+            blocks: self.blocks.len(),
+        })
+    }
+
+    /// Goes back to classes that were saved before, and gives the joins and the blocks since then.
+    pub fn restore(
+        &mut self,
+        alloc: Global,
+        saved: Saved,
+    ) -> Result<(Vec<Join>, Vec<Block>), Memory>
+        requires { CanRestore saved self.old }
+        ensures { IfOk result (λ more. Restores saved self.old self.new more.0.items more.1.items) }
+    {
+        let Saved {
+            congruence,
+            joins,
+            blocks,
+        } = saved;
+        let blocks = self.blocks.split_off(blocks)?;
+        let joins = self.joins.split_off(joins)?;
+        self.congruence = congruence;
+        Ok((joins, blocks))
     }
 
     /// Puts a block after the others, and gives its number, which counts from 0.

@@ -5,7 +5,7 @@ ghost use Rattle.std.specs.List.{All, Contains};
 ghost use Rattle.pv_graph.specs.declared.node.Node.{Node};
 ghost use Rattle.pv_classes.specs.Partition.{Parts};
 ghost use Rattle.pv_classes.specs.Closest.{IsOutside};
-ghost use Rattle.pv_classes.specs.Index.{Advances, AreJoined, Inserts, IsCopy, IsIndex, IsOutsideAt, IsTracked, JoinsNodes, Notes, first_of, found_in, key_of, labels_of};
+ghost use Rattle.pv_classes.specs.Index.{Advances, AreJoined, Inserts, IsCopy, IsIndex, IsOutsideAt, IsTracked, JoinsNodes, Notes, first_of, found_by, found_in, key_of, labels_of};
 ghost use Rattle.pv_classes.specs.Congruence.{index_of, index_with};
 
 use crate::join::{Join, Reason};
@@ -52,6 +52,16 @@ impl Congruence {
             by_own: Vec::new(alloc),
         })
     }
+
+    // The node that the tables have for a key.
+    pub(crate) fn get(&self, key: &Node) -> Option<NodeId>
+        ensures { result ≡ found_by (index_of self.now) key.now }
+    {
+        match self.own.get(key) {
+            Some(n) => Some(n),
+            None => self.known.table.get(key),
+        }
+    }
 }
 
 // Puts the parents of these nodes with those that wait.
@@ -84,7 +94,7 @@ pub(crate) fn join_nodes(
 }
 
 // The labels of these nodes.
-fn labels_of(alloc: Global, parts: &Partition, nodes: &[NodeId]) -> Result<Kids, Memory>
+pub(crate) fn labels_of(alloc: Global, parts: &Partition, nodes: &[NodeId]) -> Result<Kids, Memory>
     requires { All (λ k. k < length parts.now.labels) nodes.now }
     ensures { IfOk result (λ labels. labels ≡ labels_of parts.now.labels nodes.now) }
 {
@@ -96,7 +106,7 @@ fn labels_of(alloc: Global, parts: &Partition, nodes: &[NodeId]) -> Result<Kids,
 }
 
 // The key of a node: its operation over the labels of its kids.
-fn key_of(alloc: Global, parts: &Partition, node: &Node) -> Result<Node, Memory>
+pub(crate) fn key_of(alloc: Global, parts: &Partition, node: &Node) -> Result<Node, Memory>
     requires { All (λ k. k < length parts.now.labels) node.now.kids }
     ensures { IfOk result (λ key. key ≡ key_of parts.now.labels node.now) }
 {

@@ -56,7 +56,7 @@ impl Join {
 }
 
 /// Copies of joins.
-pub fn copy_joins(alloc: Global, joins: &[Join]) -> Result<Vec<Join>, Memory>
+pub(crate) fn copy_joins(alloc: Global, joins: &[Join]) -> Result<Vec<Join>, Memory>
     ensures { IfOk result (λ copies. copies.items ≡ joins.now) }
 {
     let mut copies = Vec::new(alloc);

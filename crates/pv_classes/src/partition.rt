@@ -1,7 +1,8 @@
 //! A partition of nodes, each part with a label and with its least node.
 
-ghost use Rattle.std.specs.Prelude.{◌≡◌, ◌≢◌, ◌<◌, ℕ, [], length, IfOk, OnOk, OnErr, vec_len};
+ghost use Rattle.std.specs.Prelude.{◌≡◌, ◌≢◌, ◌<◌, ℕ, [], length, map, IfOk, OnOk, OnErr, vec_len};
 ghost use Rattle.std.specs.List.{All, Contains};
+ghost use Rattle.pv_classes.specs.Forms.{AreMembers};
 ghost use Rattle.pv_classes.specs.Partition.{at, parts_of, IsKept, IsPartition, Absorbs, Merges, HasOneMore};
 
 use crate::lists::Lists;
@@ -101,6 +102,18 @@ fn push_node(
     Ok(())
 }
 
+// For each node the least node of its label.
+fn numbers_of(alloc: Global, labels: &[NodeId], least: &[NodeId]) -> Result<Vec<NodeId>, Memory>
+    requires { All (λ l. l < length least.now) labels.now }
+    ensures { IfOk result (λ numbers. numbers.items ≡ map (at least.now) labels.now) }
+{
+    let mut numbers = Vec::new(alloc);
+    for label in labels {
+        numbers.push(least[*label as usize])?;
+    }
+    Ok(numbers)
+}
+
 impl Partition {
     // No node.
     pub(crate) fn new(alloc: Global) -> Partition
@@ -136,6 +149,22 @@ impl Partition {
         ensures { result ≡ at self.now.numbers n }
     {
         self.least[self.labels[n as usize] as usize]
+    }
+
+    // The numbers of all nodes' parts.
+    pub(crate) fn numbers(&self, alloc: Global) -> Result<Vec<NodeId>, Memory>
+        ensures { IfOk result (λ numbers. numbers.items ≡ self.now.numbers) }
+    {
+        numbers_of(alloc, &self.labels, &self.least)
+    }
+
+    // The nodes of a node's part: its label, and the others.
+    pub(crate) fn members(&self, n: NodeId) -> (NodeId, &[NodeId])
+        requires { n < length self.now.labels }
+        ensures { AreMembers self.now.labels n result.0 result.1.now }
+    {
+        let label = self.labels[n as usize];
+        (label, self.others.at(label))
     }
 
     // One node more, which is a part of its own.

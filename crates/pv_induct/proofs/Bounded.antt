@@ -13,7 +13,7 @@ use Rattle.pv_classes.specs.Linked.{Linked}
 use Rattle.pv_classes.specs.Calls.{Classes, IsClasses, Knows}
 use Rattle.pv_classes.proofs.Cited.{grounds_sorts, all_named_pairs}
 use Rattle.pv_induct.specs.Joined.{Open, Joined}
-use Rattle.pv_induct.specs.Levels.{NoAxiom, IsCoarser, IsFrom}
+use Rattle.pv_induct.specs.Levels.{NoAxiom, IsCoarser}
 use Rattle.pv_induct.specs.Parts.{IsLevelClosed}
 use Rattle.pv_induct.specs.Inducts.{OneClass, Inducts}
 use Rattle.pv_induct.proofs.Nest.{joined-more}
@@ -134,9 +134,6 @@ same-numbers old new was is long coarser e = same-all new.numbers old.numbers lo
         omega arith
 
 -- ---- the whole
-
-pub none-from : IsFrom [] 1
-none-from = record { least = omega arith; up = λ d l h. l; down = λ d l e m. absurd m }
 
 pub inducts : (g : Graph) → IsGraph g → (old new : Classes) (found : Bool) → IsClasses old → Knows g.nodes old → IsLevelClosed g.nodes [] 0 old new → (found ≡ true → length new.joins ≢ length old.joins) → (found ≡ false → length new.joins ≡ length old.joins)
     → Inducts g.nodes old new found

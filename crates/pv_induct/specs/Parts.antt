@@ -1,11 +1,12 @@
 -- Parts of the thetas of a depth. A part is told by the place of its first theta.
-use Rattle.std.specs.Prelude.{◌≡◌, ◌⊎◌, Bool, true, false, ℕ, suc, ◌+◌, ◌-◌, ◌<◌, ◌≤◌, List, [], ◌∷◌, ◌++◌, length, Option, Some, None, slice_get}
+use Rattle.std.specs.Prelude.{◌≡◌, ◌⊎◌, Bool, true, false, ℕ, suc, ◌+◌, ◌-◌, ◌<◌, ◌≤◌, List, [], ◌∷◌, ◌++◌, length, drop, Option, Some, None, slice_get}
 use Rattle.pv_graph.specs.declared.node.Op.TheVariants as op
 use Rattle.pv_graph.specs.declared.node.Node.{Node}
 use Rattle.pv_graph.specs.Walks.{In}
 use Rattle.pv_classes.specs.declared.join.Join.{Join}
 use Rattle.pv_classes.specs.declared.join.Reason.{Reason}
 use Rattle.pv_classes.specs.declared.join.Reason.TheVariants as reason
+use Rattle.pv_classes.specs.Blocks.{Block}
 use Rattle.pv_classes.specs.Partition.{at, AreOne, total}
 use Rattle.pv_classes.specs.Closest.{Is}
 use Rattle.pv_classes.specs.Calls.{Classes, IsClasses, Knows}
@@ -87,7 +88,7 @@ abbrev pub PartsHold : List Node → List ℕ → List ℕ → ℕ → List Thet
 PartsHold nodes fixed numbers d ts parts = (P : List (ℕ × ℕ)) → IsInduction nodes fixed d P (AreOne numbers) (Joined nodes (d ∷ fixed) (With (AreOne numbers) P) [])
     → (i j : ℕ) (s t : Theta) → slice_get ts i ≡ Some s → slice_get ts j ≡ Some t → In P (s.node, t.node) → at parts i ≡ at parts j
 
--- the classes inside an induction: a copy with the pairs joined, and what may be joined then
+-- the classes inside an induction: the pairs are joined, and what may be joined then
 pub record IsInside (nodes : List Node) (fixed : List ℕ) (d : ℕ) (pairs : List (ℕ × ℕ)) (outside inside : Classes) : Type 0 where
   pub mid : Classes
   pub begun : AllJoined outside mid pairs pairs None
@@ -110,6 +111,14 @@ pub record IsJoinedInduction (nodes : List Node) (fixed : List ℕ) (d : ℕ) (p
   pub each : (x y : ℕ) → In pairs (x, y) → (s : Theta) × (t : Theta) × (s.node ≡ x) × (t.node ≡ y) × Is nodes x (op.Theta d) (s.first ∷ s.second ∷ []) × Is nodes y (op.Theta d) (t.first ∷ t.second ∷ [])
       × AreOne outside.numbers s.first t.first × AreOne inside.numbers s.second t.second
   pub joined_ : (a b : ℕ) → In pairs (a, b) → Joined nodes fixed (AreOne outside.numbers) [] a b
+
+-- the joins and blocks inside an induction, for its block
+pub record IsBlock (nodes : List Node) (fixed : List ℕ) (d : ℕ) (pairs : List (ℕ × ℕ)) (outside : Classes) (joins : List Join) (blocks : List Block) : Type 0 where
+  pub inner : Classes
+  pub inside : IsInside nodes fixed d pairs outside inner
+  pub induction : IsJoinedInduction nodes fixed d pairs outside inner
+  pub joins_are : joins ≡ drop (length outside.joins) inner.joins
+  pub blocks_are : blocks ≡ drop (length outside.blocks) inner.blocks
 
 -- the pairs were joined, and the classes closed
 pub record IsFinished (nodes : List Node) (fixed : List ℕ) (first : ℕ) (pairs : List (ℕ × ℕ)) (old new : Classes) : Type 0 where

@@ -7,15 +7,15 @@ ghost use Rattle.std.specs.Prelude.{◌≡◌, ◌≢◌, ◌<◌, ◌≤◌, �
 ghost use Rattle.pv_graph.specs.declared.node.Node.{Node};
 ghost use Rattle.pv_graph.specs.Graphs.{Graph, IsGraph};
 ghost use Rattle.pv_graph.specs.Walks.{In};
-ghost use Rattle.pv_classes.specs.Calls.{Classes, IsClasses, Knows};
+ghost use Rattle.pv_classes.specs.Calls.{Classes, IsClasses, IsSaved, Knows};
 ghost use Rattle.pv_induct.specs.Levels.{IsAbove, IsClosed, IsFrom, IsGrown};
-ghost use Rattle.pv_induct.specs.Parts.{AllJoined, ArePairs, InductEnds, IsFinished, IsInside, IsJoinedInduction, IsLevelClosed, PassEnds, reason_of};
+ghost use Rattle.pv_induct.specs.Parts.{AllJoined, ArePairs, InductEnds, IsBlock, IsFinished, IsInside, IsLevelClosed, PassEnds, reason_of};
 ghost use Rattle.pv_induct.specs.Thetas.{AreAll};
 
 use crate::first::{are_same, first_places};
 use crate::part::{first_keys, next_keys, pairs_apart};
 use crate::theta::{Theta, thetas_of_depth};
-use pv_classes::{Block, Classes, Reason, copy_blocks, copy_joins};
+use pv_classes::{Block, Classes, Join, Reason, Saved};
 use pv_graph::{Graph, NodeId};
 use pv_value::Memory;
 use std::alloc::Global;
@@ -69,44 +69,37 @@ fn with_depth(alloc: Global, depth: u32, fixed: &[u32]) -> Result<Vec<u32>, Memo
     Ok(more)
 }
 
-// The classes inside an induction over a depth with these pairs: a copy in which the pairs are joined, and
-// then all that may be joined there.
+// Goes inside an induction over a depth with these pairs: joins them, and then all that may be joined there. Gives
+// the classes outside, as they were saved.
 #[cycle(levels)]
-fn classes_inside(
+fn go_inside(
     alloc: Global,
     g: &Graph,
     thetas: &[Theta],
-    c: &Classes,
+    c: &mut Classes,
     fixed: &[u32],
     depth: u32,
     pairs: &[(NodeId, NodeId)],
-) -> Result<Classes, Memory>
+) -> Result<Saved, Memory>
     requires graph { IsGraph g.now }
     requires all { AreAll g.now.nodes thetas.now }
-    requires classes { IsClasses c.now }
-    requires knows { Knows g.now.nodes c.now }
+    requires classes { IsClasses c.old }
+    requires knows { Knows g.now.nodes c.old }
     requires above { IsAbove fixed.now depth }
     requires deep { depth < MOST_DEPTH + 1 }
-    requires pairs { ArePairs (length c.now.numbers) pairs.now }
-    ensures { IfOk result (λ inner. IsInside g.now.nodes fixed.now depth pairs.now c.now inner) }
+    requires pairs { ArePairs (length c.old.numbers) pairs.now }
+    ensures outside { IfOk result (λ outside. IsSaved c.old outside) }
+    ensures inside { OnOk result (IsInside g.now.nodes fixed.now depth pairs.now c.old c.new) }
 {
     let more = with_depth(alloc, depth, fixed)?;
-    let mut inner = c.copy(alloc)?;
-    join_all(alloc, &mut inner, pairs, None)?;
-    close_level(
-        alloc,
-        g,
-        thetas,
-        &mut inner,
-        &more,
-        depth + 1,
-        c.blocks().len(),
-    )?;
-    Ok(inner)
+    let blocks = c.blocks().len();
+    let outside = c.save(alloc)?;
+    join_all(alloc, c, pairs, None)?;
+    close_level(alloc, g, thetas, c, &more, depth + 1, blocks)?;
+    Ok(outside)
 }
 
-// Joins the pairs of an induction, and closes. Its block has what the inner classes joined beyond the outer
-// ones.
+// Joins the pairs of an induction, and closes. Its block has these joins and blocks, which are those inside it.
 fn join_induction(
     alloc: Global,
     g: &Graph,
@@ -115,7 +108,8 @@ fn join_induction(
     depth: u32,
     first: usize,
     pairs: Vec<(NodeId, NodeId)>,
-    inner: &Classes,
+    joins: Vec<Join>,
+    blocks: Vec<Block>,
 ) -> Result<(), Memory>
     requires graph { IsGraph g.now }
     requires classes { IsClasses c.old }
@@ -123,12 +117,9 @@ fn join_induction(
     requires first { first ≤ length c.old.blocks }
     requires pairs { ArePairs (length c.old.numbers) pairs.items }
     requires some { pairs.items ≢ [] }
-    requires inside { IsInside g.now.nodes fixed.now depth pairs.items c.old inner.now }
-    requires induction { IsJoinedInduction g.now.nodes fixed.now depth pairs.items c.old inner.now }
+    requires block { IsBlock g.now.nodes fixed.now depth pairs.items c.old joins.items blocks.items }
     ensures { OnOk result (IsFinished g.now.nodes fixed.now first pairs.items c.old c.new) }
 {
-    let joins = copy_joins(alloc, &inner.joins()[c.joins().len()..])?;
-    let blocks = copy_blocks(alloc, &inner.blocks()[c.blocks().len()..])?;
     let copy = Vec::from_slice(alloc, &pairs)?;
     let number = c.add_block(Block::new(depth, copy, joins, blocks))?;
     join_all(alloc, c, &pairs, Some((number as usize - first) as u32))?;
@@ -169,10 +160,11 @@ fn induct_at(
         if pairs.is_empty() {
             return Ok(false);
         }
-        let inner = classes_inside(alloc, g, thetas, c, fixed, depth, &pairs)?;
-        let next = first_places(alloc, &next_keys(alloc, &inner, here, now)?)?;
+        let outside = go_inside(alloc, g, thetas, c, fixed, depth, &pairs)?;
+        let next = first_places(alloc, &next_keys(alloc, c, here, now)?)?;
+        let (joins, blocks) = c.restore(alloc, outside)?;
         if are_same(&next, now) {
-            join_induction(alloc, g, c, fixed, depth, first, pairs, &inner)?;
+            join_induction(alloc, g, c, fixed, depth, first, pairs, joins, blocks)?;
             return Ok(true);
         }
         parts = next;

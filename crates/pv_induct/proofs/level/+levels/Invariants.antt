@@ -7,8 +7,8 @@ use Rattle.pv_induct.proofs.level.+levels.Given as goal
 abbrev pub decreases-induct_at : goal.decreases-induct_at
 decreases-induct_at l = 4 * (17 - l.depth) + 1
 
-abbrev pub decreases-classes_inside : goal.decreases-classes_inside
-decreases-classes_inside l = 4 * (17 - l.depth)
+abbrev pub decreases-go_inside : goal.decreases-go_inside
+decreases-go_inside l = 4 * (17 - l.depth)
 
 abbrev pub decreases-pass : goal.decreases-pass
 decreases-pass l = 4 * (17 - l.from) + 2

@@ -1,5 +1,5 @@
 -- What is found by class numbers is what `matches` answers.
-use Rattle.std.proofs.Common.{◌≡◌, ◌⊎◌, ℕ, zero, suc, ◌<◌, ◌≤◌, List, [], ◌∷◌, ◌++◌, length, flat_map, Some, slice_get, inl, inr, refl, sym, ap, ap₂, ◌∙◌, subst, arith}
+use Rattle.std.proofs.Common.{◌≡◌, ◌⊎◌, ℕ, zero, suc, ◌<◌, List, [], ◌∷◌, Some, slice_get, inl, inr, refl, sym, ap, ◌∙◌, subst, arith}
 use Rattle.std.specs.List.{AllZip}
 use Rattle.std.specs.List.Sorted.{IsStrictlySortedBy}
 use Rattle.std.specs.declared.cmp.Ordering.{Ordering}
@@ -21,7 +21,6 @@ use Rattle.pv_heights.specs.Searches as searches
 use Rattle.pv_heights.proofs.Zips.{zip_join, zip_length}
 use Rattle.pv_heights.proofs.Sides.{zip_left, zip_right}
 use Rattle.pv_match.specs.declared.found.Match.{Match}
-use Rattle.pv_match.specs.declared.found.Param.{Param}
 use Rattle.pv_match.specs.declared.found.Matches as answers
 use Rattle.pv_match.specs.declared.found.Matches.TheVariants.{All, More}
 use Rattle.pv_match.specs.declared.members.Group.{Group}
@@ -32,7 +31,7 @@ use Rattle.pv_match.specs.All.{AreMatchesOf}
 use Rattle.pv_match.specs.Orders.{match_cmp, AreOne}
 use Rattle.pv_match.specs.Rules.{AreRules, AreItems}
 use Rattle.pv_match.specs.Gathering.{IsFound}
-use Rattle.pv_match.specs.AllMatches.{Shows, AreAllMatches, IsAnswer}
+use Rattle.pv_match.specs.AllMatches.{Shows, IsAnswer}
 use Rattle.pv_match.specs.Agreeing.{AreLeast, Found, IsFoundMatch, AreSomeFound, AreFound}
 use Rattle.pv_match.proofs.Numbered.{all_at}
 use Rattle.pv_match.proofs.Ordered.{ordered}

@@ -23,7 +23,7 @@ use Rattle.pv_match.specs.Bindings.{head_number, with_number}
 use Rattle.pv_match.specs.Finishing.{AreMatchesAt}
 use Rattle.pv_match.specs.Reading.{AreReadable}
 use Rattle.pv_match.specs.All.{AreMatchesWhere, AreMatchesOf}
-use Rattle.pv_match.specs.Orders.{match_cmp, AreOne}
+use Rattle.pv_match.specs.Orders.{match_cmp}
 use Rattle.pv_match.specs.Rules.{AreRules, AreItems}
 use Rattle.pv_match.specs.Gathering.{HasOne, GathersSome, GathersAll, IsGathering, IsTried, TriedAt, AreTooMany}
 use Rattle.pv_match.proofs.Adding.{in_left, in_right, in_both}

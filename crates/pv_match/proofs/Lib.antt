@@ -25,3 +25,5 @@ pub mod Full
 pub mod Decoded
 pub mod Agreed
 pub mod Answering
+-- What other crates cite.
+pub mod Cited

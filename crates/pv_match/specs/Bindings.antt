@@ -1,8 +1,7 @@
 -- How the matches of a left side are found: bindings, each of which says for some names at which node they are
 -- shown, and for the first variables in which class they stand.
-use Rattle.std.specs.Prelude.{◌≡◌, ◌⊎◌, ◌↔◌, ℕ, ◌+◌, true, List, [], ◌∷◌, map, length, Option, Some, None, slice_get, if◌then◌else◌, nat_lt, nat_eq, Vec}
+use Rattle.std.specs.Prelude.{◌≡◌, ◌⊎◌, ◌↔◌, ℕ, true, List, [], ◌∷◌, map, length, Option, Some, None, slice_get, if◌then◌else◌, nat_eq, Vec}
 use Rattle.std.specs.declared.alloc.Global.{Global}
-use Rattle.pv_value.specs.Spelled.{bind}
 use Rattle.pv_value.specs.declared.name.Sym.{Sym}
 use Rattle.pv_value.specs.declared.heap.Kind as kinds
 use Rattle.pv_graph.specs.declared.node.Op.{Op}
@@ -12,10 +11,10 @@ use Rattle.pv_graph.specs.Walks.{In}
 use Rattle.pv_graph.specs.Graphs.{Graph, form_at}
 use Rattle.pv_pattern.specs.declared.names.NameId.{NameId}
 use Rattle.pv_pattern.specs.declared.names.NameId.TheVariants.{Depth, Symbol, Kind, Constant, Operation}
-use Rattle.pv_pattern.specs.Patterns.{Head, fixed, theta_d, eval_d, pass_d, shift_d, getstatic, putstatic, getfield, putfield, load, store, bare, Pattern, var, constant, fold, narrowed, over, over_each, Patterns, none, first, Axiom, variables}
+use Rattle.pv_pattern.specs.Patterns.{Head, fixed, theta_d, eval_d, pass_d, shift_d, getstatic, putstatic, getfield, putfield, load, store, Pattern, Patterns, Axiom, variables}
 use Rattle.pv_pattern.specs.Numbers.{op_number}
 use Rattle.pv_pattern.specs.Instances.{Names, head_op, constant_of}
-use Rattle.pv_pattern.specs.Binding.{names, listed_name, BindsItsNames}
+use Rattle.pv_pattern.specs.Binding.{names, listed_name}
 use Rattle.pv_pattern.specs.Found.{head_name}
 use Rattle.pv_marks.specs.Classes.{class_of, HasForm}
 use Rattle.pv_match.specs.declared.binding.Named.{Named}

@@ -1,22 +1,14 @@
 -- Matches: an axiom, its parameters, and a class for each kid of its family and each variable, over which its
 -- left side stands and its conditions hold.
-use Rattle.std.specs.Prelude.{◌≡◌, ℕ, Bool, false, ◌||◌, List, [], ◌∷◌, ◌++◌, map, length, Some, slice_get, flat_map, if◌then◌else◌}
+use Rattle.std.specs.Prelude.{◌≡◌, ℕ, false, List, [], ◌++◌, map, length, Some, slice_get}
 use Rattle.std.specs.List.{AllByRecursion}
-use Rattle.pv_value.specs.declared.number.Num.{Num}
-use Rattle.pv_value.specs.declared.number.Num.TheVariants as num
-use Rattle.pv_graph.specs.declared.node.Op.{Op}
-use Rattle.pv_graph.specs.declared.node.Op.TheVariants as op
 use Rattle.pv_graph.specs.Forms.{form}
 use Rattle.pv_graph.specs.Graphs.{Graph, form_at}
-use Rattle.pv_pattern.specs.declared.names.NameId.{NameId}
-use Rattle.pv_pattern.specs.declared.names.NameId.TheVariants.{Depth, Symbol, Kind, Constant, Operation}
 use Rattle.pv_pattern.specs.Patterns.{Pattern, over, Side, settled, not_free, Axiom, variables, is_family}
 use Rattle.pv_pattern.specs.Instances.{Names, head_op}
-use Rattle.pv_pattern.specs.Binding.{names}
-use Rattle.pv_pattern.specs.Found.{same_name, Differs}
+use Rattle.pv_pattern.specs.Found.{Differs}
 use Rattle.pv_marks.specs.Classes.{class_of, ClassHas, settled as is_settled, unfree}
 use Rattle.pv_match.specs.declared.found.Param.{Param}
-use Rattle.pv_match.specs.declared.found.Param.TheVariants as param
 use Rattle.pv_match.specs.Parameters.{params_of}
 use Rattle.pv_match.specs.Standing.{StandsIn, AllStandIn}
 

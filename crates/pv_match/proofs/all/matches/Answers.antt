@@ -1,7 +1,5 @@
-use Rattle.std.proofs.Common.{◌≡◌, ◌<◌, ◌≤◌, ℕ, List, length, map, sym, ◌∙◌, subst, arith}
-use Rattle.pv_graph.specs.Graphs.{Graph}
+use Rattle.std.proofs.Common.{◌≡◌, ◌<◌, ℕ, List, map, sym, ◌∙◌, subst}
 use Rattle.pv_pattern.specs.Seen.{axiom_seen}
-use Rattle.pv_classes.specs.Calls.{Classes, IsClasses}
 use Rattle.pv_marks.specs.Marks.{AreClassMarks}
 use Rattle.pv_match.specs.declared.members.Group.{Group}
 use Rattle.pv_match.specs.Bindings.{IsMembers}

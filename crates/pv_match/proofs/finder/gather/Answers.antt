@@ -1,4 +1,4 @@
-use Rattle.std.proofs.Common.{◌≡◌, ◌+◌, ℕ, List, [], ◌∷◌, length, refl, sym, ◌∙◌, subst, arith}
+use Rattle.std.proofs.Common.{◌≡◌, List, [], ◌∷◌, length, refl, sym, ◌∙◌, subst, arith}
 use Rattle.pv_match.specs.declared.found.Match.{Match}
 use Rattle.pv_match.specs.Gathering.{IsGathering}
 use Rattle.pv_match.proofs.Gathers.{gathering_begins, gathering_more, gathering_ends, one_past}

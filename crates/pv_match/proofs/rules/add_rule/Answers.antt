@@ -1,7 +1,7 @@
-use Rattle.std.proofs.Common.{rules, ◌≡◌, ℕ, List, map, sym, ap, ◌∙◌, subst}
+use Rattle.std.proofs.Common.{rules, ◌≡◌, ℕ, map, ◌∙◌, subst}
 use Rattle.pv_graph.specs.Walks.{In}
 use Rattle.pv_pattern.specs.declared.pattern.Pattern.{the_lemmas}
-use Rattle.pv_pattern.specs.Patterns.{Head, Pattern, Patterns, over}
+use Rattle.pv_pattern.specs.Patterns.{Head, Patterns, over}
 use Rattle.pv_pattern.specs.Seen.{head_seen, listed, seen}
 use Rattle.pv_match.specs.Bindings.{head_number, with_number}
 use Rattle.pv_match.specs.Grouping.{Gains}

@@ -1,4 +1,4 @@
-use Rattle.std.proofs.Common.{◌≡◌, ℕ, List, inl, inr, sym, subst}
+use Rattle.std.proofs.Common.{ℕ, inl, inr, subst}
 use Rattle.pv_graph.specs.Walks.{In}
 use Rattle.pv_pattern.specs.Numbers.{op_number}
 use Rattle.pv_match.specs.Bindings.{with_number}

@@ -1,8 +1,8 @@
-use Rattle.std.proofs.Common.{◌≡◌, ◌<◌, ℕ, List, map, Some, slice_get, option_map, length, inl, inr, refl, sym, ap, ◌∙◌, subst, arith}
+use Rattle.std.proofs.Common.{◌≡◌, ℕ, map, Some, slice_get, option_map, length, inl, inr, refl, sym, ap, ◌∙◌, subst, arith}
 use Rattle.std.proofs.lemmas.Option.{slice_get-map, slice_get_read, slice_get_within, same_Some}
 use Rattle.std.proofs.lemmas.List.{length-map}
 use Rattle.pv_graph.specs.Walks.{In}
-use Rattle.pv_pattern.specs.Patterns.{Axiom, Pattern, over}
+use Rattle.pv_pattern.specs.Patterns.{Axiom}
 use Rattle.pv_pattern.specs.Seen.{axiom_seen}
 use Rattle.pv_match.specs.Bindings.{head_number, with_number}
 use Rattle.pv_match.proofs.Listing.{below_or_at}

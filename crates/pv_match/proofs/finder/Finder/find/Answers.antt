@@ -1,6 +1,5 @@
-use Rattle.std.proofs.Common.{◌≡◌, Bool, true, sym, ap, ◌∙◌, subst}
+use Rattle.std.proofs.Common.{◌≡◌, Bool, true, ◌∙◌, subst}
 use Rattle.std.specs.Bool.{OnTrue}
-use Rattle.pv_pattern.specs.Seen.{axiom_seen}
 use Rattle.pv_match.proofs.finder.Finder.find.Goals as goal
 
 on_true : (b : Bool) (P : Type 0) → b ≡ true → OnTrue b P → P

@@ -1,9 +1,9 @@
-use Rattle.std.proofs.Common.{◌≡◌, ℕ, List, map, take, take_all, subst, sym, ap, ◌∙◌}
+use Rattle.std.proofs.Common.{◌≡◌, ℕ, List, map, take_all, subst, ap, ◌∙◌}
 use Rattle.pv_pattern.specs.Numbers.{op_number}
 use Rattle.pv_pattern.specs.Seen.{axiom_seen}
 use Rattle.pv_match.specs.Bindings.{with_number}
 use Rattle.pv_match.specs.All.{AreMatchesWhere}
-use Rattle.pv_match.specs.Gathering.{TriedAt, IsTried}
+use Rattle.pv_match.specs.Gathering.{TriedAt}
 use Rattle.pv_match.proofs.Gathers.{nothing_at, tried_begin, tried_by, tried_end}
 use Rattle.pv_match.proofs.finder.Finder.find_at.Goals as goal
 

@@ -2,6 +2,7 @@
 
 use crate::{outside, runs};
 use cases_certs::{certs, sections};
+use cases_classes::classes as node_classes;
 use cases_files::pools::Asked;
 use cases_files::{classes, codes, pools};
 use cases_graphs::{axioms, bases, graphs, leasts, loops, trees};
@@ -47,6 +48,7 @@ pub fn answer<R: Files + Threads + Sync>(rt: &R, bench: &Bench, line: &str) -> A
         "graph" => graphs::graph(bench, rest),
         "base" => bases::base(bench, rest),
         "chain" => leasts::chain(bench, rest),
+        "classes" => node_classes::classes(bench, rest),
 
         "axioms" => axioms::axioms(bench),
         "axiom" => axioms::equation(bench, rest),

@@ -50,7 +50,7 @@ fn join_text(alloc: Global, join: &Join) -> Answer {
     })
 }
 
-// The blocks, one after the other, where at most so many stand one inside another.
+// The blocks, one after another, where at most `levels` stand one inside another.
 fn blocks_text(alloc: Global, blocks: &[Block], levels: u32) -> Answer {
     let mut text = String::new(alloc);
     for block in blocks {

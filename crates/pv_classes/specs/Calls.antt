@@ -104,7 +104,7 @@ pub record AddsBlock (old new : Classes) (b : Block) (n : ℕ) : Type 0 where
 
 -- ---- classes that are saved
 
--- classes without their joins and blocks, of which there were so many
+-- saved classes: their index, and how many joins and blocks there were
 pub record Saved : Type 0 where
   pub index : Index
   pub joins : ℕ

@@ -9,6 +9,7 @@ use Rattle.pv_graph.specs.Walks.{In}
 use Rattle.pv_graph.specs.Graphs.{Graph, form_at}
 use Rattle.pv_marks.specs.Classes.{class_of, HasForm, Passes, counted, NodeHas, settled}
 use Rattle.pv_marks.specs.Marks.{trait_of, HasBit}
+use Rattle.pv_marks.specs.Parents.{NodeLists}
 
 -- the mark has a bit where each of these classes has it
 abbrev pub AllHave : List ℕ → List ℕ → ℕ → Type 0
@@ -25,27 +26,8 @@ Yields marks o over mark = (q : ℕ) → q ≤ 16 → (bit_at mark q ≡ 1) ↔ 
 abbrev pub IsDepth : ℕ → Type 0
 IsDepth q = (1 ≤ q) × (q ≤ 16)
 
--- ---- nodes with a kid in a class
-
-abbrev pub Lists : Type 0
-Lists = List (Vec ℕ Global)
-
-abbrev pub IsListed : Lists → ℕ → ℕ → Type 0
-IsListed lists c n = (v : Vec ℕ Global) × (slice_get lists c ≡ Some v) × In v.items n
-
--- what was listed stays, and node n is listed at each of these classes
-pub record Enlists (old new : Lists) (n : ℕ) (over : List ℕ) : Type 0 where
-  pub kept : (c m : ℕ) → IsListed old c m → IsListed new c m
-  pub there : (c : ℕ) → In over c → IsListed new c n
-  pub only : (c m : ℕ) → IsListed new c m → IsListed old c m ⊎ (m ≡ n)
-
--- each node below the bound is listed at each class of its kids; nodes alone are listed
-pub record AreParents (g : Graph) (numbers : List ℕ) (bound : ℕ) (lists : Lists) : Type 0 where
-  pub has : (n : ℕ) (o : Op) (ks : List ℕ) → n < bound → form_at g.nodes n ≡ Some (form o ks) → (c : ℕ) → In (map (class_of numbers) ks) c → IsListed lists c n
-  pub within : (c n : ℕ) → IsListed lists c n → n < length g.nodes
-
 -- the length of the longest list
-abbrev pub longest : Lists → ℕ
+abbrev pub longest : NodeLists → ℕ
 longest [] = 0
 longest (v ∷ lists) = max (length v.items) (longest lists)
 

@@ -24,7 +24,8 @@ use Rattle.pv_heights.specs.Rounds as copy
 use Rattle.pv_heights.specs.Searches.{nodes, IsNode, OneClass}
 use Rattle.pv_instances.specs.Classes.{JoinedHaveOneSort}
 use Rattle.pv_instances.proofs.Cited.{form_kept, congruent}
-use Rattle.pv_witness.specs.Numbered.{AreNumbered, class_of, numbered}
+use Rattle.pv_marks.specs.Classes.{class_of}
+use Rattle.pv_witness.specs.Numbered.{AreNumbered, numbered}
 use Rattle.pv_witness.specs.Witnesses.{IsWitness}
 use Rattle.pv_witness.specs.Asked.{AsksOnce}
 use Rattle.pv_witness.proofs.Cited.{all_once, numbered_long, numbered_extends, one_class, get_first}

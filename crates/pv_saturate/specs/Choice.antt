@@ -15,7 +15,7 @@ use Rattle.pv_heights.specs.Filled.{number_op}
 use Rattle.pv_heights.specs.Sides.{Match, ClassHas}
 use Rattle.pv_heights.specs.Rounds.{ClassCopy}
 use Rattle.pv_heights.specs.Searches.{nodes, IsNode, OneClass}
-use Rattle.pv_witness.specs.Numbered.{class_of}
+use Rattle.pv_marks.specs.Classes.{class_of}
 use Rattle.pv_witness.specs.Witnesses.{IsWitness}
 use Rattle.pv_saturate.specs.declared.choice.Witnesses.{Witnesses}
 

@@ -10,7 +10,8 @@ ghost use Rattle.pv_instances.specs.Seen.{instance_seen};
 ghost use Rattle.pv_pattern.specs.Patterns.{not_free, settled};
 ghost use Rattle.pv_pattern.specs.Seen.{side_seen};
 ghost use Rattle.pv_pattern.specs.declared.names.NameId.TheVariants.{Constant};
-ghost use Rattle.pv_witness.specs.Numbered.{AreNumbered, class_of, numbered};
+ghost use Rattle.pv_marks.specs.Classes.{class_of};
+ghost use Rattle.pv_witness.specs.Numbered.{AreNumbered, numbered};
 ghost use Rattle.pv_saturate.specs.Choice.{AreChosenFor, AreNames, CanChoose, HasConstant, HasWitness, IsChosenFor, IsConstantNode};
 
 use pv_graph::{Graph, NodeId, Op};

@@ -13,7 +13,7 @@ use Rattle.pv_heights.specs.Conditions.{ClassNode, Settled, NotFree}
 use Rattle.pv_heights.specs.Searches.{nodes, IsNode, OneClass}
 use Rattle.pv_witness.specs.declared.condition.Condition.{Condition}
 use Rattle.pv_witness.specs.declared.condition.Condition.TheVariants as condition
-use Rattle.pv_witness.specs.Numbered.{class_of}
+use Rattle.pv_marks.specs.Classes.{class_of}
 use Rattle.pv_witness.specs.Conditions.{HoldsAt, HoldsOfClass, AreStarts}
 use Rattle.pv_witness.specs.Supports.{HandsOn, counted, Covers, AreAllSupports}
 

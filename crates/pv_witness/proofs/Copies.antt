@@ -12,7 +12,7 @@ use Rattle.pv_graph.specs.Graphs.{Graph, form_at, IsGraph, Extends}
 use Rattle.pv_graph.proofs.Cited.{found, form_there, node_at, kid_within, bind_some, sort_there}
 use Rattle.pv_witness.specs.declared.condition.Condition.{Condition}
 use Rattle.pv_witness.specs.declared.condition.Condition.TheVariants as condition
-use Rattle.pv_witness.specs.Numbered.{class_of}
+use Rattle.pv_marks.specs.Classes.{class_of}
 use Rattle.pv_witness.specs.Conditions.{HoldsOfNode}
 use Rattle.pv_heights.specs.Rounds.{Copy}
 use Rattle.pv_heights.specs.Rounds as copy

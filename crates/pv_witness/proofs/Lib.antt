@@ -1,6 +1,5 @@
--- 1. The nodes with class numbers, and the nodes with a kid in a class.
+-- 1. The nodes with class numbers.
 pub mod Numbering
-pub mod Listing
 -- 2. How supports are found, and that they cover each class of which the condition holds.
 pub mod Supporting
 pub mod Complete

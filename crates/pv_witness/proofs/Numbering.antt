@@ -1,6 +1,6 @@
 -- The nodes with class numbers are a graph, from which the whole one grew.
 use Rattle.std.specs.Prelude.{◌≡◌, ◌⊎◌, ℕ, zero, suc, ◌<◌, ◌≤◌, false, List, [], ◌∷◌, length, take, Some, slice_get, refl}
-use Rattle.std.proofs.Common.{inl, inr, sym, ◌∙◌, arith, true≢false}
+use Rattle.std.proofs.Common.{inl, inr, sym, ap, ◌∙◌, arith, true≢false}
 use Rattle.std.proofs.lemmas.List.{length-take-le}
 use Rattle.std.proofs.lemmas.Option.{slice_get_within, same_Some}
 use Rattle.pv_graph.specs.declared.node.Node.{Node}
@@ -8,7 +8,11 @@ use Rattle.pv_graph.specs.declared.node.OpSort.{OpSort}
 use Rattle.pv_graph.specs.Ops.{HaveSorts, HasSort}
 use Rattle.pv_graph.specs.Walks.{In}
 use Rattle.pv_graph.specs.Graphs.{Graph, IsGraph, Extends}
-use Rattle.pv_graph.proofs.Cited.{tied}
+use Rattle.pv_graph.specs.declared.node.Op.{Op}
+use Rattle.pv_graph.specs.Forms.{form}
+use Rattle.pv_graph.proofs.Cited.{tied, node_at, form_there}
+use Rattle.pv_marks.specs.Classes.{class_of}
+use Rattle.pv_marks.specs.Parents.{NodeLists, AreFirstNumbered, AreParents}
 use Rattle.pv_witness.specs.Numbered.{AreNumbered, numbered}
 
 -- ---- the first elements of a list
@@ -34,6 +38,16 @@ module _ (g : Graph) (numbers : List ℕ) (is : AreNumbered g numbers) where
   pub numbered_node : (n : ℕ) (node : Node) → n < length numbers → slice_get g.nodes n ≡ Some node → slice_get (numbered g numbers).nodes n ≡ Some node
   numbered_node n node lt e = get_first (length numbers) g.nodes n lt ∙ e
 
+-- those listed of the whole graph are those of its first nodes
+pub numbered_parents : (g : Graph) (numbers : List ℕ) (lists : NodeLists) → AreParents g numbers (length numbers) lists → AreParents (numbered g numbers) numbers (length numbers) lists
+numbered_parents g numbers lists is = record {
+  has = λ n o ks lt there c m.
+      let node = node_at (numbered g numbers).nodes n o ks there in
+      let form_is = form_there g.nodes n node.0 (of_first (length numbers) g.nodes n node.0 node.1) in
+      is.has n o ks lt (form_is ∙ ap (λ (p : Op). Some (form p node.0.kids)) node.2 ∙ ap (λ (zs : List ℕ). Some (form o zs)) node.3) c m;
+  within = is.within;
+}
+
 pub numbered_extends : (g : Graph) (numbers : List ℕ) → Extends (numbered g numbers) g
 numbered_extends g numbers = record { nodes = λ n node e. of_first (length numbers) g.nodes n node e; sorts = λ n s e. of_first (length numbers) g.sorts n s e }
 
@@ -53,6 +67,10 @@ module _ (g : Graph) (numbers : List ℕ) (is_graph : IsGraph g) (sealed : g.is_
     where
       low_or_high : (a b : ℕ) → (a < b) ⊎ (b ≤ a)
       low_or_high a b = grind arith
+
+  -- what is asked of the first nodes where those with a kid in a class are listed
+  pub first_numbered : AreFirstNumbered g numbers
+  first_numbered = record { few = is.few; within = is.within; kids = λ n k node lt e i. kids_numbered_too n k node lt e i }
 
   pub numbered_graph : IsGraph (numbered g numbers)
   numbered_graph = record {

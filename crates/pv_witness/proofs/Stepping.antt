@@ -11,7 +11,7 @@ use Rattle.pv_graph.specs.Walks.{In}
 use Rattle.pv_graph.specs.Graphs.{Graph, form_at, IsGraph, Extends}
 use Rattle.pv_graph.proofs.Cited.{equal_or_not, found, form_there, kid_within, in_cases, push_cases, set_length, set_other, set_same, sort_there, tied}
 use Rattle.pv_witness.specs.declared.condition.Condition.{Condition}
-use Rattle.pv_witness.specs.Numbered.{class_of}
+use Rattle.pv_marks.specs.Classes.{class_of}
 use Rattle.pv_witness.specs.Conditions.{HoldsOfNode}
 use Rattle.pv_heights.specs.Rounds as copy
 use Rattle.pv_heights.specs.Searches.{OneClass}

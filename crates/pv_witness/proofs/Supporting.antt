@@ -13,8 +13,8 @@ use Rattle.pv_graph.specs.Graphs.{Graph, form_of, IsGraph}
 use Rattle.pv_graph.proofs.Cited.{equal_or_not, form_there, in_cases, in_last, set_length, set_other, set_same, bind_some}
 use Rattle.pv_witness.specs.declared.condition.Condition.{Condition}
 use Rattle.pv_witness.specs.declared.condition.Condition.TheVariants as condition
-use Rattle.pv_witness.specs.Numbered.{class_of}
-use Rattle.pv_witness.specs.Parents.{NodeLists, IsListed, AreParents}
+use Rattle.pv_marks.specs.Classes.{class_of}
+use Rattle.pv_marks.specs.Parents.{NodeLists, IsListed, AreParents}
 use Rattle.pv_witness.specs.Supports.{HandsOn, counted, Covers, IsReady, IsSupport, AreSupports, none, more, AreAllSupports}
 use Rattle.pv_witness.specs.Found.{IsFound, IsReadyBy, Lists, Spreads, Begins, IsSwept}
 

@@ -3,7 +3,8 @@ use Rattle.std.specs.Prelude.{◌≡◌, ℕ, Bool, List, length, Option}
 use Rattle.std.proofs.Common.{inl, inr, sym, ◌∙◌, arith}
 use Rattle.pv_graph.specs.Graphs.{Graph}
 use Rattle.pv_witness.specs.declared.condition.Condition.{Condition}
-use Rattle.pv_witness.specs.Numbered.{AreNumbered, class_of, numbered}
+use Rattle.pv_marks.specs.Classes.{class_of}
+use Rattle.pv_witness.specs.Numbered.{AreNumbered, numbered}
 use Rattle.pv_witness.specs.Supports.{AreAllSupports}
 use Rattle.pv_witness.specs.Witnesses.{AreWitnesses}
 use Rattle.pv_witness.specs.Table.{AreWitnessed}

@@ -5,7 +5,7 @@ use Rattle.pv_graph.specs.Reach.{IsMarked, unmarked}
 use Rattle.pv_graph.specs.Graphs.{Graph}
 use Rattle.pv_graph.specs.declared.node.Node.{Node}
 use Rattle.pv_witness.specs.declared.condition.Condition.{Condition}
-use Rattle.pv_witness.specs.Numbered.{class_of}
+use Rattle.pv_marks.specs.Classes.{class_of}
 use Rattle.pv_witness.specs.Supports.{HandsOn, counted, Covers, IsReady, IsSupport, AreSupports}
 
 -- exactly the classes of the listed nodes are marked, one for each

@@ -4,7 +4,6 @@ pub mod Conditions
 pub mod Witnesses
 pub mod Asked
 -- what the functions of this crate do
-pub mod Parents
 pub mod Supports
 pub mod Found
 pub mod Table

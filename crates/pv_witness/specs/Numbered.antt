@@ -1,10 +1,7 @@
 -- Class numbers of the first nodes of a graph, which may have grown since its nodes got them.
-use Rattle.std.specs.Prelude.{ℕ, ◌<◌, ◌≤◌, List, length, slice_index, take}
+use Rattle.std.specs.Prelude.{ℕ, ◌<◌, ◌≤◌, List, length, take}
 use Rattle.pv_graph.specs.Graphs.{Graph}
-
--- the class number of a node
-abbrev pub class_of : List ℕ → ℕ → ℕ
-class_of numbers n = slice_index numbers n
+use Rattle.pv_marks.specs.Classes.{class_of}
 
 -- each of the first nodes has a class number, which is that of one of them, and the base is among them
 pub record AreNumbered (g : Graph) (numbers : List ℕ) : Type 0 where

@@ -8,7 +8,7 @@ use Rattle.pv_graph.specs.Reach.{IsMarked}
 use Rattle.pv_graph.specs.Graphs.{Graph, form_at}
 use Rattle.pv_witness.specs.declared.condition.Condition.{Condition}
 use Rattle.pv_witness.specs.declared.condition.Condition.TheVariants as condition
-use Rattle.pv_witness.specs.Numbered.{class_of}
+use Rattle.pv_marks.specs.Classes.{class_of}
 
 -- where the condition holds of the kids that count, it holds of a node with this operation
 abbrev pub HandsOn : Condition → Op → Type 0

@@ -8,7 +8,7 @@ use Rattle.pv_graph.specs.Calls.{Added, FitsOver}
 use Rattle.pv_graph.specs.Graphs.{Graph, Extends}
 use Rattle.pv_instances.specs.Made.{GrowsBy}
 use Rattle.pv_witness.specs.declared.condition.Condition.{Condition}
-use Rattle.pv_witness.specs.Numbered.{class_of}
+use Rattle.pv_marks.specs.Classes.{class_of}
 use Rattle.pv_witness.specs.Conditions.{HoldsOfNode}
 use Rattle.pv_witness.specs.Witnesses.{IsCopied, IsWitness}
 use Rattle.pv_witness.specs.Supports.{Covers}

@@ -6,7 +6,7 @@ use Rattle.pv_heights.specs.Rounds.{Copy}
 use Rattle.pv_heights.specs.Searches.{nodes, IsNode, OneClass}
 use Rattle.pv_instances.specs.Made.{GrowsBy}
 use Rattle.pv_witness.specs.declared.condition.Condition.{Condition}
-use Rattle.pv_witness.specs.Numbered.{class_of}
+use Rattle.pv_marks.specs.Classes.{class_of}
 use Rattle.pv_witness.specs.Conditions.{HoldsOfNode, HoldsOfClass, AreStarts}
 
 -- In all of these h has the nodes with class numbers, and g grew from it.

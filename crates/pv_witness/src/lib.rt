@@ -22,7 +22,6 @@ mod condition;
 pub mod laws;
 mod making;
 mod marking;
-mod parents;
 mod supports;
 
 pub use condition::Condition;

@@ -4,7 +4,8 @@ ghost use Rattle.std.specs.Prelude.{◌≡◌, ◌<◌, ℕ, false, length, slic
 ghost use Rattle.pv_graph.specs.Walks.{In};
 ghost use Rattle.pv_heights.specs.Searches.{OneClass};
 ghost use Rattle.pv_instances.specs.Classes.{JoinedHaveOneSort};
-ghost use Rattle.pv_witness.specs.Numbered.{AreNumbered, class_of, numbered};
+ghost use Rattle.pv_marks.specs.Classes.{class_of};
+ghost use Rattle.pv_witness.specs.Numbered.{AreNumbered, numbered};
 ghost use Rattle.pv_witness.specs.Supports.{AreAllSupports};
 ghost use Rattle.pv_witness.specs.Table.{AreChosen, AreWitnessed, FitsAgain, HasNumberedKids, IsChosen, IsMadeAgain, IsTaken};
 ghost use Rattle.pv_witness.specs.Witnesses.{AreWitnesses};

@@ -4,12 +4,13 @@ ghost use Rattle.std.specs.Prelude.{◌≡◌, ◌↔◌, ◌<◌, ℕ, false, l
 ghost use Rattle.pv_graph.specs.Walks.{In};
 ghost use Rattle.pv_graph.specs.Reach.{IsMarked};
 ghost use Rattle.pv_witness.specs.Found.{Begins, IsFound, IsReadyBy, Lists, Spreads};
-ghost use Rattle.pv_witness.specs.Numbered.{AreNumbered, class_of, numbered};
+ghost use Rattle.pv_marks.specs.Classes.{class_of};
+ghost use Rattle.pv_witness.specs.Numbered.{AreNumbered, numbered};
 ghost use Rattle.pv_witness.specs.Supports.{AreAllSupports, counted};
 
 use crate::condition::Condition;
-use crate::parents::parents_of;
 use pv_graph::{Graph, Node, NodeId};
+use pv_marks::parents_of;
 use std::alloc::{AllocError, Global};
 
 // The supports so far, and for each class number whether they cover it.

@@ -2,7 +2,8 @@ use Rattle.std.proofs.Common.{ℕ, List, Option, Some, ◌<◌, refl, sym, ◌�
 use Rattle.std.proofs.lemmas.List.{take_more}
 use Rattle.std.proofs.lemmas.Option.{slice_get-get_or}
 use Rattle.pv_graph.proofs.Cited.{in_at}
-use Rattle.pv_witness.specs.Numbered.{class_of, numbered}
+use Rattle.pv_marks.specs.Classes.{class_of}
+use Rattle.pv_witness.specs.Numbered.{numbered}
 use Rattle.pv_witness.specs.Table.{AreWitnessed, FitsAgain, HasNumberedKids, IsTaken}
 use Rattle.pv_witness.proofs.Copies.{longer}
 use Rattle.pv_witness.proofs.Numbering.{numbered_long, numbered_extends, numbered_graph}

@@ -5,7 +5,7 @@ use Rattle.pv_witness.proofs.Supporting.{mark_at}
 use Rattle.pv_graph.proofs.Cited.{in_at, in_cases}
 use Rattle.pv_graph.specs.Walks.{In}
 use Rattle.pv_graph.specs.Reach.{IsMarked}
-use Rattle.pv_witness.specs.Numbered.{class_of}
+use Rattle.pv_marks.specs.Classes.{class_of}
 use Rattle.pv_witness.proofs.supports.all_have.Goals as goal
 
 pub bounds-numbers-kid : goal.bounds-numbers-kid

@@ -3,10 +3,11 @@ use Rattle.std.specs.declared.alloc.Global.{Global}
 use Rattle.std.proofs.lemmas.Option.{slice_get_read, same_Some}
 use Rattle.pv_graph.specs.Walks.{In}
 use Rattle.pv_graph.proofs.Cited.{in_at}
-use Rattle.pv_witness.specs.Numbered.{class_of, numbered}
-use Rattle.pv_witness.specs.Parents.{IsListed, AreParents}
+use Rattle.pv_marks.specs.Classes.{class_of}
+use Rattle.pv_witness.specs.Numbered.{numbered}
+use Rattle.pv_marks.specs.Parents.{IsListed, AreParents}
 use Rattle.pv_witness.specs.Found.{Begins}
-use Rattle.pv_witness.proofs.Numbering.{numbered_long, numbered_graph}
+use Rattle.pv_witness.proofs.Numbering.{numbered_long, numbered_parents, first_numbered, numbered_graph}
 use Rattle.pv_witness.proofs.Supporting.{swept_none, swept_more, swept_all}
 use Rattle.pv_witness.proofs.supports.supports.Goals as goal
 
@@ -41,8 +42,12 @@ loop-next-preserved c =
     λ n (v, there_v, i). (let same = same_Some v c.index-in-loop-next.result.now (sym there_v ∙ at_) in
     subst (λ (xs : List ℕ). In xs n) (sym c.deref.ensures.value) (subst (λ (x : Vec ℕ Global). In x.items n) same i)) in
     swept_more g c.args.numbers.now c.args.condition c.args.starts.now c.in_ok-parents.parents.items c.loop-next.next c.index.result.now c.loop-next.found.list.items c.spread.new.found.list.items c.deref.result.now
-    c.loop-next.found.has.items c.spread.new.found.has.items (subst (λ (n : ℕ). AreParents g c.args.numbers.now n c.in_ok-parents.parents.items) (sym long) c.in_ok-parents.ensures.parents) nodes_are
+    c.loop-next.found.has.items c.spread.new.found.has.items
+    (subst (λ (n : ℕ). AreParents g c.args.numbers.now n c.in_ok-parents.parents.items) (sym long) (numbered_parents c.args.graph.now c.args.numbers.now c.in_ok-parents.parents.items c.in_ok-parents.ensures.parents)) nodes_are
     (omega (arith, c.loop-next-test.true, c.len.ensures, c.loop-next.found.list.ok.0)) c.index.ensures c.loop-next.invariant c.in_ok-spread.ensures
+
+pub parents_of-requires : goal.parents_of-requires
+parents_of-requires c = first_numbered c.args.graph.now c.args.numbers.now c.len-count.ensures.graph c.requires.sealed c.requires.numbered
 
 pub loop-next-init : goal.loop-next-init
 loop-next-init c =

@@ -18,8 +18,7 @@ use Rattle.pv_heights.specs.Sides.{Match}
 use Rattle.pv_heights.specs.Matches.{IsMatch, AgreeOn, AreOne}
 use Rattle.pv_heights.specs.SameClasses.{IsCongruence}
 use Rattle.pv_heights.specs.Searches.{nodes, IsNode, OneClass, base_view, match_of, AreAll}
-use Rattle.pv_heights.proofs.Sides.{zip_left, zip_right}
-use Rattle.pv_heights.proofs.Counting.{one_chain}
+use Rattle.pv_heights.proofs.Cited.{zip_left, zip_right, one_chain}
 use Rattle.pv_match.specs.Reading.{IsReadable}
 use Rattle.pv_match.specs.Agreeing.{AreLeast, Found, AreSomeFound, AreFound}
 use Rattle.pv_match.proofs.Numbered.{some_once, IsNumber, number_of, one, same_class}

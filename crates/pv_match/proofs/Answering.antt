@@ -18,8 +18,7 @@ use Rattle.pv_heights.specs.Sides as sides
 use Rattle.pv_heights.specs.SameClasses.{IsCongruence}
 use Rattle.pv_heights.specs.Searches.{nodes, IsNode, OneClass, base_view}
 use Rattle.pv_heights.specs.Searches as searches
-use Rattle.pv_heights.proofs.Zips.{zip_join, zip_length}
-use Rattle.pv_heights.proofs.Sides.{zip_left, zip_right}
+use Rattle.pv_heights.proofs.Cited.{zip_join, zip_length, zip_left, zip_right}
 use Rattle.pv_match.specs.declared.found.Match.{Match}
 use Rattle.pv_match.specs.declared.found.Matches as answers
 use Rattle.pv_match.specs.declared.found.Matches.TheVariants.{All, More}

@@ -19,7 +19,7 @@ use Rattle.pv_match.specs.Parameters.{params_in, number_param, name_params, is_a
 use Rattle.pv_heights.specs.Filled.{number_op}
 use Rattle.pv_heights.specs.Matches.{AgreeOn}
 use Rattle.pv_heights.specs.Searches as searches
-use Rattle.pv_heights.proofs.Named.{In-left, In-right, name_same}
+use Rattle.pv_heights.proofs.Cited.{In-left, In-right, name_same}
 use Rattle.pv_match.specs.Reading.{reads, reads_all, families, all_families}
 use Rattle.pv_match.proofs.Numbered.{bind_some}
 use Rattle.pv_match.proofs.Sound.{split_in, by_cases}

@@ -27,7 +27,7 @@ use Rattle.pv_heights.specs.Conditions.{Holds}
 use Rattle.pv_heights.specs.Matches.{IsMatch}
 use Rattle.pv_heights.specs.SameClasses.{IsCongruence}
 use Rattle.pv_heights.specs.Searches.{nodes, IsNode, OneClass, base_view}
-use Rattle.pv_heights.proofs.Named.{In-left, In-right}
+use Rattle.pv_heights.proofs.Cited.{In-left, In-right}
 use Rattle.pv_match.specs.Reading.{reads, reads_all, IsReadable}
 use Rattle.pv_match.specs.Agreeing.{AreLeast}
 use Rattle.pv_match.proofs.Numbered.{some_once, bind_some, same_class, has_form, mapped_class}

@@ -13,11 +13,7 @@ use Rattle.pv_marks.specs.Classes as marks
 use Rattle.pv_heights.specs.Conditions.{ClassNode, Settled, NotFree}
 use Rattle.pv_heights.specs.Searches.{nodes, IsNode, OneClass, base_view}
 use Rattle.pv_value.specs.Spelled.{bind}
-use Rattle.pv_heights.proofs.Terms.{form_once}
-use Rattle.pv_heights.proofs.Nodes.{node_is_base, form_some}
-use Rattle.pv_heights.proofs.Sides.{zip_open, zip_left, zip_right}
-use Rattle.pv_heights.proofs.Both.{In-slice_get}
-use Rattle.pv_heights.proofs.Listed.{place_of}
+use Rattle.pv_heights.proofs.Cited.{form_once, node_is_base, form_some, zip_open, zip_left, zip_right, In-slice_get, place_of}
 use Rattle.pv_match.specs.Agreeing.{AreLeast}
 use Rattle.pv_match.proofs.Numbered.{all_at, In-map, one, same_class, kids_are, form_has, has_form}
 

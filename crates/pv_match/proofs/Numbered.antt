@@ -10,7 +10,7 @@ use Rattle.pv_marks.specs.Classes.{class_of, HasForm}
 use Rattle.pv_heights.specs.Sides.{ClassHas}
 use Rattle.pv_heights.specs.Searches.{nodes, IsNode, OneClass}
 use Rattle.pv_match.specs.Agreeing.{AreLeast}
-use Rattle.pv_heights.proofs.Nodes.{base_is_node, graph_whole, nodes_closed}
+use Rattle.pv_heights.proofs.Cited.{base_is_node, graph_whole, nodes_closed}
 
 pub all_in : {A : Type 0} (P : A → Type 0) (xs : List A) → ((x : A) → In xs x → P x) → AllByRecursion P xs
 all_in P [] h = tt

@@ -13,7 +13,7 @@ use Rattle.pv_match.specs.Standing.{HoldsConstant, IsEachIn, StandsIn, AllStandI
 use Rattle.pv_heights.specs.Filled.{Filled, at, of, Parts, no_part, part, variable, over0, number_op, each_parts, filled, all_filled}
 use Rattle.pv_heights.specs.Sides.{Match, ClassHas, InClass, AllInClass}
 use Rattle.pv_heights.specs.Searches.{nodes, IsNode, OneClass, params_of, match_of}
-use Rattle.pv_heights.proofs.Instances.{constant_op, head_same, same_number}
+use Rattle.pv_heights.proofs.Cited.{constant_op, head_same, same_number}
 use Rattle.pv_match.specs.Reading.{reads, reads_all, next_var}
 use Rattle.pv_match.specs.Agreeing.{AreLeast}
 use Rattle.pv_match.proofs.Numbered.{some_once, bind_some, no_kids, number_of, one, kids_are, form_has, IsNumber}

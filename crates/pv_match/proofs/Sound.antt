@@ -15,7 +15,7 @@ use Rattle.pv_match.specs.declared.found.Param.{Param}
 use Rattle.pv_match.specs.Standing.{IsEachIn, StandsIn, AllStandIn}
 use Rattle.pv_match.specs.Matches.{HoldsIn}
 use Rattle.pv_match.specs.Matches as found
-use Rattle.pv_heights.proofs.Nodes.{base_is_node}
+use Rattle.pv_heights.proofs.Cited.{base_is_node}
 use Rattle.pv_heights.specs.Filled.{number_op}
 use Rattle.pv_heights.specs.Sides.{Match, ClassHas, InClass}
 use Rattle.pv_heights.specs.Sides as sides

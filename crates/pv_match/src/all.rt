@@ -1,8 +1,8 @@
 //! All matches of a table over the classes of a graph.
 
-ghost use Rattle.std.specs.Prelude.{◌≡◌, ◌≤◌, ℕ, List, length, map, IfOk};
+ghost use Rattle.std.specs.Prelude.{◌≤◌, ℕ, List, length, map, IfOk};
 ghost use Rattle.pv_axioms.specs.Entries.{NumbersOnce};
-ghost use Rattle.pv_classes.specs.Calls.{IsClasses, Knows};
+ghost use Rattle.pv_classes.specs.Calls.{Knows};
 ghost use Rattle.pv_heights.specs.Searches.{IsNode, OneClass, base_view, nodes};
 ghost use Rattle.pv_heights.specs.SameClasses.{IsCongruence};
 ghost use Rattle.pv_marks.specs.Marks.{AreNodeMarks};
@@ -17,23 +17,11 @@ use crate::reader::Reader;
 use crate::rules::{items_of, rules_of};
 use pv_base::Gate;
 use pv_classes::Classes;
-use pv_graph::{Graph, NodeId};
+use pv_graph::Graph;
 use pv_marks::class_marks;
 use pv_pattern::Axiom;
 use pv_value::Memory;
 use std::alloc::Global;
-
-// The number of each node's class.
-fn numbers_of(alloc: Global, classes: &Classes) -> Result<Vec<NodeId>, Memory>
-    ensures numbers { IfOk result (λ numbers. numbers.items ≡ classes.now.numbers) }
-    ensures classes { IsClasses classes.now }
-{
-    let mut numbers = Vec::new(alloc);
-    for n in 0..classes.len() {
-        numbers.push(classes.of(n))?;
-    }
-    Ok(numbers)
-}
 
 /// All matches of a table over the classes of a graph's nodes, or that there are more than `limit`. `base` has the marks of the nodes
 /// of the base, as `pv_marks::node_marks` gives them, with some nodes assumed to end. It passes the gate before each node at which a
@@ -54,7 +42,8 @@ pub fn matches<G: Gate>(
     requires once { NumbersOnce (map axiom_seen table.now) }
     ensures { IfOk result (λ answer. (ends : List ℕ) → AreNodeMarks graph.now ends base.now → IsAnswer graph.now classes.now.numbers ends (map axiom_seen table.now) limit answer) }
 {
-    let numbers = numbers_of(alloc, classes)?;
+    let _count = classes.len();
+    let numbers = classes.numbers(alloc)?;
     let members = Members::new(alloc, graph, &numbers)?;
     let marks = class_marks(alloc, graph, &numbers, base)?;
     let rules = rules_of(alloc, table)?;

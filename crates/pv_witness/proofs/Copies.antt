@@ -10,6 +10,7 @@ use Rattle.pv_graph.specs.Ops.{Shape, plain, choice, theta, eval, pass, shift, r
 use Rattle.pv_graph.specs.Walks.{In, open_kids, Free, here, below, Reaches, itself, along, IsSettled}
 use Rattle.pv_graph.specs.Graphs.{Graph, form_at, IsGraph, Extends}
 use Rattle.pv_graph.proofs.Cited.{found, form_there, node_at, kid_within, bind_some, sort_there}
+use Rattle.pv_steps.proofs.Growing.{form_back, free_back}
 use Rattle.pv_witness.specs.declared.condition.Condition.{Condition}
 use Rattle.pv_witness.specs.declared.condition.Condition.TheVariants as condition
 use Rattle.pv_marks.specs.Classes.{class_of}
@@ -28,47 +29,20 @@ module _ (old new : Graph) (is : IsGraph old) (e : Extends old new) where
   pub form_kept : (n : ℕ) (f : Form ℕ) → form_at old.nodes n ≡ Some f → form_at new.nodes n ≡ Some f
   form_kept n f at_ = let x = bind_some (slice_get old.nodes n) _ f at_ in form_there new.nodes n x.0 (e.nodes n x.0 x.1) ∙ x.2
 
-  form_back : (n : ℕ) (f : Form ℕ) → n < length old.nodes → form_at new.nodes n ≡ Some f → form_at old.nodes n ≡ Some f
-  form_back n f lt at_ =
-      let x = found old.nodes n lt in
-      form_there old.nodes n x.0 x.1 ∙ (sym (form_there new.nodes n x.0 (e.nodes n x.0 x.1)) ∙ at_)
-
   kid_low : (n k : ℕ) (o : Op) (ks : List ℕ) → n < length old.nodes → form_at new.nodes n ≡ Some (form o ks) → In ks k → k < length old.nodes
   kid_low n k o ks lt at_ i =
-      let x = node_at old.nodes n o ks (form_back n (form o ks) lt at_) in
+      let x = node_at old.nodes n o ks (form_back old new e n o ks lt at_) in
       kid_within old is n k x.0 x.1 (subst (λ (zs : List ℕ). In zs k) (sym x.3) i)
-
-  open_in : (d : ℕ) (s : Shape) (ks : List ℕ) (k : ℕ) → In (open_kids d s ks) k → In ks k
-  open_in d plain ks k i = i
-  open_in d choice ks k i = i
-  open_in d (theta f) ks k i = i
-  open_in d (eval f) [] k i = i
-  open_in d (eval f) (a ∷ ks) k i = either (f == d) i
-    where
-      either : (b : Bool) → In (if b then ks else a ∷ ks) k → In (a ∷ ks) k
-      either true j = inr j
-      either false j = j
-  open_in d (pass f) ks k i = either (f == d) i
-    where
-      either : (b : Bool) → In (if b then [] else ks) k → In ks k
-      either true j = absurd j
-      either false j = j
-  open_in d (shift f) ks k i = i
-  open_in d root ks k i = i
-
-  free_back : (d n : ℕ) → n < length old.nodes → Free (form_at new.nodes) d n → Free (form_at old.nodes) d n
-  free_back d n lt (here _ o ks at_ s) = here n o ks (form_back n (form o ks) lt at_) s
-  free_back d n lt (below _ k o ks at_ i f) = below n k o ks (form_back n (form o ks) lt at_) i (free_back d k (kid_low n k o ks lt at_ (open_in d (shape o) ks k i)) f)
 
   reaches_back : (assumed : List ℕ) (n m : ℕ) → n < length old.nodes → Reaches (form_at new.nodes) assumed n m → Reaches (form_at old.nodes) assumed n m × (m < length old.nodes)
   reaches_back assumed n m lt (itself _) = (itself n, lt)
   reaches_back assumed n m lt (along _ k _ o ks no_end at_ i r) =
       let rest = reaches_back assumed k m (kid_low n k o ks lt at_ i) r in
-      (along n k m o ks no_end (form_back n (form o ks) lt at_) i rest.0, rest.1)
+      (along n k m o ks no_end (form_back old new e n o ks lt at_) i rest.0, rest.1)
 
   pub has_kept : (assumed : List ℕ) (t : Condition) (n : ℕ) → n < length old.nodes → HoldsOfNode old assumed t n → HoldsOfNode new assumed t n
-  has_kept assumed condition.Settled n lt h = λ m o ks r no_end at_. (let b = reaches_back assumed n m lt r in h m o ks b.0 no_end (form_back m (form o ks) b.1 at_))
-  has_kept assumed (condition.NotFree d) n lt h = λ f. h (free_back d n lt f)
+  has_kept assumed condition.Settled n lt h = λ m o ks r no_end at_. (let b = reaches_back assumed n m lt r in h m o ks b.0 no_end (form_back old new e m o ks b.1 at_))
+  has_kept assumed (condition.NotFree d) n lt h = λ f. h (free_back old new is e d n lt f)
 
 settled_has : (g : Graph) (assumed : List ℕ) (n : ℕ) (o : Op) (ws : List ℕ) → form_at g.nodes n ≡ Some (form o ws) → may_not_end o ≡ false → ((w : ℕ) → In ws w → IsSettled (form_at g.nodes) assumed w)
     → (m : ℕ) (p : Op) (ks : List ℕ) → (In assumed m → ⊥) → form_at g.nodes m ≡ Some (form p ks) → Reaches (form_at g.nodes) assumed n m → may_not_end p ≡ false

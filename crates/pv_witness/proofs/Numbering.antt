@@ -99,3 +99,24 @@ first_is (x ∷ xs) (y ∷ ys) h =
     let one : y ≡ x = same_Some y x (h 0 x refl) in
     let others : take (length xs) ys ≡ xs = first_is xs ys (λ n z e. h (suc n) z e) in
     cc (one, others)
+
+-- the first elements of a list stay where it grows
+take_kept : {A : Type 0} (k : ℕ) (xs ys : List A) → k ≤ length xs → ((n : ℕ) (x : A) → slice_get xs n ≡ Some x → slice_get ys n ≡ Some x) → take k ys ≡ take k xs
+take_kept zero xs ys le h = refl
+take_kept (suc k) [] ys le h = absurd (omega arith)
+take_kept (suc k) (x ∷ xs) [] le h = absurd (let z = h 0 x refl in cc)
+take_kept (suc k) (x ∷ xs) (y ∷ ys) le h =
+    let one : y ≡ x = same_Some y x (h 0 x refl) in
+    let others : take k ys ≡ take k xs = take_kept k xs ys (omega arith) (λ n z e. h (suc n) z e) in
+    cc (one, others)
+
+-- so the nodes with class numbers are the same graph whatever was added since
+pub numbered_stays : (old new : Graph) (numbers : List ℕ) → IsGraph old → AreNumbered old numbers → Extends old new → new.base ≡ old.base → new.is_open ≡ old.is_open → numbered new numbers ≡ numbered old numbers
+numbered_stays old new numbers is_graph is e base sealed =
+    let ns : take (length numbers) new.nodes ≡ take (length numbers) old.nodes = take_kept (length numbers) old.nodes new.nodes is.few e.nodes in
+    let ss : take (length numbers) new.sorts ≡ take (length numbers) old.sorts = take_kept (length numbers) old.sorts new.sorts (let z = is_graph.long in let y = is.few in omega (arith, z, y)) e.sorts in
+    cc (ns, ss, base, sealed)
+
+-- .. and they still have their numbers
+pub numbered_still : (old new : Graph) (numbers : List ℕ) → AreNumbered old numbers → length old.nodes ≤ length new.nodes → new.base ≡ old.base → AreNumbered new numbers
+numbered_still old new numbers is longer base = record { few = (let z = is.few in omega (arith, z, longer)); base = (let z = is.base in omega (arith, z, base)); within = is.within }

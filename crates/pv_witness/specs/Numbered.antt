@@ -1,5 +1,5 @@
 -- Class numbers of the first nodes of a graph, which may have grown since its nodes got them.
-use Rattle.std.specs.Prelude.{ℕ, ◌<◌, ◌≤◌, List, length, take}
+use Rattle.std.specs.Prelude.{ℕ, ◌<◌, ◌≤◌, false, List, length, take}
 use Rattle.pv_graph.specs.Graphs.{Graph}
 use Rattle.pv_marks.specs.Classes.{class_of}
 
@@ -9,6 +9,6 @@ pub record AreNumbered (g : Graph) (numbers : List ℕ) : Type 0 where
   pub base : g.base ≤ length numbers
   pub within : (n : ℕ) → n < length numbers → class_of numbers n < length numbers
 
--- these nodes with their sorts: the graph as it was when they got their numbers
+-- these nodes with their sorts: the graph as it was when they got their numbers, with nothing prepared
 abbrev pub numbered : Graph → List ℕ → Graph
-numbered g numbers = record g { nodes = take (length numbers) g.nodes; sorts = take (length numbers) g.sorts }
+numbered g numbers = record g { nodes = take (length numbers) g.nodes; sorts = take (length numbers) g.sorts; is_prepared = false }

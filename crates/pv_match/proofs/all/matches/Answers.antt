@@ -13,7 +13,7 @@ find-requires-clause-members g c κs within = subst (λ (ns : List ℕ). IsMembe
 
 pub returns : goal.returns
 returns g c ends base =
-    let same : c.deref-4.result.now ≡ c.args.classes.now.numbers = c.deref-4.ensures.value ∙ c.in_ok-numbers.ensures.numbers in
+    let same : c.deref-4.result.now ≡ c.args.classes.now.numbers = c.deref-4.ensures.value ∙ c.in_ok-numbers.ensures in
     let marks : AreClassMarks c.args.graph.now c.deref-4.result.now ends c.deref-5.result.now =
     subst (λ (ns : List ℕ). AreClassMarks c.args.graph.now ns ends c.deref-5.result.now) (c.deref-2.ensures.value ∙ sym c.deref-4.ensures.value)
     (subst (AreClassMarks c.args.graph.now c.deref-2.result.now ends) (sym c.deref-5.ensures.value) (c.in_ok-marks.ensures ends base)) in
@@ -24,8 +24,8 @@ returns g c ends base =
     (record {
       graph = c.in_ok-members.ensures.graph;
       long = c.requires.knows.long;
-      low = λ k l. c.numbers_of.ensures.classes.low k (subst (λ (m : ℕ). k < m) (sym c.requires.knows.long) l);
-      least = λ k l. c.numbers_of.ensures.classes.least k (subst (λ (m : ℕ). k < m) (sym c.requires.knows.long) l);
+      low = λ k l. c.len-count.ensures.classes.low k (subst (λ (m : ℕ). k < m) (sym c.requires.knows.long) l);
+      least = λ k l. c.len-count.ensures.classes.least k (subst (λ (m : ℕ). k < m) (sym c.requires.knows.long) l);
     })
     c.requires.congruence c.requires.readable c.requires.once c.in_ok-rules.rules.items c.in_ok-items.items.items c.args.limit c.in_ok-answer.answer c.in_ok-rules.ensures
     (subst (λ (rs : List Group). AreItems c.args.graph.now.nodes rs c.in_ok-items.items.items) c.deref-3.ensures.value (c.in_ok-items.ensures c.args.graph.now.nodes c.requires.knows)) found

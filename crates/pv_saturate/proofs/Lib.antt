@@ -8,7 +8,10 @@ pub mod Naming
 pub mod Setting
 pub mod Hearing
 pub mod SameMatch
--- 3. The node that is chosen for a variable.
+-- 3. What is decoded is a match, and with the witnesses its nodes can be chosen.
+pub mod Matching
+-- 4. The node that is chosen for a variable.
 pub mod Choosing
--- 4. The instance over the nodes that are chosen.
+-- 5. The instance over the nodes that are chosen.
 pub mod Instancing
+pub mod Cited

@@ -8,12 +8,15 @@
 //!
 //! `decode` takes a match that is given by the number of its axiom, a list of parameters and its classes, and says what the names of
 //! the left side stand for (`specs/Decoding`): it is the match that was found but for what its left side doesn't name
-//! (`IsSameMatch`).
+//! (`IsSameMatch`). So all that are decoded of all matches are all matches again (`proofs/Matching`, `same_are_all`).
 //!
 //! `choose` takes a node for each variable of a match: the witness where the axiom asks a condition of its class, the constant
 //! where it stands for constants, and else a node of the class (`specs/Choice`). The layer above uses `add_match`, which makes
 //! both sides over these nodes (`specs/Added`, `AddedMatch`). It needs to know of the match what matching finds: that its
-//! left side stands in a class, that its conditions have witnesses, and that the classes of its variables for constants hold them.
+//! left side stands in a class, that its conditions have witnesses, and that the classes of its variables for constants hold them. A
+//! match with the tables of its witnesses (`specs/Tables`) has all that (`can_choose` and `left_stands`).
+//!
+//! `proofs/Cited` has the lemmas that other crates cite.
 //!
 //! The rest is private to this crate: `left` finds what a left side names, `telling` what each name stands for by its own parameters
 //! (`specs/Told`), and `operation` the operation of a family by its number and its parameter (`specs/Operations`).

@@ -12,6 +12,7 @@ pub mod SameMatch
 pub mod Matching
 -- 4. The node that is chosen for a variable.
 pub mod Choosing
--- 5. The instance over the nodes that are chosen.
+-- 5. The instance over the nodes that are chosen, and that a certificate names it.
 pub mod Instancing
+pub mod Certifying
 pub mod Cited

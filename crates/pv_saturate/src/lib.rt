@@ -16,7 +16,8 @@
 //! left side stands in a class, that its conditions have witnesses, and that the classes of its variables for constants hold them. A
 //! match with the tables of its witnesses (`specs/Tables`) has all that (`can_choose` and `left_stands`).
 //!
-//! `proofs/Cited` has the lemmas that other crates cite.
+//! What is made is also an instance of the axiom as a certificate names it, where the graph has no node twice and the conditions
+//! hold of the witnesses (`proofs/Certifying`, `certified`). `proofs/Cited` has the lemmas that other crates cite.
 //!
 //! The rest is private to this crate: `left` finds what a left side names, `telling` what each name stands for by its own parameters
 //! (`specs/Told`), and `operation` the operation of a family by its number and its parameter (`specs/Operations`).

@@ -10,11 +10,11 @@ use Rattle.pv_graph.specs.declared.node.Node.{Node}
 use Rattle.pv_graph.specs.Forms.{Form, form}
 use Rattle.pv_graph.specs.Ops.{sort_over, HaveSorts}
 use Rattle.pv_graph.specs.Graphs.{Graph, form_at, IsGraph, Extends}
-use Rattle.pv_graph.specs.Nodes.{node_of}
-use Rattle.pv_graph.specs.Calls.{IsSame, appended, Added, AreNodes}
-use Rattle.pv_graph.proofs.Cited.{bind_some, found, get_front, get_last, form_there, sort_there, tied}
+use Rattle.pv_graph.specs.Nodes.{node_of, IsAbsent}
+use Rattle.pv_graph.specs.Calls.{IsSame, appended, Added, AreNodes, IsDistinct}
+use Rattle.pv_graph.proofs.Cited.{bind_some, found, get_front, get_last, push_cases, form_there, sort_there, tied}
 use Rattle.pv_heights.specs.Searches.{IsNode}
-use Rattle.pv_instances.specs.Made.{GrowsBy}
+use Rattle.pv_instances.specs.Made.{GrowsBy, KeepsDistinct}
 
 pub if_ok_more : {A E : Type 0} (r : Result A E) (P Q : A → Type 0) → ((a : A) → P a → Q a) → IfOk r P → IfOk r Q
 if_ok_more (Ok a) P Q f h = f a h
@@ -122,6 +122,22 @@ more_grows g h o ks s p sealed e = record {
 -- the graph keeps its nodes, and a new one is that node
 pub added_grows : (g h : Graph) (o : Op) (ks : List ℕ) (n : ℕ) → g.is_open ≡ false → Added g h o ks n → GrowsBy g h (Is h o ks)
 added_grows g h o ks n sealed a = elim a.grows [ inl e ↦ same_grows g h o ks e | inr e ↦ more_grows g h o ks a.fits.0 h.is_prepared sealed e.1 ]
+
+distinct_more : (nodes : List Node) (node : Node) → IsAbsent nodes node → IsDistinct nodes → IsDistinct (nodes ++ node ∷ [])
+distinct_more nodes node absent d a b x e f = cases (push_cases nodes node x a e) (push_cases nodes node x b f)
+  where
+    cases : (slice_get nodes a ≡ Some x) ⊎ ((a ≡ length nodes) × (node ≡ x)) → (slice_get nodes b ≡ Some x) ⊎ ((b ≡ length nodes) × (node ≡ x)) → a ≡ b
+    cases (inl p) (inl q) = d a b x p q
+    cases (inl p) (inr q) = absurd (absent a (p ∙ ap Some (sym q.1)))
+    cases (inr p) (inl q) = absurd (absent b (q ∙ ap Some (sym p.1)))
+    cases (inr p) (inr q) = p.0 ∙ sym q.0
+
+-- .. which is there once
+pub added_distinct : (g h : Graph) (o : Op) (ks : List ℕ) (n : ℕ) → Added g h o ks n → KeepsDistinct g h
+added_distinct g h o ks n a d = elim a.grows [
+  | inl e ↦ subst (λ (i : Graph). IsDistinct i.nodes) (sym e) d
+  | inr e ↦ subst (λ (i : Graph). IsDistinct i.nodes) (sym e.1) (distinct_more g.nodes (node_of o ks) e.0 d)
+]
 
 pub nothing_new : (g : Graph) (Kind : ℕ → Type 0) → GrowsBy g g Kind
 nothing_new g Kind = record { extends_ = same_extends g; sealed = refl; base = refl; news = λ k low high. absurd (omega arith) }

@@ -50,6 +50,7 @@ both_made g h i m l r can x y =
       grows = grows_both g h i (IsPartAt h m x.filled_) (IsPartAt i m y.filled_) (IsPartOfInstance i m) x.made.grows y.made.grows
           (λ n p. record { whole = x.filled_; is_whole = inl x.fills; part_ = part_kept h i e m x.filled_ n p })
           (λ n p. record { whole = y.filled_; is_whole = inr y.fills; part_ = p });
+      distinct = λ d. y.made.distinct (x.made.distinct d);
       left = (x.filled_, x.fills, side_kept h i e m x.filled_ l x.made.is);
       right = (y.filled_, y.fills, y.made.is);
       one_sort = e.sorts l can.sort_ (made_sort g h m m.entry.left can.sort_ l can.left x) ∙ sym (made_sort h i m m.entry.right can.sort_ r (can_later g h m m.entry.right can.sort_ x.made.grows.extends_ can.right) y);

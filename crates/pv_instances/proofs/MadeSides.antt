@@ -17,7 +17,7 @@ use Rattle.pv_instances.specs.Sorted.{IsSorted, AreSorted}
 use Rattle.pv_instances.specs.Seen.{parts}
 use Rattle.pv_instances.specs.Made.{SortedOver, IsSideAt, IsPartAt, MadeSide}
 use Rattle.pv_instances.specs.Parts.{AllSortedOver, AreSidesAt, IsPartOfAt, MadeSides}
-use Rattle.pv_instances.proofs.Growing.{zip_get, form_within, form_kept, node_kept, sorts_kept, Is, nothing_new, added_grows, grows_both, sort_is}
+use Rattle.pv_instances.proofs.Growing.{zip_get, form_within, form_kept, node_kept, sorts_kept, Is, nothing_new, added_grows, added_distinct, grows_both, sort_is}
 
 -- ---- what is a side stays one
 
@@ -49,6 +49,7 @@ hole_found g m x s h e = let n = hole_sorted g m x s h in absurd (let z = n.1 in
 pub made_hole : (g : Graph) (m : Match ℕ) (x : Hole) (n : ℕ) → thing_at m x ≡ Some n → MadeSide g g m (at x) n
 made_hole g m x n e = record {
   grows = nothing_new g (IsPartAt g m (at x));
+  distinct = λ d. d;
   is = e;
   sort_ = λ s h. (let y = hole_sorted g m x s h in let same : y.0 ≡ n = same_Some y.0 n (sym y.1 ∙ e) in subst (λ (k : ℕ). slice_get g.sorts k ≡ Some s) same y.2);
 }
@@ -73,6 +74,7 @@ made_over g h i m o ps ns n sealed made added =
       grows = grows_both g h i (IsPartOfAt h m ps) (Is i o ns) (IsPartAt i m (of o ps)) made.grows more
           (λ k p. record { inner = p.inner; is_inner = inr p.is_inner; is = side_kept h i more.extends_ m p.inner k p.is })
           (λ k e. record { inner = of o ps; is_inner = inl refl; is = (ns, form_within i k (form o ns) e, e, all) });
+      distinct = λ d. added_distinct h i o ns n added (made.distinct d);
       is = (let there = form_there i.nodes n (node_of o ns) added.first.there in (ns, form_within i n (form o ns) there, there, all));
       sort_ = λ s sorted. (let t = parts_sorted g m o ps s sorted in
           sort_is i added.graph (more.sealed ∙ (made.grows.sealed ∙ sealed)) n o ns t.0 s added.first.there (sorts_kept h i more.extends_ ns t.0 (made.sorts t.0 t.1)) t.2);
@@ -81,7 +83,7 @@ made_over g h i m o ps ns n sealed made added =
 -- ---- parts, one after another
 
 pub made_none : (g : Graph) (m : Match ℕ) → MadeSides g g m no_part []
-made_none g m = record { grows = nothing_new g (IsPartOfAt g m no_part); are = tt; sorts = λ ss h. none_sorted h.kid_sorts h.var_sorts ss h.sorted }
+made_none g m = record { grows = nothing_new g (IsPartOfAt g m no_part); distinct = λ d. d; are = tt; sorts = λ ss h. none_sorted h.kid_sorts h.var_sorts ss h.sorted }
   where
     none_sorted : (ks vs : List OpSort) (ss : List OpSort) → AreSorted ks vs no_part ss → HaveSorts g.sorts [] ss
     none_sorted ks vs [] a = tt
@@ -140,6 +142,7 @@ made_more g h i m xs ns x n made one = record {
   grows = grows_both g h i (IsPartOfAt h m (parts xs)) (IsPartAt i m x) (IsPartOfAt i m (parts (xs ++ x ∷ []))) made.grows one.grows
       (λ k p. record { inner = p.inner; is_inner = part_front xs x p.inner p.is_inner; is = side_kept h i one.grows.extends_ m p.inner k p.is })
       (λ k p. record { inner = p.inner; is_inner = part_last xs x p.inner p.is_inner; is = p.is });
+  distinct = λ d. one.distinct (made.distinct d);
   are = sides_more i m xs ns x n (sides_kept h i one.grows.extends_ m (parts xs) ns made.are) one.is;
   sorts = λ ss h'. all_have ss h';
 }

@@ -4,6 +4,7 @@ use Rattle.std.specs.Prelude.{◌≡◌, ◌⊎◌, ℕ, ◌<◌, ◌≤◌, Lis
 use Rattle.pv_graph.specs.declared.node.OpSort.{OpSort}
 use Rattle.pv_graph.specs.Ops.{HaveSorts}
 use Rattle.pv_graph.specs.Graphs.{Graph, Extends}
+use Rattle.pv_graph.specs.Calls.{IsDistinct}
 use Rattle.pv_pattern.specs.Patterns.{Pattern}
 use Rattle.pv_heights.specs.Filled.{Filled}
 use Rattle.pv_heights.specs.Sides.{Match, side, IsSide, IsSideOf}
@@ -52,9 +53,14 @@ pub record IsPartAt (g : Graph) (m : Match ℕ) (whole : Filled) (n : ℕ) : Typ
   pub is_inner : IsPart inner whole
   pub is : IsSideAt g m inner n
 
--- node n of the new graph is the filled side, with its sort; each new node is a part of it
+-- no two nodes of the new graph are the same, where no two of the old one are
+abbrev pub KeepsDistinct : Graph → Graph → Type 0
+KeepsDistinct old new = IsDistinct old.nodes → IsDistinct new.nodes
+
+-- node n of the new graph is the filled side, with its sort; each new node is a part of it, and is there once
 pub record MadeSide (old new : Graph) (m : Match ℕ) (p : Filled) (n : ℕ) : Type 0 where
   pub grows : GrowsBy old new (IsPartAt new m p)
+  pub distinct : KeepsDistinct old new
   pub is : IsSideAt new m p n
   pub sort_ : (s : OpSort) → SortedOver old m p s → slice_get new.sorts n ≡ Some s
 
@@ -70,9 +76,10 @@ pub record IsPartOfInstance (g : Graph) (m : Match ℕ) (n : ℕ) : Type 0 where
   pub is_whole : (side m m.entry.left ≡ Some whole) ⊎ (side m m.entry.right ≡ Some whole)
   pub part_ : IsPartAt g m whole n
 
--- nodes l and r are the two sides of its axiom, and have one sort; each new node is a part of a side
+-- nodes l and r are the two sides of its axiom, and have one sort; each new node is a part of a side, and is there once
 pub record MadeInstance (old new : Graph) (m : Match ℕ) (l r : ℕ) : Type 0 where
   pub grows : GrowsBy old new (IsPartOfInstance new m)
+  pub distinct : KeepsDistinct old new
   pub left : IsSideOf (nodes new) (IsNode new) m m.entry.left l
   pub right : IsSideOf (nodes new) (IsNode new) m m.entry.right r
   pub one_sort : slice_get new.sorts l ≡ slice_get new.sorts r

@@ -8,7 +8,7 @@ use Rattle.pv_heights.specs.Sides.{Match, AreSides}
 use Rattle.pv_heights.specs.Rounds.{IsPartOf}
 use Rattle.pv_heights.specs.Searches.{nodes, IsNode}
 use Rattle.pv_instances.specs.Sorted.{AreSorted}
-use Rattle.pv_instances.specs.Made.{GrowsBy, IsSideAt}
+use Rattle.pv_instances.specs.Made.{GrowsBy, IsSideAt, KeepsDistinct}
 
 -- the parts have these sorts over the nodes of the match
 pub record AllSortedOver (g : Graph) (m : Match ℕ) (ps : Parts) (ss : List OpSort) : Type 0 where
@@ -28,8 +28,9 @@ pub record IsPartOfAt (g : Graph) (m : Match ℕ) (ps : Parts) (n : ℕ) : Type 
   pub is_inner : IsPartOf inner ps
   pub is : IsSideAt g m inner n
 
--- these nodes of the new graph are the parts, with their sorts; each new node is a part of one of them
+-- these nodes of the new graph are the parts, with their sorts; each new node is a part of one of them, and is there once
 pub record MadeSides (old new : Graph) (m : Match ℕ) (ps : Parts) (ns : List ℕ) : Type 0 where
   pub grows : GrowsBy old new (IsPartOfAt new m ps)
+  pub distinct : KeepsDistinct old new
   pub are : AreSidesAt new m ps ns
   pub sorts : (ss : List OpSort) → AllSortedOver old m ps ss → HaveSorts new.sorts ns ss

@@ -16,7 +16,7 @@ use Rattle.pv_heights.specs.Searches.{nodes, IsNode, OneClass}
 use Rattle.pv_axioms.specs.Entries.{axioms}
 use Rattle.pv_instances.specs.Laws.{KeepsSort}
 use Rattle.pv_instances.specs.Classes.{JoinedHaveOneSort}
-use Rattle.pv_instances.specs.Made.{SortedOver, CanMakeBoth, GrowsBy, IsPartOfInstance, MadeInstance}
+use Rattle.pv_instances.specs.Made.{SortedOver, CanMakeBoth, GrowsBy, KeepsDistinct, IsPartOfInstance, MadeInstance}
 use Rattle.pv_instances.proofs.Cited.{form_kept, sorts_kept, both_can, all_kept, sides_have_sorts}
 use Rattle.pv_witness.specs.Numbered.{AreNumbered, numbered}
 use Rattle.pv_witness.proofs.Cited.{numbered_long, numbered_extends, numbered_graph, one_class, copy_kept, longer}
@@ -126,6 +126,7 @@ module _ (g : Graph) (numbers : List ℕ) (m : Match ℕ) (t : Witnesses) (is_gr
     pub added : AddedMatch h g new numbers m t vars l r
     added = record {
       grows = grows;
+      distinct = subst (λ (z : Graph). KeepsDistinct z new) e made.distinct;
       chosen = record { long = chosen.long; each = chosen_later };
       instance_ = record {
         chosen = over m vars;
@@ -138,5 +139,7 @@ module _ (g : Graph) (numbers : List ℕ) (m : Match ℕ) (t : Witnesses) (is_gr
         left = made.left;
         right = made.right;
       };
+      left = made.left;
+      right = made.right;
       one_sort = made.one_sort;
     }

@@ -15,8 +15,8 @@ use Rattle.pv_marks.specs.Classes.{class_of}
 use Rattle.pv_witness.specs.Conditions.{HoldsOfNode}
 use Rattle.pv_heights.specs.Rounds as copy
 use Rattle.pv_heights.specs.Searches.{OneClass}
-use Rattle.pv_instances.specs.Made.{GrowsBy}
-use Rattle.pv_instances.proofs.Cited.{same_extends, extends_both, added_grows, sort_is, sorts_kept}
+use Rattle.pv_instances.specs.Made.{GrowsBy, KeepsDistinct}
+use Rattle.pv_instances.proofs.Cited.{same_extends, extends_both, added_grows, added_distinct, sort_is, sorts_kept}
 use Rattle.pv_witness.specs.Supports.{HandsOn, counted, Covers, IsReady, IsSupport, AreSupports, none, more}
 use Rattle.pv_instances.specs.Classes.{JoinedHaveOneSort}
 use Rattle.pv_witness.specs.Witnesses.{IsCopy, IsWitness}
@@ -29,6 +29,7 @@ pub none_witnessed : (g old : Graph) (numbers : List ℕ) (t : Condition) (start
 none_witnessed g old numbers t starts table e sealed base long empty = record {
   grows = record { extends_ = e; sealed = sealed; base = base; news = λ n low high. inl high };
   kept = same_extends old;
+  distinct = λ d. d;
   long = long;
   each = λ c w e. absurd (empty c w e);
   has = λ assumed c w marked e. absurd (empty c w e);
@@ -131,7 +132,7 @@ module _ (g old mid : Graph) (numbers : List ℕ) (t : Condition) (starts : List
 
   -- ---- the table
 
-  module _ (new : Graph) (m : ℕ) (e : Extends mid new) (grows : GrowsBy g new (IsOldOrCopied g old new numbers)) (here : IsWitness g new numbers (class_of numbers n) m)
+  module _ (new : Graph) (m : ℕ) (e : Extends mid new) (distinct : KeepsDistinct mid new) (grows : GrowsBy g new (IsOldOrCopied g old new numbers)) (here : IsWitness g new numbers (class_of numbers n) m)
       (has : (assumed : List ℕ) → HoldsOfMarked g assumed t starts → HoldsOfNode new assumed t m) where
     set_cases : (c v : ℕ) → class_of numbers n < length table → slice_get (slice_set table (class_of numbers n) (Some m)) c ≡ Some (Some v) → ((c ≡ class_of numbers n) × (m ≡ v)) ⊎ (slice_get table c ≡ Some (Some v))
     set_cases c v low at_ = elim (equal_or_not c (class_of numbers n)) [
@@ -143,6 +144,7 @@ module _ (g old mid : Graph) (numbers : List ℕ) (t : Condition) (starts : List
     put low = record {
       grows = grows;
       kept = extends_both old mid new w.kept e;
+      distinct = λ d. distinct (w.distinct d);
       long = set_length table (class_of numbers n) (Some m) ∙ w.long;
       each = λ c v at_. elim (set_cases c v low at_) [
         | inl s ↦ subst (IsWitness g new numbers c) s.1 (subst (λ (k : ℕ). IsWitness g new numbers k m) (sym s.0) here)
@@ -170,10 +172,10 @@ module _ (g old mid : Graph) (numbers : List ℕ) (t : Condition) (starts : List
       let here : IsWitness g mid numbers (class_of numbers n) m = subst (IsWitness g mid numbers (class_of numbers n)) (sym is_n) start_witness in
       let has : (assumed : List ℕ) → HoldsOfMarked g assumed t starts → HoldsOfNode mid assumed t m =
       λ assumed begun. subst (HoldsOfNode mid assumed t) (sym is_n) (has_kept g mid is_graph w.grows.extends_ assumed t n lt (begun n marked)) in
-      (subst (λ (h : Graph). AreWitnessed g old h numbers t starts (xs ++ n ∷ []) (slice_set table (class_of numbers n) (Some m))) (sym same) (put mid m (same_extends mid) w.grows here has low), subst IsGraph (sym same) is_mid)
+      (subst (λ (h : Graph). AreWitnessed g old h numbers t starts (xs ++ n ∷ []) (slice_set table (class_of numbers n) (Some m))) (sym same) (put mid m (same_extends mid) (λ d. d) w.grows here has low), subst IsGraph (sym same) is_mid)
   witnessed_more new m low (inl marked) (inr (unmarked, a)) = absurd (unmarked marked)
   witnessed_more new m low (inr ready) (inr (unmarked, a)) =
-      (put new m (later new m a).extends_ (again_grows new m a) (again_witness new m a) (again_has new m a ready) low, a.added.graph)
+      (put new m (later new m a).extends_ (added_distinct mid new a.node.op a.over m a.added) (again_grows new m a) (again_witness new m a) (again_has new m a ready) low, a.added.graph)
 
 -- the support at a place, by those before it
 pub support_at : (g : Graph) (numbers : List ℕ) (t : Condition) (starts : List Bool) (list : List ℕ) (i b : ℕ) → AreSupports g numbers t starts list → slice_get list i ≡ Some b → IsSupport g numbers t starts (take i list) b

@@ -20,6 +20,7 @@ all_witnesses old new numbers k starts list table is all w = record {
     base = w.grows.base;
     news = λ n low high. elim (w.grows.news n (omega (arith, low, same, is.few)) high) [ inl before ↦ absurd (omega (arith, low, before)) | inr copied ↦ copied ];
   };
+  distinct = w.distinct;
   long = w.long ∙ same;
   each = w.each;
   hold = λ view assumed known c v e. w.has assumed c v known.hold e;

@@ -6,7 +6,7 @@ use Rattle.pv_graph.specs.Walks.{In}
 use Rattle.pv_graph.specs.Reach.{IsMarked}
 use Rattle.pv_graph.specs.Calls.{Added, FitsOver}
 use Rattle.pv_graph.specs.Graphs.{Graph, Extends}
-use Rattle.pv_instances.specs.Made.{GrowsBy}
+use Rattle.pv_instances.specs.Made.{GrowsBy, KeepsDistinct}
 use Rattle.pv_witness.specs.declared.condition.Condition.{Condition}
 use Rattle.pv_marks.specs.Classes.{class_of}
 use Rattle.pv_witness.specs.Conditions.{HoldsOfNode}
@@ -25,6 +25,7 @@ HoldsOfMarked g assumed k starts = (n : ℕ) → IsMarked starts n → HoldsOfNo
 pub record AreWitnessed (h old g : Graph) (numbers : List ℕ) (k : Condition) (starts : List Bool) (list : List ℕ) (table : List (Option ℕ)) : Type 0 where
   pub grows : GrowsBy h g (IsOldOrCopied h old g numbers)
   pub kept : Extends old g
+  pub distinct : KeepsDistinct old g
   pub long : length table ≡ length h.nodes
   pub each : (c w : ℕ) → slice_get table c ≡ Some (Some w) → IsWitness h g numbers c w
   pub has : (assumed : List ℕ) (c w : ℕ) → HoldsOfMarked h assumed k starts → slice_get table c ≡ Some (Some w) → HoldsOfNode g assumed k w

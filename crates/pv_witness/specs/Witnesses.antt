@@ -4,7 +4,7 @@ use Rattle.pv_graph.specs.Graphs.{Graph}
 use Rattle.pv_steps.specs.Facts.{View}
 use Rattle.pv_heights.specs.Rounds.{Copy}
 use Rattle.pv_heights.specs.Searches.{nodes, IsNode, OneClass}
-use Rattle.pv_instances.specs.Made.{GrowsBy}
+use Rattle.pv_instances.specs.Made.{GrowsBy, KeepsDistinct}
 use Rattle.pv_witness.specs.declared.condition.Condition.{Condition}
 use Rattle.pv_marks.specs.Classes.{class_of}
 use Rattle.pv_witness.specs.Conditions.{HoldsOfNode, HoldsOfClass, AreStarts}
@@ -29,9 +29,10 @@ pub record IsWitness (h g : Graph) (numbers : List ℕ) (c w : ℕ) : Type 0 whe
   pub sort_ : slice_get g.sorts w ≡ slice_get h.sorts of_
 
 -- the table has a witness at the number of each class of which the condition holds, and the condition holds of each witness in it; old
--- nodes stay, and each new one is a copy
+-- nodes stay, and each new one is a copy, and there once
 pub record AreWitnesses (h old new : Graph) (numbers : List ℕ) (k : Condition) (starts : List Bool) (table : List (Option ℕ)) : Type 0 where
   pub grows : GrowsBy old new (IsCopied h new numbers)
+  pub distinct : KeepsDistinct old new
   pub long : length table ≡ length numbers
   pub each : (c w : ℕ) → slice_get table c ≡ Some (Some w) → IsWitness h new numbers c w
   pub hold : (view : View) (assumed : List ℕ) → AreStarts view assumed h k starts → (c w : ℕ) → slice_get table c ≡ Some (Some w) → HoldsOfNode new assumed k w

@@ -1,6 +1,6 @@
 -- A match is one whatever the names stand for that its left side doesn't name; and the witnesses of its conditions are all that the
 -- choice of its nodes needs.
-use Rattle.std.specs.Prelude.{◌≡◌, ◌≢◌, ◌⊎◌, ℕ, ◌<◌, Bool, true, false, ◌&&◌, ◌||◌, List, [], ◌∷◌, ◌++◌, length, Option, Some, None, slice_get, refl}
+use Rattle.std.specs.Prelude.{◌≡◌, ◌≢◌, ◌⊎◌, ℕ, suc, ◌<◌, Bool, true, false, ◌&&◌, ◌||◌, List, [], ◌∷◌, ◌++◌, length, Option, Some, None, slice_get, refl}
 use Rattle.std.specs.List.{AllZip, AllByRecursion}
 use Rattle.std.proofs.Common.{inl, inr, sym, ap, ◌∙◌, subst, arith}
 use Rattle.std.proofs.lemmas.Option.{same_Some}
@@ -22,15 +22,17 @@ use Rattle.pv_heights.specs.Filled.{Params, Filled, at, of, Parts, no_part, part
 use Rattle.pv_heights.specs.Sides.{Match, ClassHas, InClass, AllInClass}
 use Rattle.pv_heights.specs.Conditions.{NotFree, Holds}
 use Rattle.pv_heights.specs.Matches.{AgreeOn, AreOne}
-use Rattle.pv_heights.specs.Searches.{nodes, IsNode, OneClass, IsMatchAt, AreAllAt}
+use Rattle.pv_heights.specs.Searches.{nodes, IsNode, OneClass, base_view, IsMatchAt, AreAllAt}
 use Rattle.pv_heights.proofs.Named.{In-left, In-right, filled_agrees, name_same}
 use Rattle.pv_heights.proofs.Sides.{zip_left, zip_right}
 use Rattle.pv_saturate.specs.declared.choice.Witnesses.{Witnesses}
 use Rattle.pv_saturate.specs.Choice.{CanChoose, HasWitness}
 use Rattle.pv_saturate.specs.Added.{LeftStands}
-use Rattle.pv_saturate.specs.Decoding.{IsSameMatch}
+use Rattle.pv_match.specs.declared.found.Match as found
+use Rattle.pv_match.specs.AllMatches.{Shows, AreAllMatches}
+use Rattle.pv_saturate.specs.Decoding.{IsDecoded, IsSameMatch, ShowsMatch}
 use Rattle.pv_saturate.specs.Tables.{HaveWitnesses}
-use Rattle.pv_saturate.proofs.Lists.{all_in}
+use Rattle.pv_saturate.proofs.Lists.{all_in, in_get}
 
 -- ---- what the conditions name, the left side names
 
@@ -182,6 +184,29 @@ module _ (view : View) (assumed : List ℕ) (table : List Axiom) (g : Graph) (nu
         let s = zip_right IsSameMatch list others z j e there in
         all.once i j r.0 s.0 lt r.1 s.1 (one_before r.0 d s.0 e r.2 s.2 o);
   }
+
+-- ---- what matching finds
+
+-- each match of its list shows one
+pub each_shown : (g : Graph) (numbers assumed : List ℕ) (table : List Axiom) (list : List found.Match) → AreAllMatches g numbers assumed table list → (x : found.Match) → In list x → ShowsMatch table x
+each_shown g numbers assumed table list all x i =
+    let at_ = in_get list x i in
+    let h = zip_left Shows list all.matches all.shown at_.0 x at_.1 in
+    (h.0, record { shows = h.2; view = base_view g; assumed = assumed; graph = g; numbers = numbers; is = all.all.each at_.0 h.0 h.1 })
+
+module _ (g : Graph) (numbers assumed : List ℕ) (table : List Axiom) where
+  zip_same : (list : List found.Match) (hs ds : List (Match ℕ)) → AllZip Shows list hs → ((i : ℕ) (h : Match ℕ) → slice_get hs i ≡ Some h → IsMatchAt (base_view g) assumed table g numbers h) → AllZip (IsDecoded table) list ds → AllZip IsSameMatch hs ds
+  zip_same [] [] [] s each z = tt
+  zip_same [] [] (d ∷ ds) s each z = absurd z
+  zip_same [] (h ∷ hs) ds s each z = absurd s
+  zip_same (x ∷ list) [] ds s each z = absurd s
+  zip_same (x ∷ list) (h ∷ hs) [] s each z = absurd z
+  zip_same (x ∷ list) (h ∷ hs) (d ∷ ds) s each z =
+      (z.0 h (record { shows = s.0; view = base_view g; assumed = assumed; graph = g; numbers = numbers; is = each 0 h refl }), zip_same list hs ds s.1 (λ i k e. each (suc i) k e) z.1)
+
+  -- all of them decoded are all matches
+  pub decoded_are_all : ((e : Axiom) → In table e → BindsItsNames e) → (list : List found.Match) (ds : List (Match ℕ)) → AreAllMatches g numbers assumed table list → AllZip (IsDecoded table) list ds → AreAllAt (base_view g) assumed table g numbers ds
+  decoded_are_all binds list ds all z = same_are_all (base_view g) assumed table g numbers binds all.matches ds (zip_same list all.matches ds all.shown all.all.each z) all.all
 
 -- ---- the choice of its nodes
 

@@ -35,6 +35,10 @@ pub record IsSameMatch (h d : Match ℕ) : Type 0 where
   pub kids : h.kids ≡ d.kids
   pub vars : h.vars ≡ d.vars
 
+-- d is so each match that x shows
+abbrev pub IsDecoded : List Axiom → found.Match → Match ℕ → Type 0
+IsDecoded table x d = (h : Match ℕ) → IsShown table x h → IsSameMatch h d
+
 -- what is decoded, as a match
 abbrev pub decoded_seen : Decoded → Match ℕ
 decoded_seen d = record { entry = axiom_seen d.entry.now; params = params_seen d.params; kids = d.kids.now; vars = d.vars.now }

@@ -1,14 +1,13 @@
 //! A match as matching gives it, decoded.
 
-ghost use Rattle.std.specs.Prelude.{◌≡◌, ℕ, IfOk, MatchOption, map};
+ghost use Rattle.std.specs.Prelude.{◌≡◌, IfOk, MatchOption, map};
 ghost use Rattle.pv_graph.specs.Walks.{In};
 ghost use Rattle.pv_axioms.specs.Entries.{NumbersOnce};
-ghost use Rattle.pv_heights.specs.Sides as sides;
 ghost use Rattle.pv_pattern.specs.Patterns as patterns;
 ghost use Rattle.pv_pattern.specs.Seen.{axiom_seen};
 ghost use Rattle.pv_match.specs.Reading.{AreReadable};
 ghost use Rattle.pv_saturate.specs.Choice.{AreNames};
-ghost use Rattle.pv_saturate.specs.Decoding.{IsSameMatch, IsShown, ShowsMatch, decoded_seen};
+ghost use Rattle.pv_saturate.specs.Decoding.{IsDecoded, ShowsMatch, decoded_seen};
 
 use crate::left::{family, names_of, variables};
 use crate::telling::tell_all;
@@ -42,7 +41,8 @@ fn axiom_with(table: &[Axiom], number: u32) -> Option<&Axiom>
     None
 }
 
-/// Decodes a match of a table: it is the match that was found but for what its left side doesn't name.
+/// Decodes a match of a table: it is the match that was found but for what its left side doesn't name. Only memory can run
+/// out.
 pub fn decode<'a>(
     alloc: Global,
     table: &'a [Axiom],
@@ -52,7 +52,7 @@ pub fn decode<'a>(
     requires once { NumbersOnce (map axiom_seen table.now) }
     requires shown { ShowsMatch (map axiom_seen table.now) found.now }
     ensures names { IfOk result (λ d. AreNames d.names.items (decoded_seen d)) }
-    ensures same { IfOk result (λ d. (h : sides.Match ℕ) → IsShown (map axiom_seen table.now) found.now h → IsSameMatch h (decoded_seen d)) }
+    ensures same { IfOk result (λ d. IsDecoded (map axiom_seen table.now) found.now (decoded_seen d)) }
 {
     let Some(entry) = axiom_with(table, found.axiom) else {
         unreachable!()

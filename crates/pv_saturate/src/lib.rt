@@ -8,7 +8,7 @@
 //!
 //! `decode` takes a match that is given by the number of its axiom, a list of parameters and its classes, and says what the names of
 //! the left side stand for (`specs/Decoding`): it is the match that was found but for what its left side doesn't name
-//! (`IsSameMatch`). So all that are decoded of all matches are all matches again (`proofs/Matching`, `same_are_all`).
+//! (`IsSameMatch`). So all matches, decoded, are all matches (`proofs/Matching`, `decoded_are_all`).
 //!
 //! `choose` takes a node for each variable of a match: the witness where the axiom asks a condition of its class, the constant
 //! where it stands for constants, and else a node of the class (`specs/Choice`). The layer above uses `add_match`, which makes

@@ -10,7 +10,7 @@ use Rattle.pv_graph.specs.Graphs.{Graph, IsGraph}
 use Rattle.pv_graph.specs.Calls.{IsSame}
 use Rattle.pv_graph.proofs.Cited.{sort_there}
 use Rattle.pv_heights.specs.Sides.{Match}
-use Rattle.pv_heights.specs.Rounds.{ClassCopy, IsInstanceOf}
+use Rattle.pv_heights.specs.Rounds.{ClassCopy}
 use Rattle.pv_heights.specs.Rounds as copy
 use Rattle.pv_heights.specs.Searches.{nodes, IsNode, OneClass}
 use Rattle.pv_axioms.specs.Entries.{axioms}
@@ -128,16 +128,11 @@ module _ (g : Graph) (numbers : List ℕ) (m : Match ℕ) (t : Witnesses) (is_gr
       grows = grows;
       distinct = subst (λ (z : Graph). KeepsDistinct z new) e made.distinct;
       chosen = record { long = chosen.long; each = chosen_later };
-      instance_ = record {
-        chosen = over m vars;
-        is_chosen = record {
-          entry = refl;
-          params = refl;
-          kids = zip_itself Copies m.kids (more_all (IsNode h) (λ n. Copies n n) m.kids kid_copy left.kids);
-          vars = zip_copies Copies m.vars vars chosen.long (λ j v w a b. (chosen_later j v w a b).copy);
-        };
-        left = made.left;
-        right = made.right;
+      choice_ = record {
+        entry = refl;
+        params = refl;
+        kids = zip_itself Copies m.kids (more_all (IsNode h) (λ n. Copies n n) m.kids kid_copy left.kids);
+        vars = zip_copies Copies m.vars vars chosen.long (λ j v w a b. (chosen_later j v w a b).copy);
       };
       left = made.left;
       right = made.right;

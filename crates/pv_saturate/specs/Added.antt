@@ -3,7 +3,7 @@ use Rattle.std.specs.Prelude.{◌≡◌, ℕ, List, slice_get}
 use Rattle.std.specs.List.{AllByRecursion}
 use Rattle.pv_graph.specs.Graphs.{Graph}
 use Rattle.pv_heights.specs.Sides.{Match, StandsIn, IsSideOf}
-use Rattle.pv_heights.specs.Rounds.{IsInstanceOf}
+use Rattle.pv_heights.specs.Rounds.{IsChoice}
 use Rattle.pv_heights.specs.Searches.{nodes, IsNode, OneClass}
 use Rattle.pv_instances.specs.Made.{GrowsBy, KeepsDistinct, IsPartOfInstance}
 use Rattle.pv_saturate.specs.declared.choice.Witnesses.{Witnesses}
@@ -20,13 +20,13 @@ pub record LeftStands (h : Graph) (numbers : List ℕ) (m : Match ℕ) : Type 0 
 abbrev pub over : Match ℕ → List ℕ → Match ℕ
 over m vars = record { entry = m.entry; params = m.params; kids = m.kids; vars = vars }
 
--- these nodes are chosen for its variables; l and r are its two sides over them, and have one sort; so they are an instance as a
--- round owes it; old nodes stay, and each new one is a part of a side, and there once
+-- these nodes are chosen for its variables, copies of nodes of its classes; l and r are its two sides over them, as a round owes them, and
+-- have one sort; old nodes stay, and each new one is a part of a side, and there once
 pub record AddedMatch (h old new : Graph) (numbers : List ℕ) (m : Match ℕ) (t : Witnesses) (vars : List ℕ) (l r : ℕ) : Type 0 where
   pub grows : GrowsBy old new (IsPartOfInstance new (over m vars))
   pub distinct : KeepsDistinct old new
   pub chosen : AreChosenFor h new numbers m t m.vars vars
+  pub choice_ : IsChoice (nodes new) (IsNode h) (OneClass numbers) (IsNode new) m (over m vars)
   pub left : IsSideOf (nodes new) (IsNode new) (over m vars) m.entry.left l
   pub right : IsSideOf (nodes new) (IsNode new) (over m vars) m.entry.right r
-  pub instance_ : IsInstanceOf (nodes new) (IsNode h) (OneClass numbers) (IsNode new) m l r
   pub one_sort : slice_get new.sorts l ≡ slice_get new.sorts r

@@ -1,0 +1,229 @@
+-- What is known of a search that has made some rounds.
+use Rattle.std.specs.Prelude.{◌≡◌, ◌↔◌, ℕ, zero, suc, ◌<◌, ◌≤◌, Bool, false, List, map, length, take, Some, slice_get, refl}
+use Rattle.std.specs.List.{AllZip}
+use Rattle.std.proofs.Common.{inl, inr, sym, ap, ◌∙◌, subst, arith}
+use Rattle.pv_graph.specs.Forms.{form}
+use Rattle.pv_graph.specs.Walks.{In}
+use Rattle.pv_graph.specs.declared.node.Node.{Node}
+use Rattle.pv_graph.specs.declared.node.OpSort.{OpSort}
+use Rattle.pv_graph.specs.Graphs.{Graph, form_at, IsGraph}
+use Rattle.pv_graph.specs.Calls.{IsSame, IsDistinct}
+use Rattle.pv_pattern.specs.Seen.{axiom_seen}
+use Rattle.pv_pattern.specs.Patterns.{Axiom}
+use Rattle.pv_steps.specs.Facts.{View}
+use Rattle.pv_axioms.specs.Entries.{axioms}
+use Rattle.pv_axioms.proofs.Cited.{binds_names}
+use Rattle.pv_heights.specs.Sides.{Match}
+use Rattle.pv_heights.specs.Matches.{IsMatch}
+use Rattle.pv_heights.specs.SameClasses.{IsCongruence}
+use Rattle.pv_heights.specs.Heights.{Nothing}
+use Rattle.pv_heights.specs.Searches.{IsWhole, IsMatchAt, nodes, IsNode, OneClass, base_view, AreJoined, AreAllAt, IsSaturatedAt, Reached, begin}
+use Rattle.pv_heights.proofs.Cited.{base_view_is, graph_whole, reached_exact, list_counts, saturated_where, place_of, zip_length}
+use Rattle.pv_classes.specs.Calls.{Classes, IsNew, Knows, KnowsFirst, Grows}
+use Rattle.pv_induct.specs.Inducts.{Inducts}
+use Rattle.pv_closings.proofs.Cited.{induct_joins, first_joins}
+use Rattle.pv_instances.specs.Classes.{JoinedHaveOneSort}
+use Rattle.pv_instances.proofs.ClassSorts.{beginning_has_sorts}
+use Rattle.pv_instances.proofs.Cited.{extends_both}
+use Rattle.pv_witness.specs.Numbered.{AreNumbered, numbered}
+use Rattle.pv_witness.proofs.Cited.{longer, first_is}
+use Rattle.pv_marks.specs.Marks.{AreNodeMarks}
+use Rattle.pv_marks.proofs.Basing.{marks_stay}
+use Rattle.pv_match.specs.declared.found.Match as found
+use Rattle.pv_match.specs.declared.found.Matches.{Matches}
+use Rattle.pv_match.specs.AllMatches.{Shows, AreAllMatches, IsAnswer}
+use Rattle.pv_match.specs.Reading.{AreReadable}
+use Rattle.pv_match.proofs.Cited.{tested}
+use Rattle.pv_saturate.specs.declared.decoding.Decoded.{Decoded}
+use Rattle.pv_saturate.specs.Decoding.{IsDecoded, decoded_seen}
+use Rattle.pv_saturate.proofs.Cited.{each_shown, decoded_are_all}
+use Rattle.pv_rounds.specs.declared.search.Search.{Search}
+use Rattle.pv_rounds.specs.Decoded.{AreShown}
+use Rattle.pv_rounds.specs.Standing.{AllStand, AreOver}
+use Rattle.pv_rounds.specs.declared.owed.Owed.{Owed}
+use Rattle.pv_rounds.specs.Owed.{AreMatches, IsOwed, AddsAll}
+use Rattle.pv_rounds.specs.Joining.{AreWithin, JoinsAll}
+use Rattle.pv_rounds.specs.Searching.{IsLeastGraph, IsSearch, IsOver, IsSaturatedNow}
+use Rattle.pv_rounds.proofs.Numbers.{one_of}
+use Rattle.pv_rounds.proofs.Rounding.{zip_second, all_numbered, sorts_after, next_reached}
+
+-- ---- the axioms of all tables
+
+pub all_readable : AreReadable axioms
+all_readable = tested axioms refl
+
+-- ---- lists of matches
+
+module _ (h : Graph) (numbers assumed : List ℕ) (list : List found.Match) (all : AreAllMatches h numbers assumed axioms list) where
+  -- each of them shows a match
+  pub are_shown : AreShown axioms list
+  are_shown x i = each_shown h numbers assumed axioms list all x i
+
+  pub as_long : length list ≡ length all.matches
+  as_long = zip_length Shows list all.matches all.shown
+
+-- ---- the search
+
+module _ (g : Graph) (k : ℕ) (s : Search) (is : IsSearch g k s) where
+  abbrev h : Graph
+  h = s.graph
+
+  abbrev numbers : List ℕ
+  numbers = s.classes.numbers
+
+  abbrev ends : List ℕ
+  ends = s.endings.items
+
+  pub view_is : base_view h ≡ form_at g.nodes
+  view_is = base_view_is g h is.grown (is.base ∙ is.least.base)
+
+  whole : IsWhole (form_at g.nodes)
+  whole = graph_whole g is.least.made.graph
+
+  pub congruence : IsCongruence (base_view h) (nodes h) (IsNode h) (OneClass numbers)
+  congruence = subst (λ (v : View). IsCongruence v (nodes h) (IsNode h) (OneClass numbers)) (sym view_is) (reached_exact g whole ends axioms k h numbers is.reached).congruence
+
+  pub marks_here : AreNodeMarks h ends s.marks.items
+  marks_here = marks_stay g h is.least.made.graph is.grown is.least.base ends s.marks.items is.base is.marks_
+
+  -- matches that are no more than the budget
+  pub not_over : (list : List found.Match) → AreAllMatches h numbers ends axioms list → length list ≤ s.budget → IsOver s → ⊥
+  not_over list all few over =
+      let n = (list_counts (base_view h) ends axioms h numbers all.matches all.all (suc s.budget)).0 over in
+      absurd (let z = as_long h numbers ends list all in omega (arith, n, z, few))
+
+  pub saturated_by : (ms : List (Match ℕ)) → AreAllAt (base_view h) ends axioms h numbers ms → AllStand h numbers ms ↔ IsSaturatedNow s
+  saturated_by ms all =
+      let w = saturated_where g whole ends axioms binds_names k h numbers is.reached ms (subst (λ (v : View). AreAllAt v ends axioms h numbers ms) view_is all) in (
+        (λ stand. subst (λ (v : View). IsSaturatedAt v ends axioms h numbers) (sym view_is) (w.1 stand)),
+        (λ now. w.0 (subst (λ (v : View). IsSaturatedAt v ends axioms h numbers) view_is now)),
+      )
+
+  -- what matching answers
+  pub answered : (base : List ℕ) (a : Matches) → base ≡ s.marks.items → ((ns : List ℕ) → AreNodeMarks h ns base → IsAnswer h numbers ns (map axiom_seen s.table.now) s.budget a) → IsAnswer h numbers ends axioms s.budget a
+  answered base a e f = subst (λ (t : List Axiom). IsAnswer h numbers ends t s.budget a) is.table_ (f ends (subst (λ (b : List ℕ). AreNodeMarks h ends b) (sym e) marks_here))
+
+  -- all matches, decoded
+  pub all_decoded : (list : List found.Match) (ds : List (Match ℕ)) → AreAllMatches h numbers ends axioms list → AllZip (IsDecoded (map axiom_seen s.table.now)) list ds → AreAllAt (base_view h) ends axioms h numbers ds
+  all_decoded list ds all z = decoded_are_all h numbers ends axioms binds_names list ds all (subst (λ (t : List Axiom). AllZip (IsDecoded t) list ds) is.table_ z)
+
+  pub are_over : (ms : List (Match ℕ)) → AreAllAt (base_view h) ends axioms h numbers ms → AreOver h ms
+  are_over ms all m i = let p = place_of ms m i in let k = all.each p.0 m p.1 in (k.kids, k.vars)
+
+  -- for the round
+  pub numbered_all : AreNumbered h numbers
+  numbered_all = record {
+    few = (let z = is.knows.long in omega (arith, z));
+    base = (let z = is.knows.long in let y = is.graph_.base in omega (arith, z, y));
+    within = λ n lt. (let z = is.classes_.low n lt in omega (arith, z, lt));
+  }
+
+  same_nodes : (numbered h numbers).nodes ≡ h.nodes
+  same_nodes = all_numbered h numbers is.knows.long
+
+  same_sorts : (numbered h numbers).sorts ≡ h.sorts
+  same_sorts = ap (λ (n : ℕ). take n h.sorts) (is.knows.long ∙ sym is.graph_.long) ∙ first_is h.sorts h.sorts (λ n x e. e)
+
+  pub sorts_numbered : JoinedHaveOneSort (numbered h numbers) (OneClass numbers)
+  sorts_numbered a b o = subst (λ (ss : List OpSort). slice_get ss a ≡ slice_get ss b) (sym same_sorts) (is.sorts a b o)
+
+  pub are_matches : (ms : List (Match ℕ)) → AreAllAt (base_view h) ends axioms h numbers ms → AreMatches (numbered h numbers) numbers ends ms
+  are_matches ms all = record {
+    least = g;
+    graph = is.least.made.graph;
+    extends_ = record {
+      nodes = λ n node e. subst (λ (ns : List Node). slice_get ns n ≡ Some node) (sym same_nodes) (is.grown.nodes n node e);
+      sorts = λ n o e. subst (λ (ss : List OpSort). slice_get ss n ≡ Some o) (sym same_sorts) (is.grown.sorts n o e);
+    };
+    few = (let z = longer g h is.grown in let y = is.knows.long in omega (arith, z, y));
+    each = λ m i. (let p = place_of ms m i in
+        let k : IsMatchAt (form_at g.nodes) ends axioms h numbers m = subst (λ (v : View). IsMatchAt v ends axioms h numbers m) view_is (all.each p.0 m p.1) in
+        subst (λ (ns : List Node). IsMatch (form_at g.nodes) ends axioms (record { Thing = ℕ; Has = λ n o ks. form_at ns n ≡ Some (form o ks); node = λ n. n }) (λ n. n < length ns) (OneClass numbers) m) (sym same_nodes) k);
+  }
+
+-- ---- at the beginning
+
+pub begun : (g : Graph) (s : Search) (old : Classes) (found : Bool) → IsLeastGraph g → IsSame g s.graph → IsGraph s.graph → map axiom_seen s.table.now ≡ axioms → AreNodeMarks g s.endings.items s.marks.items → IsNew s.graph.nodes old
+    → Inducts s.graph.nodes old s.classes found → IsSearch g zero s
+begun g s old found least e is table marks fresh inducts =
+    let h : Graph = s.graph in
+    let nodes_same : h.nodes ≡ g.nodes = ap (λ (k : Graph). k.nodes) e in
+    let sorts_same : h.sorts ≡ g.sorts = ap (λ (k : Graph). k.sorts) e in
+    let sealed_ : h.is_open ≡ false = ap (λ (k : Graph). k.is_open) e ∙ least.sealed in
+    let joined : AreJoined h Nothing s.classes.numbers = first_joins h old s.classes found fresh inducts in
+    record {
+      least = least;
+      table_ = table;
+      graph_ = is;
+      apart = subst (λ (ns : List Node). IsDistinct ns) (sym nodes_same) least.distinct;
+      grown = record { nodes = λ n node x. subst (λ (ns : List Node). slice_get ns n ≡ Some node) (sym nodes_same) x; sorts = λ n o x. subst (λ (os : List OpSort). slice_get os n ≡ Some o) (sym sorts_same) x };
+      base = ap (λ (k : Graph). k.base) e;
+      sealed = sealed_;
+      marks_ = marks;
+      knows = inducts.knows;
+      classes_ = inducts.classes;
+      sorts = beginning_has_sorts h s.classes.numbers is sealed_ joined;
+      reached = begin h s.classes.numbers nodes_same joined;
+    }
+
+-- ---- a round
+
+-- what was added for lists that are those of the search
+pub adds_here : (h i : Graph) (own ns ends es : List ℕ) (ds xs : List Decoded) (owed : List Owed) → ns ≡ own → es ≡ ends → xs ≡ ds → AddsAll (numbered h ns) h i ns es (map decoded_seen xs) owed → AddsAll (numbered h own) h i own ends (map decoded_seen ds) owed
+adds_here h i own ns ends es ds xs owed e f u adds =
+    subst (λ (a : List ℕ). AddsAll (numbered h a) h i a ends (map decoded_seen ds) owed) e
+    (subst (λ (b : List ℕ). AddsAll (numbered h ns) h i ns b (map decoded_seen ds) owed) f
+    (subst (λ (d : List Decoded). AddsAll (numbered h ns) h i ns es (map decoded_seen d) owed) u adds))
+
+module _ (g : Graph) (k : ℕ) (s : Search) (is : IsSearch g k s) (i : Graph) (ms : List (Match ℕ)) (owed : List Owed) (adds : AddsAll (numbered s.graph s.classes.numbers) s.graph i s.classes.numbers s.endings.items ms owed) where
+  -- the classes know the first nodes
+  pub first_known : KnowsFirst i.nodes s.classes
+  first_known =
+      let long = is.knows.long in
+      let same : take (length s.classes.numbers) i.nodes ≡ s.graph.nodes = ap (λ (n : ℕ). take n i.nodes) long ∙ first_is s.graph.nodes i.nodes adds.grows.extends_.nodes in
+      ((let z = longer s.graph i adds.grows.extends_ in omega (arith, z, long)), subst (λ (ns : List Node). Knows ns s.classes) (sym same) is.knows)
+
+  -- the sides of the joins have numbers
+  pub sides_within : (grown : Classes) → Grows i.nodes s.classes grown → AreWithin (length grown.numbers) owed
+  sides_within grown grows o j =
+      let m = zip_second (IsOwed (numbered s.graph s.classes.numbers) i s.classes.numbers s.endings.items) ms owed adds.joins o j in
+      let l = m.2.left in
+      let r = m.2.right in
+      let long = grows.long in
+      (omega (arith, l, long), omega (arith, r, long))
+
+module _ (g : Graph) (k : ℕ) (s t : Search) (is : IsSearch g k s) (ms : List (Match ℕ)) (owed : List Owed) (grown joins : Classes) (found_ : Bool) (ii : IsGraph t.graph)
+    (all : AreAllAt (base_view s.graph) s.endings.items axioms s.graph s.classes.numbers ms) (adds : AddsAll (numbered s.graph s.classes.numbers) s.graph t.graph s.classes.numbers s.endings.items ms owed)
+    (grows : Grows t.graph.nodes s.classes grown) (joined : JoinsAll grown joins owed) (inducts : Inducts t.graph.nodes joins t.classes found_)
+    (table : t.table.now ≡ s.table.now) (ends_same : t.endings.items ≡ s.endings.items) (marks_same : t.marks.items ≡ s.marks.items) where
+  long : length s.classes.numbers ≡ length s.graph.nodes
+  long = is.knows.long
+
+  few : length s.classes.numbers ≤ length t.graph.nodes
+  few = let z = longer s.graph t.graph adds.grows.extends_ in omega (arith, z, long)
+
+  closed : AreJoined t.graph (OneClass joins.numbers) t.classes.numbers
+  closed = induct_joins t.graph joins t.classes found_ inducts
+
+  all_here : AreAllAt (form_at g.nodes) s.endings.items axioms s.graph s.classes.numbers ms
+  all_here = subst (λ (v : View). AreAllAt v s.endings.items axioms s.graph s.classes.numbers ms) (view_is g k s is) all
+
+  sorts_of : (o : Owed) → In owed o → slice_get t.graph.sorts o.left ≡ slice_get t.graph.sorts o.right
+  sorts_of o i = let m = zip_second (IsOwed (numbered s.graph s.classes.numbers) t.graph s.classes.numbers s.endings.items) ms owed adds.joins o i in m.2.one_sort
+
+  pub next_search : IsSearch g (suc k) t
+  next_search = record {
+    least = is.least;
+    table_ = ap (map axiom_seen) table ∙ is.table_;
+    graph_ = ii;
+    apart = adds.distinct is.apart;
+    grown = extends_both g s.graph t.graph is.grown adds.grows.extends_;
+    base = adds.grows.base ∙ is.base;
+    sealed = adds.grows.sealed ∙ is.sealed;
+    marks_ = subst (λ (es : List ℕ). AreNodeMarks g es t.marks.items) (sym ends_same) (subst (λ (xs : List ℕ). AreNodeMarks g s.endings.items xs) (sym marks_same) is.marks_);
+    knows = inducts.knows;
+    classes_ = inducts.classes;
+    sorts = sorts_after s.graph t.graph s.classes grown joins owed few is.classes_.low grows joined is.graph_ long adds.grows.extends_ is.sorts sorts_of (λ a b o. (let x = one_of s.classes.numbers a b o in (x.0, x.1))) ii (adds.grows.sealed ∙ is.sealed) t.classes.numbers closed;
+    reached = subst (λ (es : List ℕ). Reached g es axioms (suc k) t.graph t.classes.numbers) (sym ends_same)
+        (next_reached g s.endings.items k s.graph t.graph s.classes grown joins t.classes.numbers ms owed is.least.made.graph ii adds.grows.extends_ long few is.classes_.low all_here adds grows joined closed is.reached);
+  }

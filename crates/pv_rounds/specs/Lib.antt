@@ -1,0 +1,9 @@
+-- what public contracts say
+pub mod Searching
+-- the parts of a round
+pub mod Decoded
+pub mod Standing
+pub mod Asking
+pub mod Tables
+pub mod Owed
+pub mod Joining

@@ -1,0 +1,127 @@
+//! A search: a graph that grows from a least graph, with classes of its nodes.
+
+ghost use Rattle.std.specs.Prelude.{◌≡◌, ◌↔◌, IfOk, IsTrue, OnOk, map};
+ghost use Rattle.pv_axioms.specs.Entries.{axioms};
+ghost use Rattle.pv_match.specs.AllMatches.{AreAllMatches};
+ghost use Rattle.pv_pattern.specs.Seen.{axiom_seen};
+ghost use Rattle.pv_rounds.specs.Searching.{Begins, GoesOn, IsBegun, IsLeastGraph, IsSaturatedNow, Looks};
+
+use crate::decoded::decode_all;
+use crate::joining::join_all;
+use crate::owed::add_all;
+use crate::standing::all_stand;
+use pv_base::Gate;
+use pv_classes::Classes;
+use pv_graph::{Graph, NodeId};
+use pv_induct::induct;
+use pv_marks::node_marks;
+use pv_match::{Match, Matches, matches};
+use pv_pattern::Axiom;
+use pv_value::Memory;
+use std::alloc::Global;
+
+/// A search: its graph, the classes of its nodes, the axioms, the nodes that count as ending, the marks of the base, and how
+/// many matches a round may have. Its classes are closed, with all inductions.
+#[derive(Drop)]
+pub struct Search<'a> {
+    pub graph: Graph,
+    pub classes: Classes,
+    pub table: &'a [Axiom],
+    pub endings: Vec<NodeId>,
+    pub marks: Vec<u32>,
+    pub budget: u32,
+}
+
+/// What is seen of a search before a round.
+#[derive(Debug, Drop)]
+pub enum Looked {
+    /// There are more matches than the budget: this many at least.
+    Over(usize),
+    /// No match joins more.
+    Saturated,
+    /// Some match joins more. These are all matches.
+    Open(Vec<Match>),
+}
+
+impl<'a> Search<'a> {
+    /// The search over a least graph, by all axioms, before its first round. Its classes are what congruence and inductions join.
+    pub fn new(
+        alloc: Global,
+        least: &Graph,
+        table: &'a [Axiom],
+        endings: Vec<NodeId>,
+        budget: u32,
+    ) -> Result<Search<'a>, Memory>
+        requires least { IsLeastGraph least.now }
+        requires table { map axiom_seen table.now ≡ axioms }
+        ensures { IfOk result (λ s. Begins least.now endings.items budget s) }
+    {
+        let marks = node_marks(alloc, least, &endings)?;
+        let graph = least.copy(alloc)?;
+        let _count = graph.len();
+        let mut classes = Classes::new(alloc, &graph)?;
+        induct(alloc, &graph, &mut classes)?;
+        Ok(Search {
+            graph,
+            classes,
+            table,
+            endings,
+            marks,
+            budget,
+        })
+    }
+
+    /// What there is to do. It passes the gate before each node at which a left side may start, as piece 0.
+    pub fn look<G: Gate>(&self, alloc: Global, gate: &G) -> Result<Looked, Memory>
+        requires { IsBegun self.now }
+        ensures { IfOk result (λ looked. Looks self.now looked) }
+    {
+        let _count = self.graph.len();
+        match matches(
+            alloc,
+            gate,
+            &self.graph,
+            &self.classes,
+            &self.marks,
+            self.table,
+            self.budget as usize,
+        )? {
+            Matches::More(n) => Ok(Looked::Over(n)),
+            Matches::All(list) => {
+                if self.is_saturated(alloc, &list)? {
+                    Ok(Looked::Saturated)
+                } else {
+                    Ok(Looked::Open(list))
+                }
+            }
+        }
+    }
+
+    // Whether none of these, which are all matches, joins more.
+    fn is_saturated(&self, alloc: Global, list: &[Match]) -> Result<bool, Memory>
+        requires begun { IsBegun self.now }
+        requires all { AreAllMatches self.now.graph self.now.classes.numbers self.now.endings.items axioms list.now }
+        ensures { IfOk result (λ yes. IsTrue yes ↔ IsSaturatedNow self.now) }
+    {
+        let all = decode_all(alloc, self.table, list)?;
+        all_stand(alloc, &self.graph, &self.classes, &all)
+    }
+
+    /// Makes a round by the list of all matches: an instance of each is added, and its sides are joined, and then all that
+    /// congruence and inductions join. After `Memory` the search is given up.
+    pub fn grow(&mut self, alloc: Global, list: &[Match]) -> Result<(), Memory>
+        requires begun { IsBegun self.old }
+        requires all { AreAllMatches self.old.graph self.old.classes.numbers self.old.endings.items axioms list.now }
+        ensures { OnOk result (GoesOn self.old self.new) }
+    {
+        let _count = self.graph.len();
+        let all = decode_all(alloc, self.table, list)?;
+        let numbers = self.classes.numbers(alloc)?;
+        let owed = add_all(alloc, &mut self.graph, &numbers, &self.endings, &all)?;
+        let _here = self.graph.len();
+        self.classes.grow(alloc, &self.graph)?;
+        join_all(alloc, &mut self.classes, &owed)?;
+        induct(alloc, &self.graph, &mut self.classes)?;
+        Ok(())
+    }
+}

@@ -1,8 +1,7 @@
 -- The instances of a round, one after another.
-use Rattle.std.specs.Prelude.{◌≡◌, ◌⊎◌, ℕ, List, [], ◌∷◌, ◌++◌, Some, slice_get}
+use Rattle.std.specs.Prelude.{ℕ, List, [], ◌∷◌, ◌++◌}
 use Rattle.std.specs.List.{AllZip}
 use Rattle.std.proofs.Common.{inl, inr, sym, ◌∙◌}
-use Rattle.pv_graph.specs.Walks.{In}
 use Rattle.pv_graph.specs.Graphs.{Graph, IsGraph, Extends}
 use Rattle.pv_graph.proofs.Cited.{in_front, in_last, sort_there}
 use Rattle.pv_pattern.specs.Patterns.{Pattern}

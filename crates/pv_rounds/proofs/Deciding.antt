@@ -3,7 +3,6 @@ use Rattle.std.specs.Prelude.{◌≡◌, ℕ, ◌+◌, ◌<◌, List, [], ◌∷
 use Rattle.std.specs.List.{AllZip}
 use Rattle.std.proofs.Common.{inl, inr, sym, ap, ◌∙◌, subst, get_or}
 use Rattle.std.proofs.lemmas.List.{take_more, map-append}
-use Rattle.pv_graph.specs.Walks.{In}
 use Rattle.pv_graph.proofs.Cited.{in_cases}
 use Rattle.pv_pattern.specs.Patterns.{Axiom}
 use Rattle.pv_heights.specs.Sides.{Match}

@@ -1,12 +1,12 @@
 -- The joins of a round, one after another.
-use Rattle.std.specs.Prelude.{◌≡◌, ◌⊎◌, ℕ, ◌<◌, List, [], ◌∷◌, ◌++◌, map, length, refl}
+use Rattle.std.specs.Prelude.{◌≡◌, ℕ, ◌<◌, List, [], ◌∷◌, ◌++◌, map, length, refl}
 use Rattle.std.proofs.Common.{inl, inr, sym, ap, ◌∙◌, subst, arith, get_or}
 use Rattle.std.proofs.lemmas.List.{map-append, append-nil}
 use Rattle.pv_graph.specs.Walks.{In}
 use Rattle.pv_graph.proofs.Cited.{in_at, in_cases, in_front, in_last}
 use Rattle.pv_classes.specs.declared.join.Join.{Join}
 use Rattle.pv_classes.specs.declared.join.Reason.TheVariants as reason
-use Rattle.pv_classes.specs.Partition.{AreOne, IsThrough}
+use Rattle.pv_classes.specs.Partition.{IsThrough}
 use Rattle.pv_classes.specs.Calls.{Classes, IsClasses, Joins}
 use Rattle.pv_heights.specs.Searches.{OneClass, Joining}
 use Rattle.pv_rounds.specs.declared.owed.Owed.{Owed}

@@ -1,11 +1,9 @@
 -- The instance of one match, over the witnesses that its round has.
-use Rattle.std.specs.Prelude.{◌≡◌, ◌⊎◌, ℕ, zero, suc, ◌<◌, List, [], ◌∷◌, ◌++◌, length, Option, Some, slice_get, refl}
-use Rattle.std.specs.List.{AllZip, AllByRecursion}
+use Rattle.std.specs.Prelude.{◌≡◌, ◌⊎◌, ℕ, List, [], ◌∷◌, ◌++◌, Option, Some, slice_get, refl}
+use Rattle.std.specs.List.{AllZip}
 use Rattle.std.proofs.Common.{inl, inr, sym, subst}
 use Rattle.pv_graph.specs.Walks.{In}
 use Rattle.pv_graph.specs.Graphs.{Graph, form_at, IsGraph, Extends}
-use Rattle.pv_pattern.specs.Patterns.{settled, not_free}
-use Rattle.pv_steps.specs.Facts.{View}
 use Rattle.pv_axioms.specs.Entries.{axioms, Instance}
 use Rattle.pv_heights.specs.Sides.{Match}
 use Rattle.pv_heights.specs.Rounds.{ClassCopy, IsInstanceOf}
@@ -13,19 +11,15 @@ use Rattle.pv_heights.specs.Searches.{nodes, IsNode, OneClass, IsMatchAt}
 use Rattle.pv_heights.proofs.Height.{copy_in, end_in}
 use Rattle.pv_instances.specs.Made.{IsPartOfInstance}
 use Rattle.pv_instances.proofs.Growing.{node_kept}
-use Rattle.pv_marks.specs.Classes.{class_of}
-use Rattle.pv_witness.specs.Conditions.{HoldsOfNode}
-use Rattle.pv_witness.specs.declared.condition.Condition.TheVariants as condition
 use Rattle.pv_saturate.specs.declared.choice.Witnesses.{Witnesses}
 use Rattle.pv_saturate.specs.Choice.{HasWitness}
 use Rattle.pv_saturate.specs.Added.{over, AddedMatch}
 use Rattle.pv_saturate.specs.Tables.{HaveWitnesses, WitnessesHold}
-use Rattle.pv_saturate.proofs.Lists.{in_get}
 use Rattle.pv_saturate.proofs.Cited.{certified}
 use Rattle.pv_rounds.specs.declared.owed.Owed.{Owed}
 use Rattle.pv_rounds.specs.declared.tables.AllWitnesses.{AllWitnesses}
 use Rattle.pv_rounds.specs.Tables.{not_free_at, AreTables}
-use Rattle.pv_rounds.specs.Owed.{CanAdd, IsOwed, IsOfMatch, AddsOne}
+use Rattle.pv_rounds.specs.Owed.{CanAdd, IsOfMatch, AddsOne}
 use Rattle.pv_rounds.proofs.Witnessing.{tables_kept}
 
 -- the tables of a round, as those of one match

@@ -1,7 +1,7 @@
 -- What is known of a search that has made some rounds.
 use Rattle.std.specs.Prelude.{◌≡◌, ◌↔◌, ℕ, zero, suc, ◌<◌, ◌≤◌, Bool, false, List, map, length, take, Some, slice_get, refl}
 use Rattle.std.specs.List.{AllZip}
-use Rattle.std.proofs.Common.{inl, inr, sym, ap, ◌∙◌, subst, arith}
+use Rattle.std.proofs.Common.{sym, ap, ◌∙◌, subst, arith}
 use Rattle.pv_graph.specs.Forms.{form}
 use Rattle.pv_graph.specs.Walks.{In}
 use Rattle.pv_graph.specs.declared.node.Node.{Node}

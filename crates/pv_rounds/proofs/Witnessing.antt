@@ -1,9 +1,8 @@
 -- Tables of witnesses, which stay so as the graph grows.
-use Rattle.std.specs.Prelude.{◌≡◌, ◌⊎◌, ℕ, suc, ◌<◌, ◌≤◌, Bool, true, false, List, [], ◌∷◌, ◌++◌, length, Option, Some, None, slice_get, refl}
+use Rattle.std.specs.Prelude.{◌≡◌, ◌⊎◌, ℕ, suc, ◌<◌, Bool, true, false, List, [], ◌∷◌, ◌++◌, length, Option, Some, None, slice_get, refl}
 use Rattle.std.specs.declared.alloc.Global.{Global}
 use Rattle.std.specs.declared.vec.Vec.{Vec}
-use Rattle.std.proofs.Common.{inl, inr, sym, ap, ◌∙◌, subst, arith, length-append}
-use Rattle.std.proofs.lemmas.Option.{slice_get_within}
+use Rattle.std.proofs.Common.{inl, inr, sym, ◌∙◌, subst, arith, length-append}
 use Rattle.pv_graph.specs.Graphs.{Graph, form_at, IsGraph, Extends}
 use Rattle.pv_graph.proofs.Cited.{get_front, get_last, push_cases}
 use Rattle.pv_heights.specs.Sides.{Match}

@@ -1,7 +1,6 @@
-use Rattle.std.proofs.Common.{List, map, get_or, refl, sym, ◌∙◌, subst, true≢false}
+use Rattle.std.proofs.Common.{List, map, refl, sym, ◌∙◌, subst, true≢false}
 use Rattle.pv_pattern.specs.declared.pattern.Side.{Side}
 use Rattle.pv_pattern.specs.Seen.{side_seen}
-use Rattle.pv_heights.specs.Sides.{Match}
 use Rattle.pv_saturate.specs.declared.decoding.Decoded.{Decoded}
 use Rattle.pv_saturate.specs.Decoding.{decoded_seen}
 use Rattle.pv_rounds.specs.Asking.{AsksSettled}

@@ -1,13 +1,10 @@
-use Rattle.std.proofs.Common.{◌≡◌, ℕ, ◌+◌, List, ◌++◌, ◌∷◌, [], map, take, get_or, sym, ap, ◌∙◌, subst}
+use Rattle.std.proofs.Common.{◌+◌, List, map, take, sym, subst}
 use Rattle.std.specs.List.{AllZip}
-use Rattle.std.proofs.lemmas.List.{take_more, map-append}
-use Rattle.pv_graph.proofs.Cited.{in_at, in_cases}
+use Rattle.pv_graph.proofs.Cited.{in_at}
 use Rattle.pv_pattern.specs.Seen.{axiom_seen}
-use Rattle.pv_heights.specs.Sides.{Match}
-use Rattle.pv_match.specs.declared.found.Match as found
 use Rattle.pv_saturate.specs.declared.decoding.Decoded.{Decoded}
 use Rattle.pv_saturate.specs.Decoding.{ShowsMatch, IsDecoded, decoded_seen}
-use Rattle.pv_rounds.specs.Decoded.{IsReady, AreReady}
+use Rattle.pv_rounds.specs.Decoded.{AreReady}
 use Rattle.pv_rounds.proofs.Deciding.{ready_more, decoded_more}
 use Rattle.pv_rounds.proofs.decoded.decode_all.Goals as goal
 

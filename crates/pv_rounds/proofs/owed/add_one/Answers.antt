@@ -1,8 +1,7 @@
-use Rattle.std.proofs.Common.{◌≡◌, ℕ, List, ◌++◌, map, refl, sym, ap, ◌∙◌, subst}
+use Rattle.std.proofs.Common.{ℕ, List, ◌++◌, refl, sym, ap, ◌∙◌, subst}
 use Rattle.pv_graph.specs.Graphs.{form_at}
 use Rattle.pv_heights.specs.Sides.{Match}
 use Rattle.pv_instances.proofs.Cited.{extends_both}
-use Rattle.pv_instances.specs.Seen.{instance_seen}
 use Rattle.pv_witness.specs.Numbered.{numbered}
 use Rattle.pv_witness.proofs.Cited.{numbered_long, numbered_extends}
 use Rattle.pv_saturate.specs.Choice.{CanChoose}

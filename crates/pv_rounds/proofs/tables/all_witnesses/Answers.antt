@@ -1,4 +1,4 @@
-use Rattle.std.proofs.Common.{ℕ, List, map, sym, subst}
+use Rattle.std.proofs.Common.{map, sym, subst}
 use Rattle.pv_graph.specs.Graphs.{Graph}
 use Rattle.pv_heights.specs.Searches.{OneClass}
 use Rattle.pv_instances.specs.Classes.{JoinedHaveOneSort}

@@ -1,4 +1,4 @@
-use Rattle.std.proofs.Common.{◌≡◌, ℕ, ◌+◌, List, ◌++◌, ◌∷◌, [], Option, Vec, Global, length, map, sym, ◌∙◌, subst, arith, length-append}
+use Rattle.std.proofs.Common.{◌≡◌, ℕ, ◌+◌, List, ◌∷◌, [], Option, Vec, Global, length, map, sym, subst, arith, length-append}
 use Rattle.pv_graph.specs.Graphs.{Graph}
 use Rattle.pv_heights.specs.Searches.{OneClass}
 use Rattle.pv_instances.specs.Classes.{JoinedHaveOneSort}

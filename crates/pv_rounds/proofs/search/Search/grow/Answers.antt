@@ -1,4 +1,4 @@
-use Rattle.std.proofs.Common.{◌≡◌, ℕ, List, map, length, refl, sym, ◌∙◌, subst}
+use Rattle.std.proofs.Common.{ℕ, List, map, length, refl, sym, ◌∙◌, subst}
 use Rattle.pv_pattern.specs.Patterns.{Axiom}
 use Rattle.pv_axioms.specs.Entries.{NumbersOnce}
 use Rattle.pv_axioms.proofs.Numbers.{numbers_once}
@@ -10,7 +10,7 @@ use Rattle.pv_saturate.specs.declared.decoding.Decoded.{Decoded}
 use Rattle.pv_saturate.specs.Decoding.{decoded_seen}
 use Rattle.pv_rounds.specs.declared.owed.Owed.{Owed}
 use Rattle.pv_rounds.specs.Decoded.{AreShown}
-use Rattle.pv_rounds.specs.Owed.{AreMatches, AddsAll}
+use Rattle.pv_rounds.specs.Owed.{AreMatches}
 use Rattle.pv_rounds.specs.Joining.{AreWithin, JoinsAll}
 use Rattle.pv_rounds.proofs.Searching.{all_readable, are_shown, all_decoded, sorts_numbered, are_matches, adds_here, first_known, sides_within, next_search}
 use Rattle.pv_rounds.proofs.search.Search.grow.Goals as goal

@@ -1,5 +1,4 @@
-use Rattle.std.proofs.Common.{◌↔◌, ℕ, Bool, List, IsTrue, map, sym, ap, ◌∙◌, subst}
-use Rattle.std.specs.List.{AllZip}
+use Rattle.std.proofs.Common.{◌↔◌, Bool, List, IsTrue, map, sym, subst}
 use Rattle.pv_pattern.specs.Patterns.{Axiom}
 use Rattle.pv_axioms.specs.Entries.{NumbersOnce}
 use Rattle.pv_axioms.proofs.Numbers.{numbers_once}

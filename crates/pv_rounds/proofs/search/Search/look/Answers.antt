@@ -1,4 +1,4 @@
-use Rattle.std.proofs.Common.{◌≡◌, ℕ, suc, List, sym, ◌∙◌, subst, true≢false}
+use Rattle.std.proofs.Common.{ℕ, List, sym, ◌∙◌, subst, true≢false}
 use Rattle.pv_axioms.specs.Entries.{NumbersOnce, axioms}
 use Rattle.pv_axioms.proofs.Numbers.{numbers_once}
 use Rattle.pv_heights.specs.Searches.{base_view, AtLeastAt}

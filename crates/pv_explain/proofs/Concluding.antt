@@ -1,5 +1,5 @@
 -- A section: the place where it begins, and what its last step concludes.
-use Rattle.std.specs.Prelude.{◌≡◌, ◌≢◌, ℕ, zero, suc, List, [], ◌++◌, length, reverse, slice_get}
+use Rattle.std.specs.Prelude.{◌≡◌, ℕ, List, [], ◌++◌, length, reverse, slice_get}
 use denote.Bor.{Bor}
 use Rattle.std.proofs.Common.{inr, refl, sym, ap, ◌∙◌, subst, arith}
 use Rattle.std.proofs.lemmas.Option.{same_Some, slice_get_within}
@@ -9,10 +9,8 @@ use Rattle.pv_graph.specs.Calls.{IsSame}
 use Rattle.pv_graph.proofs.Cited.{bind_some, found}
 use Rattle.pv_steps.specs.declared.step.Fact.{Fact}
 use Rattle.pv_steps.specs.declared.step.Step.{Step}
-use Rattle.pv_steps.specs.declared.step.Reason.{Reason}
-use Rattle.pv_steps.specs.declared.step.Reason.TheVariants.{Same, By, Pair}
 use Rattle.pv_steps.specs.Steps.{OpenBlock, blocks, open_after, assumed_in, stated_at, numbered, Equality, AreOpen}
-use Rattle.pv_steps.specs.Right.{Gives, IsFresh}
+use Rattle.pv_steps.specs.Right.{IsFresh}
 use Rattle.pv_steps.specs.Accepted.{AllRight, IsConcluded, Derives}
 use Rattle.pv_steps.proofs.Cited.{in_numbered}
 use Rattle.pv_axioms.specs.Entries.{Instance}
@@ -80,24 +78,11 @@ grounds_at s t assumed e h = subst (λ (q : Bor Graph). JoinsGround q.now.nodes 
 pub outside_at : (w : Written) (s : Source) (t : Search) → s.graph ≡ t.graph → IsOutside w t.graph.now → IsOutside w s.graph.now
 outside_at w s t e h = subst (λ (q : Bor Graph). IsOutside w q.now) (sym e) h
 
--- no block is open before any step
-pub outside_all : (w : Written) (g : Graph) → inside w ≡ [] → IsOutside w g
-outside_all w g none = record {
-  fresh = λ d. subst (λ (ps : List OpenBlock). IsFresh d (blocks ps)) (sym none) tt;
-  low = λ e m. absurd (subst (λ (ps : List OpenBlock). In (assumed_in ps) e) none m);
-}
-
-pub none_assumed : (w : Written) (s : Search) → inside w ≡ [] → IsGrounded s [] → IsGrounded s (assumed_in (inside w))
-none_assumed w s none h = subst (λ (ps : List OpenBlock). IsGrounded s (assumed_in ps)) (sym none) h
-
 pub outside_goes : (old new : Written) (g : Graph) → GoesOn old new → IsOutside old g → IsOutside new g
 outside_goes old new g goes h = record {
   fresh = λ d. subst (λ (ps : List OpenBlock). IsFresh d (blocks ps)) (sym goes.blocks) (h.fresh d);
   low = λ e m. h.low e (subst (λ (ps : List OpenBlock). In (assumed_in ps) e) goes.blocks m);
 }
-
-pub grounded_goes : (old new : Written) (s : Search) → GoesOn old new → IsGrounded s (assumed_in (inside old)) → IsGrounded s (assumed_in (inside new))
-grounded_goes old new s goes h = subst (λ (ps : List OpenBlock). IsGrounded s (assumed_in ps)) (sym goes.blocks) h
 
 -- ---- the last step
 
@@ -121,12 +106,6 @@ concludes w f a b last outside shows =
 pub derives : (w : Written) (f : Fact) (a b : ℕ) (steps : List Step) → AllRight Instance w.least w.before → reverse steps ≡ w.before → f.step ≡ length w.before → inside w ≡ [] → IsFact w f a b → Derives Instance w.least a b steps
 derives w f a b steps right order last outside shows =
     subst (λ (bs : List Step). AllRight Instance w.least bs × IsConcluded bs a b) (sym order) (right, concludes w f a b last outside shows)
-
-pub not_same : (w : Written) (a b : ℕ) (r : Reason) → a ≢ b → ((f : Fact) → r ≡ By f → ⊥) → Gives w.before (inside w) [] r a b → ⊥
-not_same w a b Same apart other h = apart h
-not_same w a b (By f) apart other h = other f refl
-not_same w a b (Pair zero) apart other h = absurd (cc)
-not_same w a b (Pair (suc j)) apart other h = absurd (cc)
 
 pub section_derives : (w : Written) (least : Graph) (a b : ℕ) (steps : List Step) → w.least ≡ least → AllRight Instance w.least (reverse steps) → reverse steps ≡ w.before → inside w ≡ [] → HasLast w a b → Derives Instance least a b steps
 section_derives w least a b steps is right order none last =

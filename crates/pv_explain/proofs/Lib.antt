@@ -10,8 +10,10 @@ mod Congruent
 mod Linking
 -- 6. The place where a join is explained, and the next one.
 mod Placing
--- 7. The whole section.
+-- 7. What the steps of an induction rest on, and what is visible in its block and after it.
+mod Inductions
+-- 8. The whole section.
 mod Concluding
--- 8. More axioms keep the grounds of joins; what other crates cite.
+-- 9. More axioms keep the grounds of joins; what other crates cite.
 mod Giving
 pub mod Cited

@@ -1,0 +1,19 @@
+-- 1. An instance of an axiom is one over copies of its nodes.
+mod Copied
+-- 2. Nodes are copied one after the other.
+mod Copying
+-- 3. Lines on a path are put together.
+mod Following
+-- 4. Nodes of one operation are congruent where lines link their kids.
+mod Congruent
+-- 5. What joins link, their lines link.
+mod Linking
+-- 6. The place where a join is explained, and the next one.
+mod Placing
+-- 7. What the steps of an induction rest on, and what is visible in its block and after it.
+mod Inductions
+-- 8. The whole section.
+mod Concluding
+-- 9. More axioms keep the grounds of joins; what other crates cite.
+mod Giving
+pub mod Cited

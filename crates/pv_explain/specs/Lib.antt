@@ -1,0 +1,7 @@
+-- what public contracts say
+pub mod Copies
+pub mod Sections
+-- the vocabulary of private code
+pub mod Copying
+pub mod Lines
+pub mod Levels

@@ -1,0 +1,126 @@
+//! A section for two nodes that joins link.
+
+ghost use Rattle.std.specs.Prelude.{◌≡◌, ◌≢◌, ◌<◌, [], false, IfOk, OnOk, length};
+ghost use Rattle.pv_graph.specs.Graphs.{IsGraph};
+ghost use Rattle.pv_steps.specs.Steps.{assumed_in};
+ghost use Rattle.pv_steps.specs.Right.{Gives};
+ghost use Rattle.pv_steps.specs.Accepted.{Derives};
+ghost use Rattle.pv_axioms.specs.Entries.{Instance};
+ghost use Rattle.pv_writer.specs.Written.{GoesOn, inside};
+ghost use Rattle.pv_explain.specs.Sections.{HasLinked, HaveNoInduction, IsGrounded, IsGrown};
+ghost use Rattle.pv_explain.specs.Copying.{HasBase};
+ghost use Rattle.pv_explain.specs.Lines.{IsSource};
+ghost use Rattle.pv_explain.specs.Levels.{HasAll, HasLast, IsOutside};
+
+use crate::copy::copy_nodes;
+use crate::joins::state_joins;
+use crate::kids::kid_reason;
+use crate::level::Level;
+use crate::source::{Search, Source};
+use pv_graph::{Graph, NodeId};
+use pv_list::Listed;
+use pv_steps::{Reason, Step};
+use pv_value::Memory;
+use pv_writer::Writer;
+use std::alloc::Global;
+
+// States once more, by the last step, that two nodes are equal.
+fn state_last(writer: &mut Writer, a: NodeId, b: NodeId, why: Reason) -> Result<(), Memory>
+    requires why { Gives writer.old.before (inside writer.old) [] why a b }
+    requires apart { a ≢ b }
+    ensures last { OnOk result (HasLast writer.new a b) }
+    ensures goes { OnOk result (GoesOn writer.old writer.new) }
+{
+    match why {
+        Reason::By(fact) => {
+            let back = writer.flip(b, a, fact)?;
+            let _last = writer.flip(a, b, back)?;
+            Ok(())
+        }
+        _ => unreachable!(),
+    }
+}
+
+// The lines of all joins of a search.
+fn state_all(
+    alloc: Global,
+    writer: &mut Writer,
+    source: &Source,
+    search: &Search,
+) -> Result<Level, Memory>
+    requires source { IsSource writer.old source.now }
+    requires graph { source.now.graph ≡ search.now.graph }
+    requires outside { IsOutside writer.old search.now.graph.now }
+    requires grounds { IsGrounded search.now (assumed_in (inside writer.old)) }
+    requires plain { HaveNoInduction search.now.joins.now }
+    ensures lines { IfOk result (λ level. HasAll writer.new source.now level search.now.joins.now) }
+    ensures goes { IfOk result (λ level. GoesOn writer.old writer.new) }
+{
+    let mut level = Level::new(alloc, source.graph.len() as usize)?;
+    state_joins(
+        alloc,
+        writer,
+        source,
+        &mut level,
+        search.blocks,
+        search.joins,
+    )?;
+    Ok(level)
+}
+
+// Why two nodes of the base are equal that a search joined: the steps that state it are written.
+fn explain(
+    alloc: Global,
+    writer: &mut Writer,
+    search: &Search,
+    base: u32,
+    a: NodeId,
+    b: NodeId,
+) -> Result<Reason, Memory>
+    requires made { IsGraph search.now.graph.now }
+    requires sealed { search.now.graph.now.is_open ≡ false }
+    requires base { base ≡ search.now.graph.now.base }
+    requires begins { HasBase writer.old search.now.graph.now }
+    requires outside { IsOutside writer.old search.now.graph.now }
+    requires grounds { IsGrounded search.now (assumed_in (inside writer.old)) }
+    requires plain { HaveNoInduction search.now.joins.now }
+    requires linked { HasLinked search.now a b }
+    requires first { a < base }
+    requires second { b < base }
+    ensures reason { IfOk result (λ why. Gives writer.new.before (inside writer.new) [] why a b) }
+    ensures goes { IfOk result (λ why. GoesOn writer.old writer.new) }
+{
+    let map = copy_nodes(alloc, writer, search.graph, base)?;
+    let source = Source {
+        graph: search.graph,
+        map: &map,
+    };
+    let level = state_all(alloc, writer, &source, search)?;
+    let why = kid_reason(alloc, writer, &source, &level, a, b)?;
+    Ok(why)
+}
+
+/// The steps of a section over a sealed graph that derive that two of its nodes are equal, which a search joined in a
+/// graph that grew from it. Each join has its ground: an axiom with no node assumed to end, or kids. Out of memory is the one
+/// error.
+pub fn section(
+    alloc: Global,
+    least: &Graph,
+    search: &Search,
+    a: NodeId,
+    b: NodeId,
+) -> Result<Listed<Step>, Memory>
+    requires grown { IsGrown least.now search.now.graph.now }
+    requires grounds { IsGrounded search.now [] }
+    requires plain { HaveNoInduction search.now.joins.now }
+    requires linked { HasLinked search.now a b }
+    requires first { a < length least.now.nodes }
+    requires second { b < length least.now.nodes }
+    requires apart { a ≢ b }
+    ensures { IfOk result (λ steps. Derives Instance least.now a b steps) }
+{
+    let mut writer = Writer::new(alloc, least)?;
+    let why = explain(alloc, &mut writer, search, least.len(), a, b)?;
+    state_last(&mut writer, a, b, why)?;
+    Ok(writer.into_steps())
+}

@@ -1,0 +1,23 @@
+//! From joins to a section of a certificate.
+//!
+//! This layer stands on `pv_classes`, which says what joins and blocks rest on (`JoinsGround`), on `pv_paths` for paths
+//! through joins, and on `pv_writer`, which takes right steps alone. The definition that it meets is `Derives` of `pv_steps`.
+//!
+//! A certificate has a graph of its own, into which the nodes of the search are copied (`copy_nodes`; `specs/Copies`).
+//! For each join a line says by which fact the copies of its two nodes are equal (`specs/Lines`). A line is stated
+//! by an axiom, or by the kids, which earlier lines link. Lines on a path are put together by flips and chains. A level is the outside of all inductions, or the inside of one, with the lines of its joins (`specs/Levels`).
+//!
+//! The layer above uses `section`: a search that joined two nodes, with no join by an induction so far, gives a section that derives their equality (`specs/Sections`).
+#![tactic(auto)]
+
+mod axiom;
+mod conclude;
+mod copy;
+mod follow;
+mod joins;
+mod kids;
+mod level;
+mod source;
+
+pub use conclude::section;
+pub use source::Search;

@@ -1,4 +1,4 @@
-//! Rounds of the search. What stands so far is a match as matching gives it, decoded, and the instance of a match.
+//! Matches, decoded, and made as instances over nodes.
 //!
 //! This layer stands on `pv_match`, which finds matches, on `pv_instances`, which makes instances of axioms as nodes, and on
 //! `pv_witness`, which has the witnesses of conditions on classes. A match has classes; an instance needs nodes.

@@ -11,7 +11,6 @@ use Rattle.pv_graph.specs.Graphs.{Graph, IsGraph, Extends}
 use Rattle.pv_graph.specs.declared.node.Op.{Op}
 use Rattle.pv_graph.specs.Forms.{form}
 use Rattle.pv_graph.proofs.Cited.{tied, node_at, form_there}
-use Rattle.pv_marks.specs.Classes.{class_of}
 use Rattle.pv_marks.specs.Parents.{NodeLists, AreFirstNumbered, AreParents}
 use Rattle.pv_witness.specs.Numbered.{AreNumbered, numbered}
 

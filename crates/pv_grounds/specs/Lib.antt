@@ -1,0 +1,4 @@
+-- joins and blocks where a graph grows
+pub mod Grounds
+-- a round of a search
+pub mod Rounds

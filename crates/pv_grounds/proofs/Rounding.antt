@@ -18,7 +18,8 @@ use Rattle.pv_rounds.specs.declared.owed.Owed.{Owed}
 use Rattle.pv_rounds.specs.Owed.{IsOwed}
 use Rattle.pv_rounds.specs.Joining.{join_of, JoinsAll}
 use Rattle.pv_grounds.specs.Grounds.{HaveGrounds}
-use Rattle.pv_grounds.specs.Rounds.{AreGrounded, MakesRound}
+use Rattle.pv_rounds.specs.Searching.{MakesRound}
+use Rattle.pv_grounds.specs.Rounds.{AreGrounded}
 use Rattle.pv_grounds.proofs.Given.{grounds_stay}
 
 pub new_grounded : (g : Graph) (assumed : List ℕ) (c : Classes) → IsNew g.nodes c → AreGrounded g assumed c

@@ -3,32 +3,18 @@ use Rattle.std.specs.Prelude.{ℕ, Bool, List, [], map}
 use Rattle.pv_graph.specs.Graphs.{Graph, IsGraph}
 use Rattle.pv_classes.specs.declared.join.Join.{Join}
 use Rattle.pv_classes.specs.Blocks.{Block}
-use Rattle.pv_classes.specs.Calls.{Classes, IsNew, Grows}
+use Rattle.pv_classes.specs.Calls.{Classes, IsNew}
 use Rattle.pv_induct.specs.Inducts.{Inducts}
 use Rattle.pv_heights.specs.Sides.{Match}
 use Rattle.pv_rounds.specs.declared.owed.Owed.{Owed}
 use Rattle.pv_rounds.specs.Owed.{AddsAll}
-use Rattle.pv_rounds.specs.Joining.{join_of, JoinsAll}
+use Rattle.pv_rounds.specs.Joining.{join_of}
+use Rattle.pv_rounds.specs.Searching.{MakesRound}
 use Rattle.pv_grounds.specs.Grounds.{HaveGrounds}
 
 -- all joins of the classes have their grounds by what is given in the graph
 abbrev pub AreGrounded : Graph → List ℕ → Classes → Type 0
 AreGrounded g assumed c = HaveGrounds g assumed [] [] c.blocks c.joins
-
--- a round over the old graph: instances of some matches are added, the classes grow by the new nodes, the two sides of each instance are
--- joined, and then all that inductions join
-pub record MakesRound (old new : Graph) (assumed : List ℕ) (begun closed : Classes) : Type 0 where
-  pub seen : Graph
-  pub numbers : List ℕ
-  pub matches : List (Match ℕ)
-  pub owed : List Owed
-  pub grown : Classes
-  pub joined : Classes
-  pub found : Bool
-  pub adds : AddsAll seen old new numbers assumed matches owed
-  pub grows : Grows new.nodes begun grown
-  pub joins : JoinsAll grown joined owed
-  pub inducts : Inducts new.nodes joined closed found
 
 -- new classes are grounded: they have no joins
 abbrev pub NewAreGrounded : Type 0

@@ -1,14 +1,19 @@
 -- A search over a least graph: what it is after some rounds, and what its calls do.
-use Rattle.std.specs.Prelude.{◌≡◌, ℕ, zero, suc, false, List, map, length}
+use Rattle.std.specs.Prelude.{◌≡◌, ℕ, zero, suc, Bool, false, List, map, length}
 use Rattle.pv_graph.specs.Graphs.{Graph, IsGraph, IsWellMade, Extends}
 use Rattle.pv_graph.specs.Calls.{IsDistinct}
 use Rattle.pv_pattern.specs.Seen.{axiom_seen}
 use Rattle.pv_axioms.specs.Entries.{axioms}
-use Rattle.pv_classes.specs.Calls.{IsClasses, Knows}
+use Rattle.pv_classes.specs.Calls.{Classes, IsClasses, IsNew, Knows, Grows}
+use Rattle.pv_induct.specs.Inducts.{Inducts}
+use Rattle.pv_heights.specs.Sides.{Match}
 use Rattle.pv_heights.specs.Searches.{OneClass, base_view, AtLeastAt, IsSaturatedAt, Reached}
 use Rattle.pv_instances.specs.Classes.{JoinedHaveOneSort}
 use Rattle.pv_marks.specs.Marks.{AreNodeMarks}
 use Rattle.pv_match.specs.AllMatches.{AreAllMatches}
+use Rattle.pv_rounds.specs.declared.owed.Owed.{Owed}
+use Rattle.pv_rounds.specs.Owed.{AddsAll}
+use Rattle.pv_rounds.specs.Joining.{JoinsAll}
 use Rattle.pv_rounds.specs.declared.search.Search.{Search}
 use Rattle.pv_rounds.specs.declared.search.Looked.{Looked}
 use Rattle.pv_rounds.specs.declared.search.Looked.TheVariants.{Over, Saturated, Open}
@@ -39,9 +44,13 @@ pub record IsSearch (g : Graph) (k : ℕ) (s : Search) : Type 0 where
 abbrev pub IsBegun : Search → Type 0
 IsBegun s = (g : Graph) × (k : ℕ) × IsSearch g k s
 
--- it has made no round
+-- it has made no round: its classes are new ones, closed with all inductions
 pub record Begins (g : Graph) (endings : List ℕ) (budget : ℕ) (s : Search) : Type 0 where
   pub is : IsSearch g zero s
+  pub first : Classes
+  pub found : Bool
+  pub fresh : IsNew s.graph.nodes first
+  pub inducts : Inducts s.graph.nodes first s.classes found
   pub endings_ : s.endings.items ≡ endings
   pub budget_ : s.budget ≡ budget
 
@@ -67,8 +76,24 @@ Looks s (Open list) = (IsOver s → ⊥) × (IsSaturatedNow s → ⊥) × AreAll
 
 -- ---- a round
 
+-- what a round does to a graph and its classes: instances of some matches are added, the classes take up the new nodes, the two sides of
+-- each instance are joined, and then all that congruence and inductions join
+pub record MakesRound (old new : Graph) (assumed : List ℕ) (begun closed : Classes) : Type 0 where
+  pub seen : Graph
+  pub numbers : List ℕ
+  pub matches : List (Match ℕ)
+  pub owed : List Owed
+  pub grown : Classes
+  pub joined : Classes
+  pub found : Bool
+  pub adds : AddsAll seen old new numbers assumed matches owed
+  pub grows : Grows new.nodes begun grown
+  pub joins : JoinsAll grown joined owed
+  pub inducts : Inducts new.nodes joined closed found
+
 -- it stands one round further on
 pub record GoesOn (old new : Search) : Type 0 where
   pub next : (g : Graph) (k : ℕ) → IsSearch g k old → IsSearch g (suc k) new
+  pub made : MakesRound old.graph new.graph old.endings.items old.classes new.classes
   pub endings_ : new.endings.items ≡ old.endings.items
   pub budget_ : new.budget ≡ old.budget

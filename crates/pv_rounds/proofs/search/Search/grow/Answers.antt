@@ -70,6 +70,19 @@ returns c =
       next = λ g k is.
           next_search g k s (record { graph = c.add_all.new.graph; classes = c.induct.new.c; table = s.table; endings = s.endings; marks = s.marks; budget = s.budget }) is (map decoded_seen ds) owed c.grow.new.self c.join_all.new.classes c.in_ok-induct.field-0
           c.len-here.ensures.graph (all_decoded g k s is c.args.list.now (map decoded_seen ds) c.requires.all c.in_ok-all.ensures.same) adds c.in_ok-grow.ensures joined c.in_ok-induct.ensures refl refl refl;
+      made = record {
+        seen = numbered s.graph s.classes.numbers;
+        numbers = s.classes.numbers;
+        matches = map decoded_seen ds;
+        owed = owed;
+        grown = c.grow.new.self;
+        joined = c.join_all.new.classes;
+        found = c.in_ok-induct.field-0;
+        adds = adds;
+        grows = c.in_ok-grow.ensures;
+        joins = joined;
+        inducts = c.in_ok-induct.ensures;
+      };
       endings_ = refl;
       budget_ = refl;
     }

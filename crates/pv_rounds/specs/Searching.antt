@@ -76,7 +76,7 @@ Looks s (Open list) = (IsOver s → ⊥) × (IsSaturatedNow s → ⊥) × AreAll
 
 -- ---- a round
 
--- what a round does to a graph and its classes: instances of some matches are added, the classes take up the new nodes, the two sides of
+-- what a round does to a graph and its classes, where these nodes are assumed to end: instances of some matches are added, the classes take up the new nodes, the two sides of
 -- each instance are joined, and then all that congruence and inductions join
 pub record MakesRound (old new : Graph) (assumed : List ℕ) (begun closed : Classes) : Type 0 where
   pub seen : Graph
@@ -94,6 +94,5 @@ pub record MakesRound (old new : Graph) (assumed : List ℕ) (begun closed : Cla
 -- it stands one round further on
 pub record GoesOn (old new : Search) : Type 0 where
   pub next : (g : Graph) (k : ℕ) → IsSearch g k old → IsSearch g (suc k) new
-  pub made : MakesRound old.graph new.graph old.endings.items old.classes new.classes
   pub endings_ : new.endings.items ≡ old.endings.items
   pub budget_ : new.budget ≡ old.budget

@@ -4,7 +4,7 @@ ghost use Rattle.std.specs.Prelude.{◌≡◌, ◌↔◌, IfOk, IsTrue, OnOk, ma
 ghost use Rattle.pv_axioms.specs.Entries.{axioms};
 ghost use Rattle.pv_match.specs.AllMatches.{AreAllMatches};
 ghost use Rattle.pv_pattern.specs.Seen.{axiom_seen};
-ghost use Rattle.pv_rounds.specs.Searching.{Begins, GoesOn, IsBegun, IsLeastGraph, IsSaturatedNow, Looks};
+ghost use Rattle.pv_rounds.specs.Searching.{Begins, GoesOn, IsBegun, IsLeastGraph, IsSaturatedNow, Looks, MakesRound};
 
 use crate::decoded::decode_all;
 use crate::joining::join_all;
@@ -112,7 +112,8 @@ impl<'a> Search<'a> {
     pub fn grow(&mut self, alloc: Global, list: &[Match]) -> Result<(), Memory>
         requires begun { IsBegun self.old }
         requires all { AreAllMatches self.old.graph self.old.classes.numbers self.old.endings.items axioms list.now }
-        ensures { OnOk result (GoesOn self.old self.new) }
+        ensures goes { OnOk result (GoesOn self.old self.new) }
+        ensures made { OnOk result (MakesRound self.old.graph self.new.graph self.old.endings.items self.old.classes self.new.classes) }
     {
         let _count = self.graph.len();
         let all = decode_all(alloc, self.table, list)?;

@@ -59,8 +59,8 @@ join_all-requires-clause-within c =
     let adds = adds_here s.graph c.add_all.new.graph s.classes.numbers c.deref.result.now s.endings.items c.deref-2.result.now ds c.deref-3.result.now c.in_ok-owed.owed.items (c.deref.ensures.value ∙ c.in_ok-numbers.ensures) c.deref-2.ensures.value c.deref-3.ensures.value c.in_ok-owed.ensures in
     subst (λ (os : List Owed). AreWithin (length c.grow.new.self.numbers) os) (sym c.deref-4.ensures.value) (sides_within g k s is c.add_all.new.graph (map decoded_seen ds) c.in_ok-owed.owed.items adds c.grow.new.self c.in_ok-grow.ensures)
 
-pub returns : goal.returns
-returns c =
+pub returns-clause-goes : goal.returns-clause-goes
+returns-clause-goes c =
     let s = c.args.self.now in
     let ds = c.in_ok-all.all.items in
     let owed : List Owed = c.in_ok-owed.owed.items in
@@ -70,19 +70,25 @@ returns c =
       next = λ g k is.
           next_search g k s (record { graph = c.add_all.new.graph; classes = c.induct.new.c; table = s.table; endings = s.endings; marks = s.marks; budget = s.budget }) is (map decoded_seen ds) owed c.grow.new.self c.join_all.new.classes c.in_ok-induct.field-0
           c.len-here.ensures.graph (all_decoded g k s is c.args.list.now (map decoded_seen ds) c.requires.all c.in_ok-all.ensures.same) adds c.in_ok-grow.ensures joined c.in_ok-induct.ensures refl refl refl;
-      made = record {
-        seen = numbered s.graph s.classes.numbers;
-        numbers = s.classes.numbers;
-        matches = map decoded_seen ds;
-        owed = owed;
-        grown = c.grow.new.self;
-        joined = c.join_all.new.classes;
-        found = c.in_ok-induct.field-0;
-        adds = adds;
-        grows = c.in_ok-grow.ensures;
-        joins = joined;
-        inducts = c.in_ok-induct.ensures;
-      };
       endings_ = refl;
       budget_ = refl;
+    }
+
+pub returns-clause-made : goal.returns-clause-made
+returns-clause-made c =
+    let s = c.args.self.now in
+    let ds = c.in_ok-all.all.items in
+    let owed : List Owed = c.in_ok-owed.owed.items in
+    record {
+      seen = numbered s.graph s.classes.numbers;
+      numbers = s.classes.numbers;
+      matches = map decoded_seen ds;
+      owed = owed;
+      grown = c.grow.new.self;
+      joined = c.join_all.new.classes;
+      found = c.in_ok-induct.field-0;
+      adds = adds_here s.graph c.add_all.new.graph s.classes.numbers c.deref.result.now s.endings.items c.deref-2.result.now ds c.deref-3.result.now owed (c.deref.ensures.value ∙ c.in_ok-numbers.ensures) c.deref-2.ensures.value c.deref-3.ensures.value c.in_ok-owed.ensures;
+      grows = c.in_ok-grow.ensures;
+      joins = subst (λ (os : List Owed). JoinsAll c.grow.new.self c.join_all.new.classes os) c.deref-4.ensures.value c.in_ok-join_all.ensures;
+      inducts = c.in_ok-induct.ensures;
     }

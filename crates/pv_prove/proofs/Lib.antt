@@ -1,1 +1,4 @@
 pub mod Meets
+pub mod Growing
+pub mod Looking
+pub mod Finding

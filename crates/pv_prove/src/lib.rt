@@ -1,17 +1,32 @@
-//! The verdict of a search on two roots. What stands so far is how two roots meet.
+//! The verdict of a search on two roots.
 //!
-//! This layer stands on `pv_classes`, whose classes of nodes a search has, on `pv_endings` for the kids of roots, and on
-//! `pv_alike`, whose least graph of two roots a search begins with. There are two searches: a plain one, and one in which the nodes that the
-//! first root waits for count as ending.
+//! Two searches go on side by side from the least graph of the roots: a plain one, and one in which the nodes that the first root
+//! waits for count as ending. At each height they are looked at: the roots meet; or a search has more matches than the budget; or no
+//! match of either joins more. The first height at which one of these holds decides, and where none does within the rounds, that is the
+//! outcome.
 //!
-//! The definition that it meets is `Meeting` (`pv_heights/specs/Searches`): two roots meet where they are in one class of the plain
-//! search, or where their tokens are, and their other kids are in one class of the search with endings.
+//! This layer stands on `pv_rounds`, whose searches it takes from height to height, on `pv_endings` for the nodes that a root waits for
+//! and for its kids, on `pv_classes`, whose classes of nodes a search has, and on `pv_alike`, whose least graph of two roots a
+//! search begins with.
 //!
-//! The layer above uses `how_met` (`specs/Meetings`, `IsMeeting`): by which of the two they meet, if they do. That this is
-//! `Meeting` is a law (`law_meeting`).
+//! The definition that it meets is `IsVerdict` (`pv_heights/specs/Verdicts`), which speaks of terms and not of nodes. That what two
+//! searches answer is this verdict is a law of `pv_heights` (`AnswersAreVerdicts`), and the loop here gives such an answer.
+//!
+//! The layer above uses `find` (`specs/Finding`): the outcome is the verdict on the question (`verdict`), any other verdict is
+//! that one (`only`), and where the roots met the two searches are as they were then (`shown`, `IsShown`), which is what a
+//! certificate is made of. How the roots meet is `how_met` (`specs/Meetings`, `IsMeeting`); that this is the verdict's way is a law
+//! (`law_meeting`).
+//!
+//! The rest is private to this crate. `searches` looks at both searches and takes them on, and `found` has the loop (`specs/Looking`).
 #![tactic(auto)]
 
+mod found;
 pub mod laws;
 mod meeting;
+mod outcome;
+mod searches;
 
+pub use found::{Found, find};
 pub use meeting::{Meeting, how_met};
+pub use outcome::{Limits, Outcome};
+pub use searches::Searches;

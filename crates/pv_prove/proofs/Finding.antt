@@ -1,0 +1,31 @@
+-- What two searches end with is the verdict.
+use Rattle.std.proofs.Common.{◌≡◌, ℕ, zero, ◌<◌, List, [], length, sym, ◌∙◌, subst}
+use Rattle.pv_alike.specs.Least.{Rooted}
+use Rattle.pv_endings.specs.Endings.{AreEndingsOf}
+use Rattle.pv_heights.specs.Verdicts.{Verdict, IsVerdict}
+use Rattle.pv_heights.proofs.Verdicts.{answers_are_verdicts}
+use Rattle.pv_heights.proofs.Once.{verdict_once}
+use Rattle.pv_rounds.specs.Searching.{Begins, IsLeastGraph}
+use Rattle.pv_prove.specs.declared.outcome.Limits.{Limits}
+use Rattle.pv_prove.specs.declared.outcome.Outcome.{Outcome}
+use Rattle.pv_prove.specs.declared.searches.Searches.{Searches}
+use Rattle.pv_prove.specs.Finding.{question, verdict_of, HaveMade}
+use Rattle.pv_prove.specs.Looking.{Ends}
+
+-- two searches that begin
+pub begun : (l : Rooted) (most : ℕ) (none ends : List ℕ) (s : Searches) → none ≡ [] → AreEndingsOf l.graph l.first ends → Begins l.graph none most s.plain → Begins l.graph ends most s.ending → HaveMade l most zero s
+begun l most none ends s e are p q = record {
+  plain_ = p.is;
+  ending_ = q.is;
+  none = p.endings_ ∙ e;
+  ends = subst (AreEndingsOf l.graph l.first) (sym q.endings_) are;
+  plain_budget = p.budget_;
+  ending_budget = q.budget_;
+}
+
+module _ (l : Rooted) (limits : Limits) (s : Searches) (outcome : Outcome) (least : IsLeastGraph l.graph) (low : l.first < length l.graph.nodes) (low_ : l.second < length l.graph.nodes) (d : Ends l limits s outcome) where
+  pub is_verdict : IsVerdict (question l limits) (verdict_of outcome)
+  is_verdict = answers_are_verdicts (question l limits) s.ending.endings.items (verdict_of outcome) least.made.graph low low_ (record { are = d.ends.are; ordered = d.ends.ordered }) d.answers
+
+  pub no_other : (v : Verdict) → IsVerdict (question l limits) v → v ≡ verdict_of outcome
+  no_other v is = verdict_once (question l limits) v (verdict_of outcome) is is_verdict

@@ -1,0 +1,62 @@
+-- A search, seen from the least graph, and one that is saturated.
+use Rattle.std.proofs.Common.{◌≡◌, ℕ, suc, List, Vec, Global, refl, sym, ◌∙◌, subst}
+use Rattle.pv_graph.specs.Graphs.{Graph, form_at}
+use Rattle.pv_steps.specs.Facts.{View}
+use Rattle.pv_axioms.specs.Entries.{axioms}
+use Rattle.pv_heights.specs.Searches.{base_view, AtLeastAt, IsSaturatedAt}
+use Rattle.pv_heights.proofs.Cited.{base_view_is, graph_whole, saturated_reached}
+use Rattle.pv_match.specs.declared.found.Match.{Match}
+use Rattle.pv_rounds.specs.declared.search.Search.{Search}
+use Rattle.pv_rounds.specs.declared.search.Looked.{Looked}
+use Rattle.pv_rounds.specs.declared.search.Looked.TheVariants.{Over, Saturated, Open}
+use Rattle.pv_rounds.specs.Searching.{IsSearch, IsOver, IsSaturatedNow, Looks, GoesOn}
+
+module _ (g : Graph) (k : ℕ) (s : Search) (is : IsSearch g k s) where
+  view_is : base_view s.graph ≡ form_at g.nodes
+  view_is = base_view_is g s.graph is.grown (is.base ∙ is.least.base)
+
+  -- the same of the least graph, with these nodes as endings and this budget
+  module _ (ends : List ℕ) (of_ends : s.endings.items ≡ ends) where
+    pub many_there : (b : ℕ) → s.budget ≡ b → IsOver s → AtLeastAt (form_at g.nodes) ends axioms s.graph s.classes.numbers (suc b)
+    many_there b e h =
+        subst (λ (v : View). AtLeastAt v ends axioms s.graph s.classes.numbers (suc b)) view_is
+        (subst (λ (es : List ℕ). AtLeastAt (base_view s.graph) es axioms s.graph s.classes.numbers (suc b)) of_ends
+        (subst (λ (n : ℕ). AtLeastAt (base_view s.graph) s.endings.items axioms s.graph s.classes.numbers (suc n)) e h))
+
+    pub many_back : (b : ℕ) → s.budget ≡ b → AtLeastAt (form_at g.nodes) ends axioms s.graph s.classes.numbers (suc b) → IsOver s
+    many_back b e h =
+        subst (λ (n : ℕ). AtLeastAt (base_view s.graph) s.endings.items axioms s.graph s.classes.numbers (suc n)) (sym e)
+        (subst (λ (es : List ℕ). AtLeastAt (base_view s.graph) es axioms s.graph s.classes.numbers (suc b)) (sym of_ends)
+        (subst (λ (v : View). AtLeastAt v ends axioms s.graph s.classes.numbers (suc b)) (sym view_is) h))
+
+    pub saturated_there : IsSaturatedNow s → IsSaturatedAt (form_at g.nodes) ends axioms s.graph s.classes.numbers
+    saturated_there h = subst (λ (v : View). IsSaturatedAt v ends axioms s.graph s.classes.numbers) view_is (subst (λ (es : List ℕ). IsSaturatedAt (base_view s.graph) es axioms s.graph s.classes.numbers) of_ends h)
+
+    pub saturated_back : IsSaturatedAt (form_at g.nodes) ends axioms s.graph s.classes.numbers → IsSaturatedNow s
+    saturated_back h = subst (λ (es : List ℕ). IsSaturatedAt (base_view s.graph) es axioms s.graph s.classes.numbers) (sym of_ends) (subst (λ (v : View). IsSaturatedAt v ends axioms s.graph s.classes.numbers) (sym view_is) h)
+
+  -- a search in which no match joins more is also where a round would have taken it
+  pub next_saturated : IsSaturatedNow s → IsSearch g (suc k) s
+  next_saturated h = record {
+    least = is.least;
+    table_ = is.table_;
+    graph_ = is.graph_;
+    apart = is.apart;
+    grown = is.grown;
+    base = is.base;
+    sealed = is.sealed;
+    marks_ = is.marks_;
+    knows = is.knows;
+    classes_ = is.classes_;
+    sorts = is.sorts;
+    reached = saturated_reached g (graph_whole g is.least.made.graph) s.endings.items axioms k s.graph s.classes.numbers is.reached (saturated_there s.endings.items refl h);
+  }
+
+pub stays : (s : Search) → IsSaturatedNow s → GoesOn s s
+stays s h = record { next = λ g k is. next_saturated g k s is h; endings_ = refl; budget_ = refl }
+
+-- a search that was looked at, and has neither too many matches nor a list of some that join more
+pub still : (s : Search) (x : Looked) → Looks s x → (IsOver s → ⊥) → ((list : Vec Match Global) → x ≡ Open list → ⊥) → GoesOn s s
+still s (Over n) looks few none = absurd (few looks.1)
+still s Saturated looks few none = stays s looks.1
+still s (Open list) looks few none = absurd (none list refl)

@@ -1,0 +1,42 @@
+-- The question that two searches answer, and what they end with.
+use Rattle.std.specs.Prelude.{◌≡◌, ℕ, [], Option, Some}
+use Rattle.pv_alike.specs.Least.{Rooted}
+use Rattle.pv_axioms.specs.Entries.{axioms}
+use Rattle.pv_endings.specs.Endings.{AreEndingsOf}
+use Rattle.pv_heights.specs.Verdicts.{Question, Verdict, equivalent, apart, rounds, budget}
+use Rattle.pv_rounds.specs.Searching.{IsSearch}
+use Rattle.pv_prove.specs.declared.meeting.Meeting.{Meeting}
+use Rattle.pv_prove.specs.declared.outcome.Limits.{Limits}
+use Rattle.pv_prove.specs.declared.outcome.Outcome.{Outcome}
+use Rattle.pv_prove.specs.declared.outcome.Outcome.TheVariants.{Met, Budget, Apart, Rounds}
+use Rattle.pv_prove.specs.declared.searches.Searches.{Searches}
+use Rattle.pv_prove.specs.Meetings.{IsMeeting}
+
+-- the question of two roots, by all axioms
+abbrev pub question : Rooted → Limits → Question
+question l limits = record { graph = l.graph; first = l.first; second = l.second; table = axioms; rounds = limits.rounds; budget = limits.budget }
+
+-- what an outcome says of them
+abbrev pub verdict_of : Outcome → Verdict
+verdict_of (Met m) = equivalent
+verdict_of (Budget k) = budget k
+verdict_of Apart = apart
+verdict_of (Rounds n) = rounds n
+
+-- both searches began with the least graph and have made k rounds, under this budget; no nodes count as ending in the plain one, and
+-- the nodes that the first root waits for in the other
+pub record HaveMade (l : Rooted) (most : ℕ) (k : ℕ) (s : Searches) : Type 0 where
+  pub plain_ : IsSearch l.graph k s.plain
+  pub ending_ : IsSearch l.graph k s.ending
+  pub none : s.plain.endings.items ≡ []
+  pub ends : AreEndingsOf l.graph l.first s.ending.endings.items
+  pub plain_budget : s.plain.budget ≡ most
+  pub ending_budget : s.ending.budget ≡ most
+
+-- how the roots meet in them
+abbrev pub MeetIn : Rooted → Searches → Option Meeting → Type 0
+MeetIn l s m = IsMeeting l.graph l.first l.second s.plain.classes.numbers s.ending.classes.numbers m
+
+-- where the roots met, they meet so in these searches, which have made some rounds
+abbrev pub IsShown : Rooted → Limits → Searches → Outcome → Type 0
+IsShown l limits s outcome = (m : Meeting) → outcome ≡ Met m → (k : ℕ) × HaveMade l limits.budget k s × MeetIn l s (Some m)

@@ -1,0 +1,70 @@
+-- What is seen of two searches after some rounds, and what they end with.
+use Rattle.std.specs.Prelude.{◌≡◌, ◌⊎◌, ℕ, Some, None}
+use Rattle.pv_alike.specs.Least.{Rooted}
+use Rattle.pv_endings.specs.Endings.{AreEndingsOf}
+use Rattle.pv_heights.specs.Searches.{TwoSearches, UndecidedBefore, Answers}
+use Rattle.pv_rounds.specs.declared.search.Looked.{Looked}
+use Rattle.pv_rounds.specs.declared.search.Looked.TheVariants.{Over, Saturated}
+use Rattle.pv_rounds.specs.Searching.{IsBegun, IsOver, IsSaturatedNow, Looks, GoesOn}
+use Rattle.pv_prove.specs.declared.outcome.Limits.{Limits}
+use Rattle.pv_prove.specs.declared.outcome.Outcome.{Outcome}
+use Rattle.pv_prove.specs.declared.outcome.Outcome.TheVariants.{Met, Budget, Apart, Rounds}
+use Rattle.pv_prove.specs.declared.searches.Searches.{Searches}
+use Rattle.pv_prove.specs.declared.searches.Seen.{Seen}
+use Rattle.pv_prove.specs.declared.searches.Seen.TheVariants.{Decided, Open}
+use Rattle.pv_prove.specs.Finding.{question, verdict_of, HaveMade, MeetIn, IsShown}
+
+-- both began
+abbrev pub AreBegun : Searches → Type 0
+AreBegun s = IsBegun s.plain × IsBegun s.ending
+
+-- one of them has more matches than its budget
+abbrev pub AreOver : Searches → Type 0
+AreOver s = IsOver s.plain ⊎ IsOver s.ending
+
+-- no match of either joins more
+abbrev pub AreSaturated : Searches → Type 0
+AreSaturated s = IsSaturatedNow s.plain × IsSaturatedNow s.ending
+
+-- what both looks come to after k rounds, where the roots don't meet
+abbrev pub seen_of : ℕ → Looked → Looked → Seen
+seen_of k (Over n) e = Decided (Budget k)
+seen_of k p (Over n) = Decided (Budget k)
+seen_of k Saturated Saturated = Decided Apart
+seen_of k p e = Open p e
+
+-- after k rounds they decide so: the roots meet; else there are too many matches; else no match joins more
+abbrev pub Decide : Rooted → ℕ → Searches → Outcome → Type 0
+Decide l k s (Met m) = MeetIn l s (Some m)
+Decide l k s (Budget n) = (n ≡ k) × MeetIn l s None × AreOver s
+Decide l k s Apart = MeetIn l s None × (AreOver s → ⊥) × AreSaturated s
+Decide l k s (Rounds n) = ⊥
+
+-- they decide nothing, and this was seen of each
+pub record AreOpen (l : Rooted) (s : Searches) (plain ending : Looked) : Type 0 where
+  pub not_met : MeetIn l s None
+  pub not_over : AreOver s → ⊥
+  pub not_saturated : AreSaturated s → ⊥
+  pub plain_ : Looks s.plain plain
+  pub ending_ : Looks s.ending ending
+
+-- what is seen of them after k rounds
+abbrev pub Sees : Rooted → ℕ → Searches → Seen → Type 0
+Sees l k s (Decided outcome) = Decide l k s outcome
+Sees l k s (Open plain ending) = AreOpen l s plain ending
+
+-- both stand one round further on
+pub record GoOn (old new : Searches) : Type 0 where
+  pub plain_ : GoesOn old.plain new.plain
+  pub ending_ : GoesOn old.ending new.ending
+
+-- they have made k rounds, and no height before decides
+pub record StandAt (l : Rooted) (limits : Limits) (k : ℕ) (s : Searches) : Type 0 where
+  pub made : HaveMade l limits.budget k s
+  pub undecided : (b : TwoSearches (question l limits) s.ending.endings.items k) → UndecidedBefore (question l limits) s.ending.endings.items k b
+
+-- the outcome is what two searches answer, and these show it
+pub record Ends (l : Rooted) (limits : Limits) (s : Searches) (outcome : Outcome) : Type 0 where
+  pub ends : AreEndingsOf l.graph l.first s.ending.endings.items
+  pub answers : Answers (question l limits) s.ending.endings.items (verdict_of outcome)
+  pub shown : IsShown l limits s outcome

@@ -2,3 +2,5 @@
 pub mod Grounds
 -- a round of a search
 pub mod Rounds
+-- what joined nodes mean
+pub mod Same

@@ -1,7 +1,8 @@
-//! The laws of what joins rest on where a graph grows, each as the contract of a function that does nothing.
+//! The laws of what joins rest on where a graph grows, and of what they say, each as the contract of a function that does nothing.
 
 ghost use Rattle.pv_grounds.specs.Grounds.{BlockStays, GivenStays, GroundsStay};
 ghost use Rattle.pv_grounds.specs.Rounds.{InductKeepsGrounds, NewAreGrounded, OwedHaveGrounds, RoundKeepsGrounds};
+ghost use Rattle.pv_grounds.specs.Same.{ClassesSame};
 
 /// What is given in a graph is given in each that grew from it, and joins and blocks that rest on it in the one do so in the other.
 pub fn law_grounds_stay()
@@ -17,4 +18,10 @@ pub fn law_round()
     ensures owed { OwedHaveGrounds }
     ensures induct { InductKeepsGrounds }
     ensures round { RoundKeepsGrounds }
+{}
+
+/// Nodes of a least graph that a search put into one class have the same values, in each world and for each input in which the nodes
+/// that count as ending have values. So no certificate is needed for this.
+pub fn law_same()
+    ensures { ClassesSame }
 {}

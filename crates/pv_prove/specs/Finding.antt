@@ -2,9 +2,11 @@
 use Rattle.std.specs.Prelude.{◌≡◌, ℕ, [], Option, Some}
 use Rattle.pv_alike.specs.Least.{Rooted}
 use Rattle.pv_axioms.specs.Entries.{axioms}
+use Rattle.pv_denote.specs.Meaning.{Same}
 use Rattle.pv_endings.specs.Endings.{AreEndingsOf}
 use Rattle.pv_heights.specs.Verdicts.{Question, Verdict, equivalent, apart, rounds, budget}
 use Rattle.pv_rounds.specs.Searching.{IsSearch}
+use Rattle.pv_grounds.specs.Same.{IsGroundedSearch}
 use Rattle.pv_prove.specs.declared.meeting.Meeting.{Meeting}
 use Rattle.pv_prove.specs.declared.outcome.Limits.{Limits}
 use Rattle.pv_prove.specs.declared.outcome.Outcome.{Outcome}
@@ -24,7 +26,7 @@ verdict_of Apart = apart
 verdict_of (Rounds n) = rounds n
 
 -- both searches began with the least graph and have made k rounds, under this budget; no nodes count as ending in the plain one, and
--- the nodes that the first root waits for in the other
+-- the nodes that the first root waits for in the other; all their joins have their grounds
 pub record HaveMade (l : Rooted) (most : ℕ) (k : ℕ) (s : Searches) : Type 0 where
   pub plain_ : IsSearch l.graph k s.plain
   pub ending_ : IsSearch l.graph k s.ending
@@ -32,6 +34,8 @@ pub record HaveMade (l : Rooted) (most : ℕ) (k : ℕ) (s : Searches) : Type 0 
   pub ends : AreEndingsOf l.graph l.first s.ending.endings.items
   pub plain_budget : s.plain.budget ≡ most
   pub ending_budget : s.ending.budget ≡ most
+  pub plain_grounds : IsGroundedSearch s.plain
+  pub ending_grounds : IsGroundedSearch s.ending
 
 -- how the roots meet in them
 abbrev pub MeetIn : Rooted → Searches → Option Meeting → Type 0
@@ -40,3 +44,7 @@ MeetIn l s m = IsMeeting l.graph l.first l.second s.plain.classes.numbers s.endi
 -- where the roots met, they meet so in these searches, which have made some rounds
 abbrev pub IsShown : Rooted → Limits → Searches → Outcome → Type 0
 IsShown l limits s outcome = (m : Meeting) → outcome ≡ Met m → (k : ℕ) × HaveMade l limits.budget k s × MeetIn l s (Some m)
+
+-- where the roots met, they have the same values: in each world, for each input, at each index
+abbrev pub MetAreSame : Rooted → Outcome → Type 0
+MetAreSame l outcome = (m : Meeting) → outcome ≡ Met m → Same l.graph l.first l.second

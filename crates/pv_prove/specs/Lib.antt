@@ -1,3 +1,4 @@
 pub mod Meetings
 pub mod Finding
 pub mod Looking
+pub mod Laws

@@ -5,7 +5,7 @@ ghost use Rattle.pv_axioms.specs.Entries.{axioms};
 ghost use Rattle.pv_heights.specs.Verdicts.{IsVerdict, Verdict};
 ghost use Rattle.pv_pattern.specs.Seen.{axiom_seen};
 ghost use Rattle.pv_rounds.specs.Searching.{IsLeastGraph};
-ghost use Rattle.pv_prove.specs.Finding.{HaveMade, IsShown, question, verdict_of};
+ghost use Rattle.pv_prove.specs.Finding.{HaveMade, IsShown, MetAreSame, question, verdict_of};
 ghost use Rattle.pv_prove.specs.Looking.{Ends};
 
 use crate::outcome::{Limits, Outcome};
@@ -47,7 +47,7 @@ fn hunt<G: Gate>(
 }
 
 /// What a search finds of the roots of a least graph, by all axioms. The outcome is the verdict on them, and there is no other;
-/// where the roots met, the two searches show it. It passes the gate as `Search::look` does. Out of memory is the one error.
+/// where the roots met, they have the same values, and the two searches show how they met. It passes the gate as `Search::look` does. Out of memory is the one error.
 pub fn find<'a, G: Gate>(
     alloc: Global,
     gate: &G,
@@ -61,6 +61,7 @@ pub fn find<'a, G: Gate>(
     requires table { map axiom_seen table.now ≡ axioms }
     ensures verdict { IfOk result (λ found. IsVerdict (question least.now limits) (verdict_of found.outcome)) }
     ensures only { IfOk result (λ found. (v : Verdict) → IsVerdict (question least.now limits) v → v ≡ verdict_of found.outcome) }
+    ensures same { IfOk result (λ found. MetAreSame least.now found.outcome) }
     ensures shown { IfOk result (λ found. IsShown least.now limits found.searches found.outcome) }
 {
     let mut searches = Searches::new(alloc, least, table, limits.budget)?;

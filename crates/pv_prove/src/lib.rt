@@ -25,8 +25,10 @@ pub mod laws;
 mod meeting;
 mod outcome;
 mod searches;
+mod table;
 
 pub use found::{Found, find};
 pub use meeting::{Meeting, how_met};
 pub use outcome::{Limits, Outcome};
 pub use searches::Searches;
+pub use table::all_axioms;

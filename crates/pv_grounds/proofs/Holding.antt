@@ -1,5 +1,5 @@
 -- What joins say inside the inductions around them: the two nodes of a join have the same values there.
-use Rattle.std.specs.Prelude.{◌≡◌, ℕ, zero, suc, List, [], ◌∷◌, ◌++◌, length, Some, slice_get, false, refl}
+use Rattle.std.specs.Prelude.{◌≡◌, ℕ, zero, suc, List, [], ◌∷◌, ◌++◌, length, Some, false, refl}
 use Rattle.std.specs.List.{Contains, AllZip}
 use Rattle.std.proofs.Common.{inl, inr, sym, ◌∙◌, subst, arith}
 use Rattle.std.proofs.lemmas.List.Elements.{Contains-append_cases, Contains-push_cases}
@@ -178,4 +178,4 @@ module _ (g : Graph) (made : IsWellMade g) (sealed : g.is_open ≡ false) (assum
         let inner = joins_hold ((d, pairs_of b) ∷ ctx) before (listed (inner_of b)) (joins_of b) hs still in
         λ p q there w x world input it s i y.
         at_iteration g assumed ctx before (joins_of b) d (pairs_of b) (deeper_fresh ctx assumed d deeper) steps_ all (both_hold (form_at g.nodes) (Loop d (pairs_of b) ∷ around ctx assumed) before (joins_of b) still inner)
-            w x world input (i d) it s i y refl p q there
+        w x world input (i d) it s i y refl p q there

@@ -1,6 +1,6 @@
 -- Nodes of a least graph that a search put into one class have the same values where the nodes that count as ending have values.
 use Rattle.std.specs.Prelude.{◌≡◌, ℕ, zero, suc, ◌<◌, List, [], length, Some}
-use Rattle.std.proofs.Common.{sym, ◌∙◌, subst}
+use Rattle.std.proofs.Common.{sym, ◌∙◌}
 use Rattle.std.proofs.lemmas.Option.{slice_get_within, get_or_from_slice_get}
 use Rattle.pv_value.specs.declared.world.World.{World}
 use Rattle.pv_value.specs.declared.outcome.Input.{Input}
@@ -15,8 +15,6 @@ use Rattle.pv_classes.specs.Linked.{Linked}
 use Rattle.pv_classes.specs.Calls.{IsClasses, Classes}
 use Rattle.pv_classes.proofs.Elements.{none_in}
 use Rattle.pv_heights.specs.Searches.{OneClass}
-use Rattle.pv_rounds.specs.declared.search.Search.{Search}
-use Rattle.pv_rounds.specs.Searching.{IsSearch}
 use Rattle.pv_grounds.specs.Same.{ClassesSame}
 use Rattle.pv_grounds.proofs.Ruled.{grown_made}
 use Rattle.pv_grounds.proofs.Holding.{around, linked_holds, joins_hold}

@@ -41,14 +41,14 @@ class_linked c is a b one =
     (is.linked a b (slice_get_within c.numbers a one.0 one.1) (slice_get_within c.numbers b one.0 one.2)).0 same
 
 pub classes_same : ClassesSame
-classes_same g k s a b search grounded low_a low_b one w x world input have i v =
+classes_same g k s a b is grounded low_a low_b one w x world input have i v =
     let new : Graph = s.graph in
-    let old_is : IsGraph g = search.least.made.graph in
-    let made : IsWellMade new = grown_made g new search.graph_ search.grown (search.base ∙ search.least.base) search.least.made.rule in
-    let linked = class_linked s.classes search.classes_ a b one in
-    let all = joins_hold new made search.sealed s.endings.items [] [] s.classes.blocks s.classes.joins grounded (λ j there. absurd (none_in j there)) in
-    let ended = values_stay g new old_is search.grown w x s.endings.items have in
+    let old_is : IsGraph g = is.least.made.graph in
+    let made : IsWellMade new = grown_made g new is.graph_ is.grown (is.base ∙ is.least.base) is.least.made.rule in
+    let linked = class_linked s.classes is.classes_ a b one in
+    let all = joins_hold new made is.sealed s.endings.items [] [] s.classes.blocks s.classes.joins grounded (λ j there. absurd (none_in j there)) in
+    let ended = values_stay g new old_is is.grown w x s.endings.items have in
     let both = linked_holds (form_at new.nodes) (around [] s.endings.items) (length s.classes.numbers) s.classes.joins all a b linked w x world input i (ended, tt) i tt v in
-    let left = growth_law g new old_is search.grown a low_a w x i v in
-    let right = growth_law g new old_is search.grown b low_b w x i v in
+    let left = growth_law g new old_is is.grown a low_a w x i v in
+    let right = growth_law g new old_is is.grown b low_b w x i v in
     (λ h. right.0 (both.0 (left.1 h)), λ h. left.0 (both.1 (right.1 h)))

@@ -9,8 +9,9 @@
 //! what a match is, and `specs/All` which matches start at some nodes. That these are the matches of `pv_heights` is shown in the proofs.
 //! `law_pieces` says that the matches at two pieces of the nodes are those at both.
 //!
-//! How it goes: the classes' nodes are grouped by the numbers of their operations (`members`), and the axioms by those of their heads
-//! (`rules`). A left side is read along a node and the classes of its kids (`reader`), which gives bindings (`binding`): a node for each name, and a
+//! How it goes: of a class's nodes of one form, which is an operation over the classes of kids, the first alone is looked at (`kept`); else the
+//! work would multiply where many nodes of a class are congruent. These nodes are grouped by the numbers of their operations (`members`), and the
+//! axioms by those of their heads (`rules`). A left side is read along a node and the classes of its kids (`reader`), which gives bindings (`binding`): a node for each name, and a
 //! class for each variable. A binding of the whole left side whose conditions hold is a match (`matching`). Matches are gathered
 //! in a set (`finder`), so each is kept once, and the search ends as soon as there is one more than the limit.
 #![tactic(auto)]
@@ -20,6 +21,7 @@ mod binding;
 mod finder;
 mod found;
 mod heads;
+mod kept;
 pub mod laws;
 mod matching;
 mod members;

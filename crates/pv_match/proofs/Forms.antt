@@ -1,13 +1,12 @@
 -- The first node of each form is kept, and nothing that a class holds is lost.
-use Rattle.std.proofs.Common.{◌≡◌, ◌⊎◌, ℕ, zero, suc, ◌+◌, ◌<◌, Bool, List, [], ◌∷◌, ◌++◌, map, length, Option, Some, None, slice_get, inl, inr, refl, sym, ap, ◌∙◌, subst, arith}
+use Rattle.std.proofs.Common.{◌≡◌, ◌⊎◌, ℕ, zero, suc, ◌<◌, Bool, List, [], ◌∷◌, ◌++◌, map, length, Option, Some, None, slice_get, inl, inr, refl, sym, ap, ◌∙◌, subst, arith}
 use Rattle.std.specs.List.{AllZip, Contains}
 use Rattle.std.proofs.lemmas.Option.{slice_get_within, slice_get-get_or, same_Some, none-some}
 use Rattle.pv_graph.specs.declared.node.Op.{Op}
 use Rattle.pv_graph.specs.declared.node.Node.{Node}
 use Rattle.pv_graph.specs.Nodes.{node_of}
 use Rattle.pv_graph.specs.Forms.{form}
-use Rattle.pv_graph.specs.Walks.{In}
-use Rattle.pv_graph.specs.Graphs.{Graph, form_at, form_of}
+use Rattle.pv_graph.specs.Graphs.{Graph, form_at}
 use Rattle.pv_graph.proofs.Cited.{node_at, form_there, same_or_other}
 use Rattle.pv_classes.specs.Partition.{AreOne}
 use Rattle.pv_classes.specs.Forms as forms

@@ -1,12 +1,12 @@
--- Nodes have one form where they have one operation over kids in the same classes. Of those of a class that have one form, which match the
--- same patterns, it is enough to look at one.
+-- Which nodes are kept. Nodes have one form where they have one operation over kids in the same classes. They match the same patterns, so
+-- the search looks at the nodes that are kept alone, and one of each form is enough.
 use Rattle.std.specs.Prelude.{ℕ, Bool, false, List, slice_index_or, IsTrue}
 use Rattle.pv_graph.specs.declared.node.Op.{Op}
 use Rattle.pv_graph.specs.Walks.{In}
 use Rattle.pv_graph.specs.Graphs.{Graph}
 use Rattle.pv_marks.specs.Classes.{HasForm}
 
--- node n is one of those that are looked at
+-- node n is kept
 abbrev pub IsKept : List Bool → ℕ → Type 0
 IsKept kept n = IsTrue (slice_index_or kept n false)
 

@@ -1,4 +1,4 @@
-//! Of the nodes of one form those that are looked at.
+//! Which nodes are kept: of those of one form the first, since all of them match the same patterns.
 
 ghost use Rattle.std.specs.Prelude.{◌↔◌, IsTrue, OnOk};
 ghost use Rattle.pv_match.specs.Kept.{AddsKept, IsKept};
@@ -6,7 +6,7 @@ ghost use Rattle.pv_match.specs.Kept.{AddsKept, IsKept};
 use pv_graph::NodeId;
 use pv_value::Memory;
 
-// Whether a node is looked at.
+// Whether a node is kept.
 pub(crate) fn is_kept(kept: &[bool], n: NodeId) -> bool
     ensures { IsTrue result ↔ IsKept kept.now n }
 {
@@ -16,7 +16,7 @@ pub(crate) fn is_kept(kept: &[bool], n: NodeId) -> bool
     }
 }
 
-// Lists those of these nodes that are looked at.
+// Adds to a list those of these nodes that are kept.
 pub(crate) fn add_kept(
     kept: &[bool],
     nodes: &[NodeId],

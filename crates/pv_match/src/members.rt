@@ -1,4 +1,4 @@
-//! The members of classes, by the numbers of their operations.
+//! The members of classes that are kept, by the numbers of their operations.
 
 ghost use Rattle.std.specs.Prelude.{◌≡◌, ◌<◌, IfOk, MatchOption, OnOk, length, vec_len};
 ghost use Rattle.pv_graph.specs.Graphs.{IsGraph};
@@ -20,7 +20,7 @@ pub(crate) struct Group {
     pub(crate) members: Vec<u32>,
 }
 
-// For each class its nodes that are looked at, in groups by the numbers of their operations.
+// For each class its nodes that are kept, in groups by the numbers of their operations.
 #[derive(Drop)]
 pub(crate) struct Members {
     pub(crate) groups: Vec<Vec<Group>>,
@@ -83,7 +83,7 @@ fn no_groups(alloc: Global, len: u32) -> Result<Vec<Vec<Group>>, AllocError>
 }
 
 impl Members {
-    // The members of the classes of a graph's nodes, of those that are looked at.
+    // The members of the classes of a graph's nodes, as far as they are kept.
     pub(crate) fn new(
         alloc: Global,
         graph: &Graph,
@@ -105,7 +105,7 @@ impl Members {
         Ok(Members { groups })
     }
 
-    // The nodes of a class that are looked at and whose operation has this number.
+    // The nodes of a class that are kept and whose operation has this number.
     pub(crate) fn with(&self, class: u32, number: u32) -> &[NodeId]
         ensures { result.now ≡ members_of self.now.groups.items class number }
     {

@@ -41,7 +41,7 @@ pub(crate) fn rules_of(alloc: Global, table: &[Axiom]) -> Result<Vec<Group>, Mem
     Ok(rules)
 }
 
-// Lists the nodes that are looked at and whose operation has a number, if there is a rule under it.
+// Lists the nodes that are kept and whose operation has a number, if there is a rule under it.
 fn add_items(
     classes: &Classes,
     kept: &[bool],
@@ -59,7 +59,7 @@ fn add_items(
     Ok(())
 }
 
-// The nodes at which a left side may begin: those that are looked at and whose operation has the number of a rule.
+// The nodes at which a left side may begin: those that are kept and whose operation has the number of a rule.
 pub(crate) fn items_of(
     alloc: Global,
     classes: &Classes,

@@ -1,5 +1,5 @@
 -- What is found by class numbers is what `matches` answers.
-use Rattle.std.proofs.Common.{◌≡◌, ◌⊎◌, ℕ, zero, suc, ◌<◌, List, [], ◌∷◌, Some, slice_get, inl, inr, refl, sym, ap, ◌∙◌, subst, arith}
+use Rattle.std.proofs.Common.{◌≡◌, ◌⊎◌, ℕ, zero, suc, ◌<◌, Bool, List, [], ◌∷◌, Some, slice_get, inl, inr, refl, sym, ap, ◌∙◌, subst, arith}
 use Rattle.std.specs.List.{AllZip}
 use Rattle.std.specs.List.Sorted.{IsStrictlySortedBy}
 use Rattle.std.specs.declared.cmp.Ordering.{Ordering}
@@ -28,6 +28,7 @@ use Rattle.pv_match.specs.Reading.{AreReadable}
 use Rattle.pv_match.specs.Matches.{IsMatch}
 use Rattle.pv_match.specs.All.{AreMatchesOf}
 use Rattle.pv_match.specs.Orders.{match_cmp, AreOne}
+use Rattle.pv_match.specs.Kept.{KeepsForms}
 use Rattle.pv_match.specs.Rules.{AreRules, AreItems}
 use Rattle.pv_match.specs.Gathering.{IsFound}
 use Rattle.pv_match.specs.AllMatches.{Shows, IsAnswer}
@@ -108,15 +109,15 @@ module _ (g : Graph) (numbers assumed : List ℕ) (table : List Axiom) (a : AreL
         sorted_once xs s i j x.0 y.0 x.1 y.1 (x.2.1 ∙ sym y.2.1, x.2.2 ∙ sym y.2.2, x.2.3 ∙ sym y.2.3);
   }
 
-  all_founds : (rules : List Group) (items : List ℕ) (xs : List Match) (fs : List Found) → AreRules table rules → AreItems g.nodes rules items → AreMatchesOf g numbers assumed table items xs → IsStrictlySortedBy match_cmp xs → AllZip IsOf xs fs
+  all_founds : (kept : List Bool) (rules : List Group) (items : List ℕ) (xs : List Match) (fs : List Found) → KeepsForms g numbers kept → AreRules table rules → AreItems g.nodes kept rules items → AreMatchesOf g numbers assumed table items xs → IsStrictlySortedBy match_cmp xs → AllZip IsOf xs fs
       → AreFound g numbers assumed table fs
-  all_founds rules items xs fs r w is s zip = record {
+  all_founds kept rules items xs fs k r w is s zip = record {
     some_ = some_found xs fs s zip;
     all = λ f h.
-        let x = all_found g numbers assumed table rules items xs readable r w is f.entry f.params f.classes h.0 h.1 in
+        let x = all_found g numbers assumed table kept rules items xs readable k r w is f.entry f.params f.classes h.0 h.1 in
         let i = in_place xs x.0 x.1 in
-        let k = zip_left IsOf xs fs zip i.0 x.0 i.1 in
-        (i.0, k.1 ∙ ap Some (same_entry k.0 f (one_axiom k.0.entry f.entry k.2.0.0 h.0 (sym k.2.1 ∙ x.2)) (sym k.2.2 ∙ x.3) (sym k.2.3 ∙ x.4)));
+        let o = zip_left IsOf xs fs zip i.0 x.0 i.1 in
+        (i.0, o.1 ∙ ap Some (same_entry o.0 f (one_axiom o.0.entry f.entry o.2.0.0 h.0 (sym o.2.1 ∙ x.2)) (sym o.2.2 ∙ x.3) (sym o.2.3 ∙ x.4)));
   }
 
   shows : (x : Match) (f : Found) (m : sides.Match ℕ) → IsOf x f → Sees g numbers assumed table a c readable f m → Shows x m
@@ -131,10 +132,10 @@ module _ (g : Graph) (numbers assumed : List ℕ) (table : List Axiom) (a : AreL
       let r = is.each x i in
       (r.0, r.2.0, r.3, match_from g numbers assumed table readable r.0 r.1 x.params.items x.classes.items r.2.0 r.4)
 
-  pub answer_of : (rules : List Group) (items : List ℕ) (limit : ℕ) (answer : answers.Matches) → AreRules table rules → AreItems g.nodes rules items → IsFound g numbers assumed table limit items answer → IsAnswer g numbers assumed table limit answer
-  answer_of rules items limit (All list) r w is =
+  pub answer_of : (kept : List Bool) (rules : List Group) (items : List ℕ) (limit : ℕ) (answer : answers.Matches) → KeepsForms g numbers kept → AreRules table rules → AreItems g.nodes kept rules items → IsFound g numbers assumed table limit items answer → IsAnswer g numbers assumed table limit answer
+  answer_of kept rules items limit (All list) k r w is =
       let fs = axioms_of list.items (axiom_in items list.items is.0) in
-      let found = all_founds rules items list.items fs.0 r w is.0 is.1 fs.1 in
+      let found = all_founds kept rules items list.items fs.0 k r w is.0 is.1 fs.1 in
       let ms = seen_all g numbers assumed table a c readable fs.0 found.some_.each in (
         record {
           matches = ms.0;
@@ -144,7 +145,7 @@ module _ (g : Graph) (numbers assumed : List ℕ) (table : List Axiom) (a : AreL
         },
         is.2,
       )
-  answer_of rules items limit (More n) r w is =
+  answer_of kept rules items limit (More n) k r w is =
       let fs = axioms_of is.1 is.2.each in
       let found = some_found is.1 fs.0 is.3 fs.1 in
       let ms = seen_all g numbers assumed table a c readable fs.0 found.each in (

@@ -1,5 +1,5 @@
 -- Sets of matches that gain others, and the matches of a table gathered node by node.
-use Rattle.std.specs.Prelude.{◌≡◌, ◌⊎◌, ℕ, zero, suc, ◌+◌, ◌<◌, ◌≤◌, Bool, true, false, if◌then◌else◌, List, [], ◌∷◌, ◌++◌, Some, None, slice_get, length, refl}
+use Rattle.std.specs.Prelude.{◌≡◌, ◌⊎◌, ℕ, zero, suc, ◌+◌, ◌<◌, ◌≤◌, Bool, true, false, if◌then◌else◌, List, [], ◌∷◌, ◌++◌, map, Some, None, slice_get, length, refl}
 use Rattle.std.specs.declared.cmp.Ordering.{Ordering}
 use Rattle.std.specs.declared.cmp.Ordering.TheVariants.{Less, Equal, Greater}
 use Rattle.std.specs.Ordering.{match_ordering}
@@ -21,9 +21,12 @@ use Rattle.pv_match.specs.declared.members.Group.{Group}
 use Rattle.pv_match.specs.Matches.{IsMatch, IsMatchAt, StartsAt}
 use Rattle.pv_match.specs.Bindings.{head_number, with_number}
 use Rattle.pv_match.specs.Finishing.{AreMatchesAt}
-use Rattle.pv_match.specs.Reading.{AreReadable}
+use Rattle.pv_match.specs.Reading.{AreReadable, IsReadable}
+use Rattle.pv_match.specs.Standing.{AllStandIn}
 use Rattle.pv_match.specs.All.{AreMatchesWhere, AreMatchesOf}
 use Rattle.pv_match.specs.Orders.{match_cmp}
+use Rattle.pv_marks.specs.Classes.{class_of}
+use Rattle.pv_match.specs.Kept.{IsKept, KeepsForms}
 use Rattle.pv_match.specs.Rules.{AreRules, AreItems}
 use Rattle.pv_match.specs.Gathering.{HasOne, GathersSome, GathersAll, IsGathering, IsTried, TriedAt, AreTooMany}
 use Rattle.pv_match.proofs.Adding.{in_left, in_right, in_both}
@@ -239,13 +242,23 @@ module _ (g : Graph) (numbers assumed : List ℕ) (table : List Axiom) where
     ];
   }
 
+  -- a match that starts at a node starts at one of its form that is kept
+  kept_start : (kept : List Bool) → KeepsForms g numbers kept → (a : Axiom) (n : ℕ) (params : List Param) (classes : List ℕ) → IsReadable a → IsMatchAt g numbers assumed a n params classes
+      → (k : ℕ) × IsKept kept k × IsMatchAt g numbers assumed a k params classes
+  kept_start kept keeps a n params classes r m =
+      let s : StartsAt g numbers m.names (over r.head r.parts) n = subst (λ (p : Pattern). StartsAt g numbers m.names p n) r.left m.starts in
+      let h = keeps (class_of numbers n) (head_op m.names r.head) (map (class_of numbers) s.0) (record { node = n; kids = s.0; is = s.1; here = refl; classes = refl }) in
+      let t : StartsAt g numbers m.names (over r.head r.parts) h.0.node = (h.0.kids, h.0.is, subst (AllStandIn g numbers m.names r.parts) (sym h.0.classes) s.2) in
+      (h.0.node, h.1, record { names = m.names; starts = subst (λ (p : Pattern). StartsAt g numbers m.names p h.0.node) (sym r.left) t; fits = m.fits })
+
   -- the matches at the items are all matches
-  pub all_found : (rules : List Group) (items : List ℕ) (list : List Match) → AreReadable table → AreRules table rules → AreItems g.nodes rules items → AreMatchesOf g numbers assumed table items list
+  pub all_found : (kept : List Bool) (rules : List Group) (items : List ℕ) (list : List Match) → AreReadable table → KeepsForms g numbers kept → AreRules table rules → AreItems g.nodes kept rules items → AreMatchesOf g numbers assumed table items list
       → (a : Axiom) (params : List Param) (classes : List ℕ) → In table a → IsMatch g numbers assumed a params classes → (x : Match) × In list x × (x.axiom ≡ a.number) × (x.params.items ≡ params) × (x.classes.items ≡ classes)
-  all_found rules items list readable are items_are is a params classes there m =
+  all_found kept rules items list readable keeps are items_are is a params classes there m =
       let s = (starts g numbers assumed a params classes (readable a there)).0 m in
-      let h = headed rules readable are a s.0 params classes there s.2 in
-      is.all a s.0 params classes (there, items_are s.0 h.2 h.0 h.1 h.3) s.2
+      let t = kept_start kept keeps a s.0 params classes (readable a there) s.2 in
+      let h = headed rules readable are a t.0 params classes there t.2 in
+      is.all a t.0 params classes (there, items_are t.0 h.2 h.0 h.1 t.1 h.3) t.2
 
   -- where there is no node, nothing starts
   pub nothing_at : AreReadable table → (before : List ℕ) (n : ℕ) (list : List Match) → form_at g.nodes n ≡ None → AreMatchesOf g numbers assumed table before list → AreMatchesOf g numbers assumed table (before ++ n ∷ []) list

@@ -12,6 +12,7 @@ use Rattle.pv_pattern.specs.Numbers.{op_number}
 use Rattle.pv_marks.specs.Classes.{class_of}
 use Rattle.pv_match.specs.declared.members.Group.{Group}
 use Rattle.pv_match.specs.Bindings.{with_number, groups_in, groups_at, members_of, IsMembers}
+use Rattle.pv_match.specs.Kept.{IsKept, KeepsForms}
 use Rattle.pv_match.specs.Grouping.{HasNoGroup, IsGroupAt, Gains, IsNoMember, IsListedAs, AreListed}
 
 same_test : (a b : ℕ) → a ≡ b → nat_eq a b ≡ true
@@ -93,51 +94,58 @@ no_member_more lists v empty none c number n m = go (slice_get (lists ++ v ∷ [
 pub no_member_none : (lists : List (Vec Group Global)) → lists ≡ [] → IsNoMember lists
 no_member_none lists e c number n m = subst (λ (ls : List (Vec Group Global)). In (members_of ls c number) n) e m
 
-module _ (g : Graph) (numbers : List ℕ) where
-  pub listed_none : (lists : List (Vec Group Global)) → IsNoMember lists → AreListed g numbers 0 lists
+module _ (g : Graph) (numbers : List ℕ) (kept : List Bool) where
+  pub listed_none : (lists : List (Vec Group Global)) → IsNoMember lists → AreListed g numbers kept 0 lists
   listed_none lists none c number n = ((λ m. absurd (none c number n m)), (λ h. absurd (omega (arith, h.low))))
 
   below_or_at : (n i : ℕ) → n < i + 1 → (n < i) ⊎ (n ≡ i)
   below_or_at n i lt = grind arith
 
-  pub listed_more : (lists : List (Vec Group Global)) (i : ℕ) (node : Node) (v w : Vec Group Global) → slice_get g.nodes i ≡ Some node → slice_get lists (class_of numbers i) ≡ Some v → Gains v.items w.items (op_number node.op) i
-      → AreListed g numbers i lists → AreListed g numbers (i + 1) (slice_set lists (class_of numbers i) w)
-  listed_more lists i node v w at there gains is c number n = elim (equal_or_not c (class_of numbers i)) [
+  more : (i c number n : ℕ) → IsListedAs g numbers kept i c number n → IsListedAs g numbers kept (i + 1) c number n
+  more i c number n h = record { low = omega (arith, h.low); kept_ = h.kept_; o = h.o; ks = h.ks; is = h.is; here = h.here; number_ = h.number_ }
+
+  less : (i c number n : ℕ) → IsListedAs g numbers kept (i + 1) c number n → n < i → IsListedAs g numbers kept i c number n
+  less i c number n h low = record { low = low; kept_ = h.kept_; o = h.o; ks = h.ks; is = h.is; here = h.here; number_ = h.number_ }
+
+  -- a node that is not kept is passed over
+  pub listed_skip : (lists : List (Vec Group Global)) (i : ℕ) → (IsKept kept i → ⊥) → AreListed g numbers kept i lists → AreListed g numbers kept (i + 1) lists
+  listed_skip lists i no_ is c number n = (
+    (λ m. more i c number n ((is c number n).0 m)),
+    (λ h. elim (below_or_at n i h.low) [ inl low ↦ (is c number n).1 (less i c number n h low) | inr same ↦ absurd (no_ (subst (IsKept kept) same h.kept_)) ]),
+  )
+
+  pub listed_more : (lists : List (Vec Group Global)) (i : ℕ) (node : Node) (v w : Vec Group Global) → IsKept kept i → slice_get g.nodes i ≡ Some node → slice_get lists (class_of numbers i) ≡ Some v → Gains v.items w.items (op_number node.op) i
+      → AreListed g numbers kept i lists → AreListed g numbers kept (i + 1) (slice_set lists (class_of numbers i) w)
+  listed_more lists i node v w keep at there gains is c number n = elim (equal_or_not c (class_of numbers i)) [
     | inl e ↦ elim (equal_or_not number (op_number node.op)) [
       | inl f ↦ (
         (λ m. elim (in_cases (members_of lists c number) i n (subst (λ (xs : List ℕ). In xs n) (here_now e f) m)) [
-          | inl old ↦ more ((is c number n).0 old)
-          | inr new ↦ record { low = omega (arith, new); o = node.op; ks = node.kids; is = subst (λ (k : ℕ). form_at g.nodes k ≡ Some (form node.op node.kids)) new (form_there g.nodes i node at); here = subst (λ (k : ℕ). class_of numbers k ≡ c) new (sym e); number_ = sym f }
+          | inl old ↦ more i c number n ((is c number n).0 old)
+          | inr new ↦ record { low = omega (arith, new); kept_ = subst (IsKept kept) new keep; o = node.op; ks = node.kids; is = subst (λ (k : ℕ). form_at g.nodes k ≡ Some (form node.op node.kids)) new (form_there g.nodes i node at); here = subst (λ (k : ℕ). class_of numbers k ≡ c) new (sym e); number_ = sym f }
         ]),
         (λ h. subst (λ (xs : List ℕ). In xs n) (sym (here_now e f)) (elim (below_or_at n i h.low) [
-          | inl low ↦ in_front (members_of lists c number) i n ((is c number n).1 (less h low))
+          | inl low ↦ in_front (members_of lists c number) i n ((is c number n).1 (less i c number n h low))
           | inr same ↦ subst (λ (k : ℕ). In (members_of lists c number ++ i ∷ []) k) (sym same) (in_last (members_of lists c number) i)
         ])),
       )
       | inr f ↦ (
-        (λ m. more ((is c number n).0 (subst (λ (xs : List ℕ). In xs n) (other_number e f) m))),
+        (λ m. more i c number n ((is c number n).0 (subst (λ (xs : List ℕ). In xs n) (other_number e f) m))),
         (λ h. subst (λ (xs : List ℕ). In xs n) (sym (other_number e f)) (elim (below_or_at n i h.low) [
-          | inl low ↦ (is c number n).1 (less h low)
+          | inl low ↦ (is c number n).1 (less i c number n h low)
           | inr same ↦ absurd (f (sym h.number_ ∙ op_here h same))
         ])),
       )
     ]
     | inr e ↦ (
-      (λ m. more ((is c number n).0 (subst (λ (xs : List ℕ). In xs n) (other_class e) m))),
+      (λ m. more i c number n ((is c number n).0 (subst (λ (xs : List ℕ). In xs n) (other_class e) m))),
       (λ h. subst (λ (xs : List ℕ). In xs n) (sym (other_class e)) (elim (below_or_at n i h.low) [
-        | inl low ↦ (is c number n).1 (less h low)
+        | inl low ↦ (is c number n).1 (less i c number n h low)
         | inr same ↦ absurd (e (sym h.here ∙ ap (class_of numbers) same))
       ])),
     )
   ]
     where
-      more : IsListedAs g numbers i c number n → IsListedAs g numbers (i + 1) c number n
-      more h = record { low = omega (arith, h.low); o = h.o; ks = h.ks; is = h.is; here = h.here; number_ = h.number_ }
-
-      less : IsListedAs g numbers (i + 1) c number n → n < i → IsListedAs g numbers i c number n
-      less h low = record { low = low; o = h.o; ks = h.ks; is = h.is; here = h.here; number_ = h.number_ }
-
-      op_here : (h : IsListedAs g numbers (i + 1) c number n) → n ≡ i → op_number h.o ≡ op_number node.op
+      op_here : (h : IsListedAs g numbers kept (i + 1) c number n) → n ≡ i → op_number h.o ≡ op_number node.op
       op_here h same =
           let e : Some (form h.o h.ks) ≡ Some (form node.op node.kids) = sym h.is ∙ (ap (form_at g.nodes) same ∙ form_there g.nodes i node at) in
           let f : h.o ≡ node.op = cc in
@@ -156,10 +164,16 @@ module _ (g : Graph) (numbers : List ℕ) where
       other_class : c ≢ class_of numbers i → members_of (slice_set lists (class_of numbers i) w) c number ≡ members_of lists c number
       other_class e = ap (λ (o : Option (Vec Group Global)). with_number (groups_in o) number) (set_other lists (class_of numbers i) w c e)
 
-  pub members_all : (lists : List (Vec Group Global)) → AreListed g numbers (length g.nodes) lists → IsMembers g numbers lists
-  members_all lists is c number = (
+  pub members_all : (lists : List (Vec Group Global)) → KeepsForms g numbers kept → AreListed g numbers kept (length g.nodes) lists → IsMembers g numbers lists
+  members_all lists keeps is c number = (
     (λ n m. let h = (is c number n).0 m in (h.o, h.ks, h.is, h.here, h.number_)),
     (λ o cs f e.
-        let node = node_at g.nodes f.node o f.kids f.is in
-        (f.node, f.kids, (is c number f.node).1 (record { low = slice_get_within g.nodes f.node node.0 node.1; o = o; ks = f.kids; is = f.is; here = f.here; number_ = e }), f.is, f.classes)),
+        let h = keeps c o cs f in
+        let node = node_at g.nodes h.0.node o h.0.kids h.0.is in (
+          h.0.node,
+          h.0.kids,
+          (is c number h.0.node).1 (record { low = slice_get_within g.nodes h.0.node node.0 node.1; kept_ = h.1; o = o; ks = h.0.kids; is = h.0.is; here = h.0.here; number_ = e }),
+          h.0.is,
+          h.0.classes,
+        )),
   )

@@ -4,6 +4,7 @@ pub mod Binds
 pub mod Adding
 pub mod Sizes
 pub mod Extending
+pub mod Forms
 pub mod Groups
 -- 2. From bindings to matches.
 pub mod Params

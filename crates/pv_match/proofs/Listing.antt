@@ -1,5 +1,5 @@
 -- The axioms of a table by their heads, and the nodes that have these operations.
-use Rattle.std.specs.Prelude.{◌≡◌, ◌⊎◌, ℕ, zero, suc, ◌+◌, ◌<◌, ◌≤◌, Bool, true, false, ◌==◌, nat_lt, if◌then◌else◌, List, [], ◌∷◌, ◌++◌, map, length, Some, None, slice_get, option_map, refl}
+use Rattle.std.specs.Prelude.{◌≡◌, ◌⊎◌, ℕ, zero, suc, ◌+◌, ◌<◌, ◌≤◌, Bool, true, false, ◌==◌, nat_lt, if◌then◌else◌, List, [], ◌∷◌, map, length, Some, None, slice_get, option_map, refl}
 use Rattle.std.proofs.Common.{inl, inr, sym, ap, ◌∙◌, subst, arith, tests, get_or}
 use Rattle.std.proofs.lemmas.Option.{same_Some, slice_get-map, slice_get_read, slice_get_past}
 use Rattle.pv_pattern.specs.declared.pattern.Axiom as declared
@@ -12,6 +12,7 @@ use Rattle.pv_classes.specs.Numbered.{nodes_from, nodes_with}
 use Rattle.pv_match.specs.declared.members.Group.{Group}
 use Rattle.pv_match.specs.Bindings.{with_number}
 use Rattle.pv_match.specs.Grouping.{Gains}
+use Rattle.pv_match.specs.Kept.{AddsKept}
 use Rattle.pv_match.specs.Rules.{HasItems}
 use Rattle.pv_match.proofs.Adding.{in_left, in_right}
 
@@ -53,11 +54,11 @@ node_numbered number n nodes node e f = subst (In (nodes_with number nodes)) (fr
     from_zero n = omega arith
 
 -- where there is no rule under the number, nothing has to be listed
-pub no_items : (nodes : List Node) (rules : List Group) (number : ℕ) (items : List ℕ) → with_number rules number ≡ [] → HasItems nodes rules number items
-no_items nodes rules number items e n i node at f m = absurd (subst (λ (xs : List ℕ). In xs i) e m)
+pub no_items : (nodes : List Node) (kept : List Bool) (rules : List Group) (number : ℕ) (items : List ℕ) → with_number rules number ≡ [] → HasItems nodes kept rules number items
+no_items nodes kept rules number items e n i node at k f m = absurd (subst (λ (xs : List ℕ). In xs i) e m)
 
-pub more_items : (nodes : List Node) (rules : List Group) (number : ℕ) (old new added : List ℕ) → new ≡ old ++ added → added ≡ nodes_with number nodes → HasItems nodes rules number new
-more_items nodes rules number old new added e f n i node at g m = subst (λ (xs : List ℕ). In xs n) (sym e) (in_right old added n (subst (λ (xs : List ℕ). In xs n) (sym f) (node_numbered number n nodes node at g)))
+pub more_items : (nodes : List Node) (kept : List Bool) (rules : List Group) (number : ℕ) (old new with_it : List ℕ) → AddsKept kept with_it old new → with_it ≡ nodes_with number nodes → HasItems nodes kept rules number new
+more_items nodes kept rules number old new with_it adds e n i node at k f m = adds.added n (subst (λ (xs : List ℕ). In xs n) (sym e) (node_numbered number n nodes node at f)) k
 
 pub below_or_at : (n i : ℕ) → n < i + 1 → (n < i) ⊎ (n ≡ i)
 below_or_at n i lt = grind arith

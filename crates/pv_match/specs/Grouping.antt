@@ -1,5 +1,5 @@
 -- How the members of classes are listed.
-use Rattle.std.specs.Prelude.{◌≡◌, ◌≢◌, ◌↔◌, ℕ, ◌<◌, List, [], ◌∷◌, ◌++◌, Some, slice_get, Vec}
+use Rattle.std.specs.Prelude.{◌≡◌, ◌≢◌, ◌↔◌, ℕ, Bool, ◌<◌, List, [], ◌∷◌, ◌++◌, Some, slice_get, Vec}
 use Rattle.std.specs.declared.alloc.Global.{Global}
 use Rattle.pv_graph.specs.declared.node.Op.{Op}
 use Rattle.pv_graph.specs.Forms.{form}
@@ -9,6 +9,7 @@ use Rattle.pv_pattern.specs.Numbers.{op_number}
 use Rattle.pv_marks.specs.Classes.{class_of}
 use Rattle.pv_match.specs.declared.members.Group.{Group}
 use Rattle.pv_match.specs.Bindings.{with_number, members_of}
+use Rattle.pv_match.specs.Kept.{IsKept}
 
 abbrev pub HasNoGroup : List Group → ℕ → Type 0
 HasNoGroup groups number = (i : ℕ) (x : Group) → slice_get groups i ≡ Some x → x.number ≢ number
@@ -28,14 +29,15 @@ pub record Gains (old new : List Group) (number n : ℕ) : Type 0 where
 abbrev pub IsNoMember : List (Vec Group Global) → Type 0
 IsNoMember lists = (c number n : ℕ) → In (members_of lists c number) n → ⊥
 
--- one of the first nodes, which is in the class and has the operation with the number
-pub record IsListedAs (g : Graph) (numbers : List ℕ) (bound c number n : ℕ) : Type 0 where
+-- one of the first nodes, which is kept, is in the class and has the operation with the number
+pub record IsListedAs (g : Graph) (numbers : List ℕ) (kept : List Bool) (bound c number n : ℕ) : Type 0 where
   pub low : n < bound
+  pub kept_ : IsKept kept n
   pub o : Op
   pub ks : List ℕ
   pub is : form_at g.nodes n ≡ Some (form o ks)
   pub here : class_of numbers n ≡ c
   pub number_ : op_number o ≡ number
 
-abbrev pub AreListed : Graph → List ℕ → ℕ → List (Vec Group Global) → Type 0
-AreListed g numbers bound lists = (c number n : ℕ) → In (members_of lists c number) n ↔ IsListedAs g numbers bound c number n
+abbrev pub AreListed : Graph → List ℕ → List Bool → ℕ → List (Vec Group Global) → Type 0
+AreListed g numbers kept bound lists = (c number n : ℕ) → In (members_of lists c number) n ↔ IsListedAs g numbers kept bound c number n

@@ -8,6 +8,7 @@ pub mod Standing
 pub mod Matches
 pub mod All
 -- how they are found
+pub mod Kept
 pub mod Bindings
 pub mod Finishing
 pub mod Grouping

@@ -24,8 +24,9 @@ use pv_value::Memory;
 use std::alloc::Global;
 
 /// All matches of a table over the classes of a graph's nodes, or that there are more than `limit`. `base` has the marks of the nodes
-/// of the base, as `pv_marks::node_marks` gives them, with some nodes assumed to end. It passes the gate before each node at which a
-/// left side may start, as piece 0. It holds at most `limit + 1` matches, and beside them those of one axiom at one node.
+/// of the base, as `pv_marks::node_marks` gives them, with some nodes assumed to end. Of nodes with one
+/// operation over kids in the same classes, which match the same patterns, the first alone is looked at. It passes the gate before
+/// each of these at which a left side may start, as piece 0. It holds at most `limit + 1` matches, and beside them those of one axiom at one node.
 pub fn matches<G: Gate>(
     alloc: Global,
     gate: &G,
@@ -44,10 +45,11 @@ pub fn matches<G: Gate>(
 {
     let _count = classes.len();
     let numbers = classes.numbers(alloc)?;
-    let members = Members::new(alloc, graph, &numbers)?;
+    let kept = classes.first_of_forms(alloc, graph)?;
+    let members = Members::new(alloc, graph, &numbers, &kept)?;
     let marks = class_marks(alloc, graph, &numbers, base)?;
     let rules = rules_of(alloc, table)?;
-    let items = items_of(alloc, classes, &rules)?;
+    let items = items_of(alloc, classes, &kept, &rules)?;
     let finder = Finder {
         reader: Reader {
             graph,

@@ -9,10 +9,12 @@
 //! what a match is, and `specs/All` which matches start at some nodes. That these are the matches of `pv_heights` is shown in the proofs.
 //! `law_pieces` says that the matches at two pieces of the nodes are those at both.
 //!
-//! How it goes: the classes' nodes are grouped by the numbers of their operations (`members`), and the axioms by those of their heads
-//! (`rules`). A left side is read along a node and the classes of its kids (`reader`), which gives bindings (`binding`): a node for each name, and a
+//! How it goes: of the nodes of one form, which is an operation over the classes of kids, the first is kept (`kept`). They all match
+//! the same patterns, and when classes are closed many are of one form, so without this the work would multiply. The nodes that are kept are
+//! grouped by their classes and the numbers of their operations (`members`), and the axioms by those of their heads (`rules`). A left
+//! side is read along a node and the classes of its kids (`reader`), which gives bindings (`binding`): a node for each name, and a
 //! class for each variable. A binding of the whole left side whose conditions hold is a match (`matching`). Matches are gathered
-//! in a set (`finder`), so each is kept once, and the search ends as soon as there is one more than the limit.
+//! in a set (`finder`), so each is there once, and the search ends as soon as there is one more than the limit.
 #![tactic(auto)]
 
 mod all;
@@ -20,6 +22,7 @@ mod binding;
 mod finder;
 mod found;
 mod heads;
+mod kept;
 pub mod laws;
 mod matching;
 mod members;

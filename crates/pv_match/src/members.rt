@@ -1,11 +1,13 @@
-//! The members of classes, by the numbers of their operations.
+//! The members of classes that are kept, by the numbers of their operations.
 
 ghost use Rattle.std.specs.Prelude.{◌≡◌, ◌<◌, IfOk, MatchOption, OnOk, length, vec_len};
 ghost use Rattle.pv_graph.specs.Graphs.{IsGraph};
 ghost use Rattle.pv_marks.specs.Marks.{AreClasses};
 ghost use Rattle.pv_match.specs.Bindings.{IsMembers, members_of, with_number};
 ghost use Rattle.pv_match.specs.Grouping.{Gains, HasNoGroup, IsGroupAt, IsNoMember};
+ghost use Rattle.pv_match.specs.Kept.{KeepsForms};
 
+use crate::kept::is_kept;
 use pv_graph::{Graph, NodeId};
 use pv_pattern::op_number;
 use pv_value::Memory;
@@ -18,7 +20,7 @@ pub(crate) struct Group {
     pub(crate) members: Vec<u32>,
 }
 
-// For each class its nodes, in groups by the numbers of their operations.
+// For each class its nodes that are kept, in groups by the numbers of their operations.
 #[derive(Drop)]
 pub(crate) struct Members {
     pub(crate) groups: Vec<Vec<Group>>,
@@ -81,21 +83,29 @@ fn no_groups(alloc: Global, len: u32) -> Result<Vec<Vec<Group>>, AllocError>
 }
 
 impl Members {
-    // The members of the classes of a graph's nodes.
-    pub(crate) fn new(alloc: Global, graph: &Graph, numbers: &[NodeId]) -> Result<Members, Memory>
-        requires { AreClasses graph.now numbers.now }
+    // The members of the classes of a graph's nodes, as far as they are kept.
+    pub(crate) fn new(
+        alloc: Global,
+        graph: &Graph,
+        numbers: &[NodeId],
+        kept: &[bool],
+    ) -> Result<Members, Memory>
+        requires classes { AreClasses graph.now numbers.now }
+        requires kept { KeepsForms graph.now numbers.now kept.now }
         ensures members { IfOk result (λ m. IsMembers graph.now numbers.now m.groups.items) }
         ensures graph { IsGraph graph.now }
     {
         let mut groups = no_groups(alloc, graph.len())?;
         for n in 0..graph.len() {
-            let number = op_number(&graph.node(n).op);
-            put(alloc, &mut groups[numbers[n as usize] as usize], number, n)?;
+            if is_kept(kept, n) {
+                let number = op_number(&graph.node(n).op);
+                put(alloc, &mut groups[numbers[n as usize] as usize], number, n)?;
+            }
         }
         Ok(Members { groups })
     }
 
-    // The nodes of a class whose operation has this number.
+    // The nodes of a class that are kept and whose operation has this number.
     pub(crate) fn with(&self, class: u32, number: u32) -> &[NodeId]
         ensures { result.now ≡ members_of self.now.groups.items class number }
     {

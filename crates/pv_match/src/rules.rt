@@ -8,6 +8,7 @@ ghost use Rattle.pv_pattern.specs.Seen.{axiom_seen};
 ghost use Rattle.pv_match.specs.Rules.{AddsRule, AreItems, AreRules, HasItems};
 
 use crate::heads::head_number;
+use crate::kept::add_kept;
 use crate::members::{Group, put, with_number};
 use pv_classes::Classes;
 use pv_graph::NodeId;
@@ -40,34 +41,36 @@ pub(crate) fn rules_of(alloc: Global, table: &[Axiom]) -> Result<Vec<Group>, Mem
     Ok(rules)
 }
 
-// Lists the nodes whose operation has a number, if there is a rule under it.
+// Lists the nodes that are kept and whose operation has a number, if there is a rule under it.
 fn add_items(
     classes: &Classes,
+    kept: &[bool],
     rules: &[Group],
     number: u8,
     items: &mut Vec<NodeId>,
 ) -> Result<(), Memory>
-    ensures kept { OnOk result ((n : ℕ) → In items.old.items n → In items.new.items n) }
-    ensures added { OnOk result ((nodes : List Node) → Knows nodes classes.now → HasItems nodes rules.now number items.new.items) }
+    ensures stay { OnOk result ((n : ℕ) → In items.old.items n → In items.new.items n) }
+    ensures added { OnOk result ((nodes : List Node) → Knows nodes classes.now → HasItems nodes kept.now rules.now number items.new.items) }
 {
     if with_number(rules, u32::from(number)).is_empty() {
         return Ok(());
     }
-    items.extend_from_slice(classes.nodes_with(number))?;
+    add_kept(kept, classes.nodes_with(number), items)?;
     Ok(())
 }
 
-// The nodes at which a left side may begin: those whose operation has the number of a rule.
+// The nodes at which a left side may begin: those that are kept and whose operation has the number of a rule.
 pub(crate) fn items_of(
     alloc: Global,
     classes: &Classes,
+    kept: &[bool],
     rules: &[Group],
 ) -> Result<Vec<NodeId>, Memory>
-    ensures { IfOk result (λ items. (nodes : List Node) → Knows nodes classes.now → AreItems nodes rules.now items.items) }
+    ensures { IfOk result (λ items. (nodes : List Node) → Knows nodes classes.now → AreItems nodes kept.now rules.now items.items) }
 {
     let mut items = Vec::new(alloc);
     for number in 0..OP_NUMBERS as u8 {
-        add_items(classes, rules, number, &mut items)?;
+        add_items(classes, kept, rules, number, &mut items)?;
     }
     Ok(items)
 }

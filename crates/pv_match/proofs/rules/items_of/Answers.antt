@@ -6,7 +6,7 @@ use Rattle.pv_match.proofs.Listing.{below_or_at}
 use Rattle.pv_match.proofs.rules.items_of.Goals as goal
 
 pub loop-number-preserved : goal.loop-number-preserved
-loop-number-preserved c nodes knows n i node at low m = elim (below_or_at (op_number node.op) c.loop-number.number low) [
-  | inl l ↦ c.in_ok-add_items.ensures.kept n (c.loop-number.invariant nodes knows n i node at l m)
-  | inr e ↦ c.in_ok-add_items.ensures.added nodes knows n i node at e (subst (λ (k : ℕ). In (with_number c.args.rules.now k) i) e m)
+loop-number-preserved c nodes knows n i node at k low m = elim (below_or_at (op_number node.op) c.loop-number.number low) [
+  | inl l ↦ c.in_ok-add_items.ensures.stay n (c.loop-number.invariant nodes knows n i node at k l m)
+  | inr e ↦ c.in_ok-add_items.ensures.added nodes knows n i node at k e (subst (λ (j : ℕ). In (with_number c.args.rules.now j) i) e m)
 ]

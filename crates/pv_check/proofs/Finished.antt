@@ -1,12 +1,17 @@
--- The end of an ending block.
-use Rattle.std.specs.Prelude.{◌↔◌, ℕ, List, []}
+-- The beginning and the end of an ending block.
+use Rattle.std.specs.Prelude.{◌≡◌, ◌↔◌, ℕ, List, []}
 use Rattle.std.proofs.Common.{sym, ap, subst}
 use Rattle.pv_graph.specs.Graphs.{Graph}
 use Rattle.pv_steps.specs.declared.step.Step.{Step}
 use Rattle.pv_steps.specs.Steps.{OpenBlock, outer_of, open_after}
-use Rattle.pv_steps.specs.Right.{Gives, RightFinish}
+use Rattle.pv_steps.specs.Right.{Gives, RightAssume, RightFinish}
+use Rattle.pv_endings.specs.Endings.{WaitsFor}
 use Rattle.pv_check.specs.declared.endings.RootReasons.{RootReasons}
 use Rattle.pv_check.specs.Endings.{IsInnermost, AreEqualRoots}
+
+-- where no block is open a step may begin one for a root that waits for the nodes
+pub assume_is : (g : Graph) (before : List Step) (p : ℕ) (nodes : List ℕ) → open_after before ≡ [] → WaitsFor g p nodes ↔ RightAssume g before p nodes
+assume_is g before p nodes none = (λ h. record { outside = none; root = h.root; each = h.each }, λ r. record { root = r.root; each = r.each })
 
 pub finish_parts : (g : Graph) (before : List Step) (p q : ℕ) (by : RootReasons)
     → (IsInnermost (open_after before) p × AreEqualRoots g before (open_after before) p q by) ↔ RightFinish g before p q by.token by.fault by.result by.heap

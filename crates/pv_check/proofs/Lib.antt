@@ -11,8 +11,6 @@ pub mod Finished
 pub mod Pushed
 pub mod Assumed
 pub mod Chained
-pub mod Walking
-pub mod WaitingNodes
 pub mod Carried
 pub mod Moments
 pub mod Concluding

@@ -1,17 +1,13 @@
 -- What is asked of the steps of an ending block.
 use Rattle.std.specs.Prelude.{◌≡◌, ℕ, List, [], ◌∷◌}
-use Rattle.pv_graph.specs.declared.node.Op.TheVariants as op
 use Rattle.pv_graph.specs.Graphs.{Graph}
 use Rattle.pv_steps.specs.declared.step.Step.{Step}
 use Rattle.pv_steps.specs.declared.step.Step.TheVariants.{Assume}
 use Rattle.pv_steps.specs.Steps.{Ending, OpenBlock, outer_of}
-use Rattle.pv_steps.specs.Right.{Is, Gives}
-use Rattle.pv_check.specs.declared.endings.RootParts.{RootParts}
+use Rattle.pv_steps.specs.Right.{Gives}
+use Rattle.pv_endings.specs.declared.root.RootParts.{RootParts}
+use Rattle.pv_endings.specs.Endings.{IsRootOver}
 use Rattle.pv_check.specs.declared.endings.RootReasons.{RootReasons}
-
--- node n is a root over these kids
-abbrev pub IsRootOf : Graph → ℕ → RootParts → Type 0
-IsRootOf g n k = Is g n op.Root (k.token ∷ k.fault ∷ k.result ∷ k.heap ∷ [])
 
 -- the step opens a block for this root
 abbrev pub IsEndingOf : ℕ → Step → Type 0
@@ -35,6 +31,6 @@ pub record AreEqualKids (before : List Step) (inside : List OpenBlock) (left rig
 pub record AreEqualRoots (g : Graph) (before : List Step) (inside : List OpenBlock) (p q : ℕ) (by : RootReasons) : Type 0 where
   pub left : RootParts
   pub right : RootParts
-  pub is_left : IsRootOf g p left
-  pub is_right : IsRootOf g q right
+  pub is_left : IsRootOver g p left
+  pub is_right : IsRootOver g q right
   pub kids : AreEqualKids before inside left right by

@@ -6,7 +6,5 @@ pub mod Sets
 pub mod Inductions
 pub mod Growth
 pub mod Endings
-pub mod Spine
-pub mod Waiting
 pub mod Testing
 pub mod Checking

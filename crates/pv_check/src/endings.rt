@@ -1,25 +1,15 @@
 //! Ending blocks: what ends the innermost block, where it is one for a root.
 
-ghost use Rattle.std.specs.Prelude.{◌≡◌, ◌↔◌, [], ◌∷◌, IsTrue, MatchOption, None, Some, reverse};
-ghost use Rattle.pv_graph.specs.declared.node.Op.TheVariants as Op;
+ghost use Rattle.std.specs.Prelude.{◌≡◌, ◌↔◌, IsTrue, None, Some, reverse};
 ghost use Rattle.pv_steps.specs.Right.{RightFinish};
 ghost use Rattle.pv_steps.specs.Steps.{outer_of};
 ghost use Rattle.pv_check.specs.Kept.{open_now};
-ghost use Rattle.pv_check.specs.Endings.{AreEqualKids, AreEqualRoots, IsEndingOf, IsInnermost, IsRootOf};
+ghost use Rattle.pv_check.specs.Endings.{AreEqualKids, AreEqualRoots, IsEndingOf, IsInnermost};
 
-use crate::nodes::node_at;
 use crate::seen::{Seen, Within};
-use pv_graph::{Graph, NodeId, Op};
+use pv_endings::{RootParts, root_parts};
+use pv_graph::{Graph, NodeId};
 use pv_steps::{Reason, Step};
-
-// The kids of a root.
-#[derive(Clone, Copy)]
-pub(crate) struct RootParts {
-    pub(crate) token: NodeId,
-    pub(crate) fault: NodeId,
-    pub(crate) result: NodeId,
-    pub(crate) heap: NodeId,
-}
 
 // The reasons why the kids of two roots are equal.
 #[derive(Clone, Copy)]
@@ -28,24 +18,6 @@ pub(crate) struct RootReasons {
     pub(crate) fault: Reason,
     pub(crate) result: Reason,
     pub(crate) heap: Reason,
-}
-
-// The kids of node n, where it is a root.
-pub(crate) fn root_kids(graph: &Graph, n: NodeId) -> Option<RootParts>
-    ensures { MatchOption result ((kids : RootParts) → IsRootOf graph.now n kids → ⊥) (λ kids. IsRootOf graph.now n kids) }
-{
-    match node_at(graph, n) {
-        Some(node) => match (&node.op, node.kids.as_slice()) {
-            (Op::Root, [token, fault, result, heap]) => Some(RootParts {
-                token: *token,
-                fault: *fault,
-                result: *result,
-                heap: *heap,
-            }),
-            _ => None,
-        },
-        None => None,
-    }
 }
 
 // Whether a step opens a block for this root.
@@ -83,10 +55,10 @@ impl Seen<'_> {
     fn equal_roots(&self, graph: &Graph, p: NodeId, q: NodeId, reasons: RootReasons) -> bool
         ensures { IsTrue result ↔ AreEqualRoots graph.now (reverse self.now.steps.now) (open_now self.now.steps.now) p q reasons }
     {
-        let Some(left) = root_kids(graph, p) else {
+        let Some(left) = root_parts(graph, p) else {
             return false;
         };
-        let Some(right) = root_kids(graph, q) else {
+        let Some(right) = root_parts(graph, q) else {
             return false;
         };
         self.are_equal(left, right, reasons)

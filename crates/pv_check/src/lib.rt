@@ -1,8 +1,8 @@
 //! Whether the steps of a certificate are right.
 //!
 //! This layer stands on `pv_steps`, whose `specs/Right` says when a step is right after those before it
-//! (`RightOver`), on `pv_axioms` for the axioms (`Instance`), on `pv_graph`, and on `pv_base` for the gate that
-//! is passed before each step. A check takes the steps of a section in order, and looks at no step twice: each
+//! (`RightOver`), on `pv_axioms` for the axioms (`Instance`), on `pv_endings` for the nodes that a root waits for, on
+//! `pv_graph`, and on `pv_base` for the gate that is passed before each step. A check takes the steps of a section in order, and looks at no step twice: each
 //! is tested over the graph of the moment and by what is kept of the steps so far.
 //!
 //! What is kept (`specs/Kept`, `AreKept`): of each number of steps the innermost block that is open after
@@ -13,7 +13,7 @@
 //!
 //! Each row of steps has its function, whose contract is that it answers exactly the relation of that row:
 //! `growth` for node steps, `rows` for axioms and chains, `sets` for congruences, `sorts` and `inductions`
-//! for what opens and closes an induction, `assuming`, `spine` and `endings` for ending blocks. `testing` puts
+//! for what opens and closes an induction, `assuming` and `endings` for ending blocks. `testing` puts
 //! together those of steps that leave the graph as it is (`is_right`). `takes` of `moment` is yes exactly where
 //! `RightOver` holds at the axioms of all tables, and makes the graph that the step leaves (`GrowsTo`): a node
 //! step adds its node, and the test of what opens an ending block prepares the graph. `concludes` of
@@ -41,7 +41,6 @@ mod rows;
 mod seen;
 mod sets;
 mod sorts;
-mod spine;
 mod tables;
 mod testing;
 

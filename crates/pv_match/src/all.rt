@@ -24,9 +24,9 @@ use pv_value::Memory;
 use std::alloc::Global;
 
 /// All matches of a table over the classes of a graph's nodes, or that there are more than `limit`. `base` has the marks of the nodes
-/// of the base, as `pv_marks::node_marks` gives them, with some nodes assumed to end. Of nodes with one
-/// operation over kids in the same classes, which match the same patterns, the first alone is looked at. It passes the gate before
-/// each of these at which a left side may start, as piece 0. It holds at most `limit + 1` matches, and beside them those of one axiom at one node.
+/// of the base, as `pv_marks::node_marks` gives them, with some nodes assumed to end. Of nodes with one operation over kids in the
+/// same classes, which match the same patterns, the first alone is looked at. It passes the gate before each of these at which a left
+/// side may start, as piece 0. It holds at most `limit + 1` matches, and beside them those of one axiom at one node.
 pub fn matches<G: Gate>(
     alloc: Global,
     gate: &G,

@@ -6,9 +6,9 @@ that it stands for, and so on: a name of a file of specs/ by the imports of that
 the .rt file that declares it, with the types of its fields and what its values are (`ghost Value`). A file is listed
 where some definition of it is met, with the lines of these definitions. Each file stands before those whose words it uses.
 
-    tests/definitions.py            fails where the page misses a file, names one that isn't met, or gives a wrong count
-A third list begins at `IsVerdict` of pv_heights, which no clause of `run` names yet: what the verdict of a search is.
+Of what the promise doesn't need, a list of its own has what the verdict of a search is, from `IsVerdict` of pv_heights on.
 
+    tests/definitions.py            fails where the page misses a file, names one that isn't met, or gives a wrong count
     tests/definitions.py --write    writes the lists into the page
     tests/definitions.py --why FILE prints, for each list, by which chain of definitions a file is met
 """
@@ -287,13 +287,13 @@ def listed_in(inside):
 
 
 def lists():
-    """The lists, each with its files and the definitions of them that it needs: those of the promise, those of all
-    clauses that the promise doesn't need, and those of the verdict of a search that no clause needs."""
+    """The lists, each with its files and the definitions of them that it needs: those of the promise, those of the verdict
+    of a search that the promise doesn't need, and the rest of those of all clauses."""
     promise, every, verdict = met(roots(["equivalent"])), met(roots(None)), met([VERDICT])
     return [
         ("equivalent", in_order(promise), set(promise)),
-        ("report", *beyond(every, promise)),
-        ("verdict", *beyond(verdict, every)),
+        ("verdict", *beyond(verdict, promise)),
+        ("report", *beyond(every, promise | verdict)),
     ]
 
 

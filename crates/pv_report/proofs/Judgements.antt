@@ -2,6 +2,7 @@
 use Rattle.std.proofs.Common.{◌≡◌, ℕ, List, Ok, Err, inl, inr, subst, sym}
 use Rattle.std.specs.List.{AllZip, flat_map}
 use Rattle.pv_class.specs.declared.fault.ClassFault.{ClassFault}
+use Rattle.pv_prove.specs.declared.outcome.Limits.{Limits}
 use Rattle.pv_report.specs.declared.pair.Fetched.{Fetched}
 use Rattle.pv_report.specs.declared.pair.Pair.{Pair}
 use Rattle.pv_report.specs.declared.pair.BadClass.{BadClass}
@@ -20,17 +21,17 @@ pub bad_pair : (a b : List ℕ) (s : Side) (f : ClassFault) (text : List ℕ) �
 bad_pair a b side.First f text bad e = inl (f, bad, e)
 bad_pair a b side.Second f text bad e = inr (bad.0, (f, bad.1, e))
 
-pub bad_file : (first second : Fetched) (bad : BadClass) (text : List ℕ) (s : Status) → ReadsPair first second (Err bad) → text ≡ bad_class bad.side bad.fault → s ≡ status.BadClass → JudgesFetched first second text s
-bad_file first second bad text s read e is a b p q = subst (λ (x : Status). Judged a b text x) (sym is) (bad_pair a b bad.side bad.fault text (read a b p q) e)
+pub bad_file : (limits : Limits) (first second : Fetched) (bad : BadClass) (text : List ℕ) (s : Status) → ReadsPair first second (Err bad) → text ≡ bad_class bad.side bad.fault → s ≡ status.BadClass → JudgesFetched limits first second text s
+bad_file limits first second bad text s read e is a b p q = subst (λ (x : Status). Judged limits a b text x) (sym is) (bad_pair a b bad.side bad.fault text (read a b p q) e)
 
-judged_by : (a b text : List ℕ) (verdicts : List Verdict) (s : Status) → IsReport a b verdicts text → IsStatusOf verdicts s → Judged a b text s
-judged_by a b text verdicts status.AllEquivalent r is = (verdicts, r, is)
-judged_by a b text verdicts status.Others r is = (verdicts, r, is)
-judged_by a b text verdicts _ r is = absurd is
+judged_by : (limits : Limits) (a b text : List ℕ) (verdicts : List Verdict) (s : Status) → IsReport limits a b verdicts text → IsStatusOf verdicts s → Judged limits a b text s
+judged_by limits a b text verdicts status.AllEquivalent r is = (verdicts, r, is)
+judged_by limits a b text verdicts status.Others r is = (verdicts, r, is)
+judged_by limits a b text verdicts _ r is = absurd is
 
 -- both have one, and these are the verdicts
-pub judges : (first second : Fetched) (pair : Pair) (verdicts : List Verdict) (text : List ℕ) (s : Status) → ReadsPair first second (Ok pair) → AllZip (IsVerdict pair.first pair.second) pair.first.methods verdicts
-    → text ≡ flat_map line_text (lines_of pair.first.methods verdicts) → IsStatusOf verdicts s → JudgesFetched first second text s
-judges first second pair verdicts text s read each e is a b p q =
+pub judges : (limits : Limits) (first second : Fetched) (pair : Pair) (verdicts : List Verdict) (text : List ℕ) (s : Status) → ReadsPair first second (Ok pair) → AllZip (IsVerdict limits pair.first pair.second) pair.first.methods verdicts
+    → text ≡ flat_map line_text (lines_of pair.first.methods verdicts) → IsStatusOf verdicts s → JudgesFetched limits first second text s
+judges limits first second pair verdicts text s read each e is a b p q =
     let both = read a b p q in
-    judged_by a b text verdicts s (record { first = pair.first; second = pair.second; first_is = both.0; second_is = both.1; each = each; text_is = e }) is
+    judged_by limits a b text verdicts s (record { first = pair.first; second = pair.second; first_is = both.0; second_is = both.1; each = each; text_is = e }) is

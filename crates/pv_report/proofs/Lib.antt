@@ -2,6 +2,7 @@ pub mod Places
 pub mod Lists
 pub mod LineWords
 pub mod Partnering
+pub mod Searched
 pub mod Judgements
 pub mod SameFlows
 pub mod SameMeanings

@@ -181,6 +181,8 @@ verdict_other (verdict.NoCode s) = inr (known (codes "nocode") refl, (side_other
 verdict_other (verdict.Refused s cause) = inr (known (codes "refused") refl, (side_other s, at_other (kind_word cause.kind) cause.at (kind_other cause.kind)))
 verdict_other verdict.Equivalent = inl refl
 verdict_other verdict.Apart = inr (known (codes "unknown") refl, (known (codes "apart") refl, tt))
+verdict_other (verdict.Rounds n) = inr (known (codes "unknown") refl, (known (codes "rounds") refl, (number_other n, tt)))
+verdict_other (verdict.Budget k) = inr (known (codes "unknown") refl, (known (codes "budget") refl, (number_other k, tt)))
 
 pub verdict_parts : (v : Verdict) → AreParts (verdict_words v)
 verdict_parts v =

@@ -8,8 +8,9 @@ use Rattle.pv_class.specs.Places.{IsNamedAt, IsPlaceOf}
 use Rattle.pv_value.specs.declared.memory.Memory.{Memory}
 use Rattle.pv_class.specs.declared.file.ClassFile.{ClassFile}
 use Rattle.pv_frame.specs.Programs.{is_instance}
+use Rattle.pv_prove.specs.declared.outcome.Limits.{Limits}
 use Rattle.pv_report.specs.declared.verdict.Verdict.{Verdict}
-use Rattle.pv_report.specs.declared.verdict.Verdict.TheVariants.{Missing, Equivalent, Apart}
+use Rattle.pv_report.specs.declared.verdict.Verdict.TheVariants as verdict
 use Rattle.pv_report.specs.Verdicts.{LackRoots, IsVerdict, IsVerdictOn}
 use Rattle.pv_report.specs.Partners.{IsPartner}
 use Rattle.pv_report.specs.Judging.{IsVerdictAt, IsVerdictOnPlaces, IsLikeAt}
@@ -54,19 +55,21 @@ none_there m others none p is = let place = place_of others p is.among in none p
 -- ---- verdicts
 
 -- a verdict without two roots is one
-pub verdict_lacking : (f : ClassFile) (m : Method) (g : ClassFile) (p : Method) (v : Verdict) → LackRoots f m g p v → IsVerdictOn f m g p v
-verdict_lacking f m g p Equivalent is = absurd is
-verdict_lacking f m g p Apart is = absurd is
-verdict_lacking f m g p _ is = is
+pub verdict_lacking : (limits : Limits) (f : ClassFile) (m : Method) (g : ClassFile) (p : Method) (v : Verdict) → LackRoots f m g p v → IsVerdictOn limits f m g p v
+verdict_lacking limits f m g p verdict.Equivalent is = absurd is
+verdict_lacking limits f m g p verdict.Apart is = absurd is
+verdict_lacking limits f m g p (verdict.Rounds n) is = absurd is
+verdict_lacking limits f m g p (verdict.Budget k) is = absurd is
+verdict_lacking limits f m g p _ is = is
 
-pub as_verdict : (f g : ClassFile) (m p : Method) (v : Verdict) → IsPartner m g.methods p → IsVerdictOn f m g p v → IsVerdict f g m v
-as_verdict f g m p Missing partner on = absurd on
-as_verdict f g m p _ partner on = (p, partner, on)
+as_verdict : (limits : Limits) (f g : ClassFile) (m p : Method) (v : Verdict) → IsPartner m g.methods p → IsVerdictOn limits f m g p v → IsVerdict limits f g m v
+as_verdict limits f g m p verdict.Missing partner on = absurd on
+as_verdict limits f g m p _ partner on = (p, partner, on)
 
 -- the verdict on a method and its partner at their places is the verdict on the method
-pub verdict_at : (f g : ClassFile) (place other : ℕ) (m : Method) (r : Result Verdict Memory) → slice_get f.methods place ≡ Some m → IsLikeAt m g.methods other → IfOk r (λ v. IsVerdictOnPlaces f place g other v) → IfOk r (λ v. IsVerdictAt f place g v)
-verdict_at f g place other m (Ok v) here like h =
+pub verdict_at : (limits : Limits) (f g : ClassFile) (place other : ℕ) (m : Method) (r : Result Verdict Memory) → slice_get f.methods place ≡ Some m → IsLikeAt m g.methods other → IfOk r (λ v. IsVerdictOnPlaces limits f place g other v) → IfOk r (λ v. IsVerdictAt limits f place g v)
+verdict_at limits f g place other m (Ok v) here like h =
     λ n at. let same = slice_once f.methods place m n here at in
-    subst (λ (x : Method). IsVerdict f g x v) same
-    (as_verdict f g m like.0 v (record { among = contains_here g.methods other like.0 like.1; like = like.2 }) (h m like.0 here like.1))
-verdict_at f g place other m (Err e) here like h = tt
+    subst (λ (x : Method). IsVerdict limits f g x v) same
+    (as_verdict limits f g m like.0 v (record { among = contains_here g.methods other like.0 like.1; like = like.2 }) (h m like.0 here like.1))
+verdict_at limits f g place other m (Err e) here like h = tt

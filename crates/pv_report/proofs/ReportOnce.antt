@@ -9,6 +9,7 @@ use Rattle.pv_class.specs.declared.fault.ClassFault.{ClassFault}
 use Rattle.pv_class.specs.ClassFiles.{IsClass}
 use Rattle.pv_class.specs.ClassFaults.{IsBad}
 use Rattle.pv_class.proofs.Cited.{answer_once, HasBytes, class_bytes}
+use Rattle.pv_prove.specs.declared.outcome.Limits.{Limits}
 use Rattle.pv_report.specs.declared.verdict.Side.{Side}
 use Rattle.pv_report.specs.declared.verdict.Side.TheVariants as side
 use Rattle.pv_report.specs.declared.verdict.Verdict.{Verdict}
@@ -17,6 +18,8 @@ use Rattle.pv_report.specs.declared.status.Status.TheVariants as status
 use Rattle.pv_report.specs.Verdicts.{IsVerdict}
 use Rattle.pv_report.specs.Lines.{line_text, bad_class}
 use Rattle.pv_report.specs.Report.{IsReport, IsBadText, IsBadPair, IsStatusOf, Judged, AreEquivalent, lines_of}
+use Rattle.pv_report.specs.Laws.{JudgedOnce}
+use Rattle.pv_report.proofs.Places.{by_index}
 use Rattle.pv_report.proofs.VerdictOnce.{line_once}
 
 -- ---- one reading of a file
@@ -38,35 +41,35 @@ not_both bytes f b fits p q =
 
 -- ---- one report
 
-verdicts_once : (f g : ClassFile) (methods : List Method) (vs ws : List Verdict) → AreDistinct g.methods → AllByRecursion HasBytes methods → AllByRecursion HasBytes g.methods → AllZip (IsVerdict f g) methods vs → AllZip (IsVerdict f g) methods ws → vs ≡ ws
-verdicts_once f g [] [] [] distinct x all h k = refl
-verdicts_once f g (m ∷ methods) (v ∷ vs) (w ∷ ws) distinct x all h k =
-    let one = line_once f g m v w distinct x.0 all h.0 k.0 in
-    let rest = verdicts_once f g methods vs ws distinct x.1 all h.1 k.1 in
+verdicts_once : (limits : Limits) (f g : ClassFile) (methods : List Method) (vs ws : List Verdict) → AreDistinct g.methods → AllByRecursion HasBytes methods → AllByRecursion HasBytes g.methods → AllZip (IsVerdict limits f g) methods vs → AllZip (IsVerdict limits f g) methods ws → vs ≡ ws
+verdicts_once limits f g [] [] [] distinct x all h k = refl
+verdicts_once limits f g (m ∷ methods) (v ∷ vs) (w ∷ ws) distinct x all h k =
+    let one = line_once limits f g m v w distinct x.0 all h.0 k.0 in
+    let rest = verdicts_once limits f g methods vs ws distinct x.1 all h.1 k.1 in
     cc (one, rest)
-verdicts_once f g [] [] _ distinct x all h k = absurd k
-verdicts_once f g (m ∷ methods) (v ∷ vs) _ distinct x all h k = absurd k
-verdicts_once f g _ _ ws distinct x all h k = absurd h
+verdicts_once limits f g [] [] _ distinct x all h k = absurd k
+verdicts_once limits f g (m ∷ methods) (v ∷ vs) _ distinct x all h k = absurd k
+verdicts_once limits f g _ _ ws distinct x all h k = absurd h
 
-report_once : (a b t u : List ℕ) (vs ws : List Verdict) → IsBytes a → IsBytes b → IsReport a b vs t → IsReport a b ws u → (vs ≡ ws) × (t ≡ u)
-report_once a b t u vs ws m n r s =
+report_once : (limits : Limits) (a b t u : List ℕ) (vs ws : List Verdict) → IsBytes a → IsBytes b → IsReport limits a b vs t → IsReport limits a b ws u → (vs ≡ ws) × (t ≡ u)
+report_once limits a b t u vs ws m n r s =
     let first : s.first ≡ r.first = file_once a s.first r.first m s.first_is r.first_is in
     let second : s.second ≡ r.second = file_once b s.second r.second n s.second_is r.second_is in
     let methods : s.first.methods ≡ r.first.methods = ap (λ (f : ClassFile). f.methods) first in
-    let each : AllZip (IsVerdict r.first r.second) r.first.methods ws = subst (λ (g : ClassFile). AllZip (IsVerdict r.first g) r.first.methods ws) second (subst (λ (f : ClassFile). AllZip (IsVerdict f s.second) f.methods ws) first s.each) in
-    let one = verdicts_once r.first r.second r.first.methods vs ws r.second_is.describes.distinct (class_bytes a r.first m r.first_is) (class_bytes b r.second n r.second_is) r.each each in
+    let each : AllZip (IsVerdict limits r.first r.second) r.first.methods ws = subst (λ (g : ClassFile). AllZip (IsVerdict limits r.first g) r.first.methods ws) second (subst (λ (f : ClassFile). AllZip (IsVerdict limits f s.second) f.methods ws) first s.each) in
+    let one = verdicts_once limits r.first r.second r.first.methods vs ws r.second_is.describes.distinct (class_bytes a r.first m r.first_is) (class_bytes b r.second n r.second_is) r.each each in
     (one, r.text_is ∙ ap (λ (xs : List Verdict). flat_map line_text (lines_of r.first.methods xs)) one ∙ ap (λ (ms : List Method). flat_map line_text (lines_of ms ws)) (sym methods) ∙ sym s.text_is)
 
 -- what is said, by what was read
-data Reading (a b t : List ℕ) (s : Status) : Type 0 where
-  bad : s ≡ status.BadClass → IsBadPair a b t → Reading a b t s
-  report : (vs : List Verdict) → IsReport a b vs t → IsStatusOf vs s → Reading a b t s
+data Reading (limits : Limits) (a b t : List ℕ) (s : Status) : Type 0 where
+  bad : s ≡ status.BadClass → IsBadPair a b t → Reading limits a b t s
+  report : (vs : List Verdict) → IsReport limits a b vs t → IsStatusOf vs s → Reading limits a b t s
 
-reading_of : (a b t : List ℕ) (s : Status) → Judged a b t s → Reading a b t s
-reading_of a b t status.AllEquivalent (vs, r, is) = report vs r is
-reading_of a b t status.Others (vs, r, is) = report vs r is
-reading_of a b t status.BadClass h = bad refl h
-reading_of a b t _ (vs, r, is) = absurd is
+reading_of : (limits : Limits) (a b t : List ℕ) (s : Status) → Judged limits a b t s → Reading limits a b t s
+reading_of limits a b t status.AllEquivalent (vs, r, is) = report vs r is
+reading_of limits a b t status.Others (vs, r, is) = report vs r is
+reading_of limits a b t status.BadClass h = bad refl h
+reading_of limits a b t _ (vs, r, is) = absurd is
 
 -- one status goes with verdicts
 which : (vs : List Verdict) (s : Status) → IsStatusOf vs s → ((s ≡ status.AllEquivalent) × AreEquivalent vs) ⊎ ((s ≡ status.Others) × (AreEquivalent vs → ⊥))
@@ -98,17 +101,20 @@ bad_twice a b t u p q (inl h) (inr k) = absurd (not_both a k.0.0 h.0 p k.0.1 h.1
 bad_twice a b t u p q (inr h) (inl k) = absurd (not_both a h.0.0 k.0 p h.0.1 k.1)
 bad_twice a b t u p q (inr h) (inr k) = one_bad side.Second b t u q h.1 k.1
 
-not_bad : (a b t u : List ℕ) (vs : List Verdict) → IsBytes a → IsBytes b → IsReport a b vs t → IsBadPair a b u → ⊥
-not_bad a b t u vs p q r (inl k) = not_both a r.first k.0 p r.first_is k.1
-not_bad a b t u vs p q r (inr k) = not_both b r.second k.1.0 q r.second_is k.1.1
+not_bad : (limits : Limits) (a b t u : List ℕ) (vs : List Verdict) → IsBytes a → IsBytes b → IsReport limits a b vs t → IsBadPair a b u → ⊥
+not_bad limits a b t u vs p q r (inl k) = not_both a r.first k.0 p r.first_is k.1
+not_bad limits a b t u vs p q r (inr k) = not_both b r.second k.1.0 q r.second_is k.1.1
 
-pub judged_once : (a b t u : List ℕ) (r s : Status) → IsBytes a → IsBytes b → Judged a b t r → Judged a b u s → (t ≡ u) × (r ≡ s)
-judged_once a b t u r s m n h k = go (reading_of a b t r h) (reading_of a b u s k)
+of_bytes : (limits : Limits) (a b t u : List ℕ) (r s : Status) → IsBytes a → IsBytes b → Judged limits a b t r → Judged limits a b u s → (t ≡ u) × (r ≡ s)
+of_bytes limits a b t u r s m n h k = go (reading_of limits a b t r h) (reading_of limits a b u s k)
   where
-    go : Reading a b t r → Reading a b u s → (t ≡ u) × (r ≡ s)
+    go : Reading limits a b t r → Reading limits a b u s → (t ≡ u) × (r ≡ s)
     go (bad p x) (bad q y) = (bad_twice a b t u m n x y, p ∙ sym q)
-    go (bad p x) (report ws y is) = absurd (not_bad a b u t ws m n y x)
-    go (report vs x is) (bad q y) = absurd (not_bad a b t u vs m n x y)
+    go (bad p x) (report ws y is) = absurd (not_bad limits a b u t ws m n y x)
+    go (report vs x is) (bad q y) = absurd (not_bad limits a b t u vs m n x y)
     go (report vs x is) (report ws y is_too) =
-        let one = report_once a b t u vs ws m n x y in
+        let one = report_once limits a b t u vs ws m n x y in
         (one.1, status_once ws r s (subst (λ (vs : List Verdict). IsStatusOf vs r) one.0 is) is_too)
+
+pub judged_once : JudgedOnce
+judged_once limits a b t u r s p q h k = of_bytes limits a b t u r s (by_index a p) (by_index b q) h k

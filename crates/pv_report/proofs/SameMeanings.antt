@@ -1,4 +1,4 @@
--- Methods whose roots unfold equally in one graph have the same meaning.
+-- Methods whose roots have the same values have the same meaning.
 use Rattle.std.proofs.Common.{◌≡◌, ◌↔◌, ℕ, suc, ◌<◌, List, [], ◌∷◌, sym, subst}
 use Rattle.std.specs.List.{AllByRecursion}
 use Rattle.pv_value.specs.declared.descriptor.Descriptor.{Descriptor}
@@ -17,18 +17,19 @@ use Rattle.pv_pool.proofs.Cited.{IsBytes}
 use Rattle.pv_class.proofs.Cited.{HasBytes}
 use Rattle.pv_machine.specs.Machine.{IsProgram, Ends}
 use Rattle.pv_machine.specs.SameMeaning.{AreEquivalentMethods}
-use Rattle.pv_graph.specs.Graphs.{Graph, form_at}
+use Rattle.pv_graph.specs.Graphs.{Graph}
 use Rattle.pv_denote.specs.Denote.{outside}
-use Rattle.pv_denote.specs.Meaning.{Value}
-use Rattle.pv_denote.proofs.Cited.{unfolds_value}
+use Rattle.pv_denote.specs.Meaning.{Same, Value}
 use Rattle.pv_equations.specs.Equations.{Values, AreEquations}
 use Rattle.pv_equations.proofs.Cited.{solvable}
+use Rattle.pv_alike.specs.Least.{Rooted}
+use Rattle.pv_alike.proofs.Cited.{first_means, second_means}
 use Rattle.pv_loops.specs.declared.forest.TheConstants.{MAX_DEPTH}
 use Rattle.pv_runs.specs.Methods.{flow_of}
 use Rattle.pv_runs.proofs.Cited.{method_ranked, method_converts}
 use Rattle.pv_build.specs.Unfolded.{none_of}
 use Rattle.pv_build.specs.Conversion.{Form, IsRootOf}
-use Rattle.pv_report.specs.Roots.{HaveRoots, Alike}
+use Rattle.pv_report.specs.Roots.{HaveRoots, HaveLeast}
 
 bytes_all : (bytes : List ℕ) → IsBytes bytes → AllByRecursion (λ b. b < 256) bytes
 bytes_all [] h = tt
@@ -69,5 +70,14 @@ same_outcomes file m other p r same desc fm fp = record {
       (λ e. second.0 (both.0 (first.1 e)), λ e. first.0 (both.1 (second.1 e)));
 }
 
-pub same_meaning : (file : ClassFile) (m : Method) (other : ClassFile) (p : Method) (r : HaveRoots file m other p) → Alike r → p.desc ≡ m.desc → HasBytes m → HasBytes p → AreEquivalentMethods file m other p
-same_meaning file m other p r alike desc fm fp = same_outcomes file m other p r (λ w x fine input v. unfolds_value (form_at r.graph.nodes) (form_at r.graph.nodes) w x r.root r.other outside v alike) desc fm fp
+-- roots have the values of those of their least graph
+least_values : (file : ClassFile) (m : Method) (other : ClassFile) (p : Method) (l : Rooted) (h : HaveLeast file m other p l) → Same l.graph l.first l.second → HaveSameValues h.roots.graph h.roots.root h.roots.other
+least_values file m other p l h same w x world input v =
+    let one = first_means h.least.least w x outside v in
+    let two = second_means h.least.least w x outside v in
+    let both = same w x world input outside v in
+    (λ e. two.0 (both.0 (one.1 e)), λ e. one.0 (both.1 (two.1 e)))
+
+-- .. so that methods have the same meaning where those have the same values
+pub least_meaning : (file : ClassFile) (m : Method) (other : ClassFile) (p : Method) (l : Rooted) → HaveLeast file m other p l → Same l.graph l.first l.second → p.desc ≡ m.desc → HasBytes m → HasBytes p → AreEquivalentMethods file m other p
+least_meaning file m other p l h same = same_outcomes file m other p h.roots (least_values file m other p l h same)

@@ -1,5 +1,5 @@
--- Two roots in one graph unfold equally, or they do in none; and a sealed graph has its nodes.
-use Rattle.std.proofs.Common.{◌≡◌, ◌↔◌, ℕ, ◌<◌, List, length, true, Option, sym, ap, subst, ◌∙◌}
+-- The roots of a method unfold as each other in all graphs, so that two methods have one least graph; and a sealed graph has its nodes.
+use Rattle.std.proofs.Common.{◌≡◌, ℕ, ◌<◌, List, length, true, Option, sym, ap, subst, ◌∙◌}
 use Rattle.std.specs.Prelude.{IfOk, Result, Ok, Err}
 use Rattle.pv_value.specs.declared.memory.Memory.{Memory}
 use Rattle.pv_class.specs.declared.file.ClassFile.{ClassFile}
@@ -29,11 +29,10 @@ use Rattle.pv_runs.specs.Methods.{flow_of}
 use Rattle.pv_build.specs.Unfolded.{IsUnfolded}
 use Rattle.pv_build.specs.Conversion.{Form, IsRootOf}
 use Rattle.pv_alike.specs.Least.{Rooted, IsLeast, IsLeastOf}
-use Rattle.pv_alike.proofs.Cited.{least_one}
-use Rattle.pv_machine.specs.SameMeaning.{AreEquivalentMethods}
-use Rattle.pv_report.specs.Roots.{HaveRoots, Alike, HaveLeast, IsWhole, OnLeast}
+use Rattle.pv_alike.proofs.Cited.{same_least_nodes}
+use Rattle.pv_report.specs.Roots.{HaveLeast, IsWhole}
 use Rattle.pv_report.proofs.SameFlows.{same_flow, alike_flows}
-use Rattle.pv_report.proofs.SameMeanings.{solved, same_meaning}
+use Rattle.pv_report.proofs.SameMeanings.{solved}
 
 -- ---- one flow of a method
 
@@ -66,11 +65,6 @@ one_root g h r s file m bytes x y =
     let f = flow_of b.program b.frames b.blocks b.forest in
     let one : IsUnfolded g f b.program.desc.result r = subst (λ (k : Flow). IsUnfolded g k b.program.desc.result r) (one_flow_of file m a b bytes) (subst (λ (p : Program). IsUnfolded g (flow_of a.program a.frames a.blocks a.forest) p.desc.result r) (one_program_ file m a b bytes) x.built) in
     λ k. one v.0 v.1 k ∙ sym (y.built v.0 v.1 k)
-
--- two roots that unfold equally in one graph do so in each
-pub alike_once : (file : ClassFile) (m : Method) (other : ClassFile) (p : Method) → HasBytes m → HasBytes p → (r q : HaveRoots file m other p) → Alike r → Alike q
-alike_once file m other p fm fp r q alike k =
-    one_root q.graph r.graph q.root r.root file m fm q.one r.one k ∙ alike k ∙ one_root r.graph q.graph r.other q.other other p fp r.two q.two k
 
 -- ---- a graph that grows
 
@@ -122,10 +116,10 @@ pub answer_kept : (g h : Graph) (a b : ℕ) (r : Result Rooted Memory) → Seale
 answer_kept g h a b (Ok l) s is = least_kept g h a b l s is
 answer_kept g h a b (Err e) s is = is
 
--- its roots are one exactly where the two unfold equally
-pub alike_least : (first : ClassFile) (m : Method) (second : ClassFile) (p : Method) (l : Rooted) (h : HaveLeast first m second p l) → (l.first ≡ l.second) ↔ Alike h.roots
-alike_least first m second p l h = least_one h.least.least
-
--- .. so that two methods of one root have the same meaning
-pub one_meaning : (first : ClassFile) (m : Method) (second : ClassFile) (p : Method) → OnLeast first m second p (λ l. l.first ≡ l.second) → p.desc ≡ m.desc → HasBytes m → HasBytes p → AreEquivalentMethods first m second p
-one_meaning first m second p (l, h, same) desc fm fp = same_meaning first m second p h.roots ((alike_least first m second p l h).0 same) desc fm fp
+-- two of the same methods have the same nodes, and their roots the same numbers
+pub one_least : (f : ClassFile) (m : Method) (g : ClassFile) (p : Method) (l k : Rooted) → HasBytes m → HasBytes p → HaveLeast f m g p l → HaveLeast f m g p k → (l.graph.nodes ≡ k.graph.nodes) × (l.first ≡ k.first) × (l.second ≡ k.second)
+one_least f m g p l k fm fp h j =
+    let a = h.roots in
+    let b = j.roots in
+    (same_least_nodes a.graph.nodes b.graph.nodes a.root a.other b.root b.other l.graph.nodes k.graph.nodes l.first l.second k.first k.second h.least.least j.least.least).1
+    (record { first = one_root a.graph b.graph a.root b.root f m fm a.one b.one; second = one_root a.graph b.graph a.other b.other g p fp a.two b.two })

@@ -17,11 +17,16 @@ use Rattle.pv_frame.proofs.Cited.{one_program, one_cause, accepted_or_refused}
 use Rattle.pv_build.specs.Structure.{IsStructured, MeetsShape}
 use Rattle.pv_build.specs.Conversion.{Meets, Form}
 use Rattle.pv_build.proofs.Cited.{one_shape_cause, not_structured}
-use Rattle.pv_report.specs.Roots.{HaveRoots, Alike}
-use Rattle.pv_report.specs.Verdicts.{HasCode, IsVerdict, IsVerdictOn}
+use Rattle.pv_alike.specs.Least.{Rooted}
+use Rattle.pv_heights.specs.Verdicts as search
+use Rattle.pv_prove.specs.declared.outcome.Limits.{Limits}
+use Rattle.pv_prove.proofs.Cited.{verdict_by_nodes}
+use Rattle.pv_report.specs.Roots.{HaveLeast}
+use Rattle.pv_report.specs.Judging.{said_of}
+use Rattle.pv_report.specs.Verdicts.{HasCode, Finds, IsVerdict, IsVerdictOn}
 use Rattle.pv_report.specs.Partners.{IsPartner}
 use Rattle.pv_report.proofs.Places.{all_at, here_again}
-use Rattle.pv_report.proofs.SameRoots.{alike_least, alike_once}
+use Rattle.pv_report.proofs.SameRoots.{one_least}
 
 -- ---- what has a code
 
@@ -63,64 +68,60 @@ not_refused file m cause bytes (inr h) a =
 
 -- ---- one verdict on a method and its partner
 
+-- a search finds one thing of the roots of two methods
+found_once : (limits : Limits) (f : ClassFile) (m : Method) (g : ClassFile) (p : Method) (l k : Rooted) (v w : search.Verdict) → HasBytes m → HasBytes p → HaveLeast f m g p l → HaveLeast f m g p k → Finds limits v l → Finds limits w k → v ≡ w
+found_once limits f m g p l k v w x y h j a b =
+    let one = one_least f m g p l k x y h j in
+    verdict_by_nodes l k limits v w one.0 one.1 one.2 a b
+
 -- what a verdict says, in the order of the verdicts: of the code of the first, of the second, of the first's cause or root, of the second's
-data Said (f : ClassFile) (m : Method) (g : ClassFile) (p : Method) : Verdict → Type 0 where
-  no_first : m.code ≡ None → Said f m g p (verdict.NoCode side.First)
-  no_second : HasCode m → p.code ≡ None → Said f m g p (verdict.NoCode side.Second)
-  first_refused : (cause : Cause) → HasCode m → HasCode p → Meets f m cause → Said f m g p (verdict.Refused side.First cause)
-  second_refused : (cause : Cause) → HasCode m → HasCode p → Form f m → Meets g p cause → Said f m g p (verdict.Refused side.Second cause)
-  equivalent : HasCode m → HasCode p → (r : HaveRoots f m g p) → Alike r → Said f m g p verdict.Equivalent
-  apart : HasCode m → HasCode p → (r : HaveRoots f m g p) → (Alike r → ⊥) → Said f m g p verdict.Apart
+data Said (limits : Limits) (f : ClassFile) (m : Method) (g : ClassFile) (p : Method) : Verdict → Type 0 where
+  no_first : m.code ≡ None → Said limits f m g p (verdict.NoCode side.First)
+  no_second : HasCode m → p.code ≡ None → Said limits f m g p (verdict.NoCode side.Second)
+  first_refused : (cause : Cause) → HasCode m → HasCode p → Meets f m cause → Said limits f m g p (verdict.Refused side.First cause)
+  second_refused : (cause : Cause) → HasCode m → HasCode p → Form f m → Meets g p cause → Said limits f m g p (verdict.Refused side.Second cause)
+  searched : (v : Verdict) (found : search.Verdict) (l : Rooted) → HaveLeast f m g p l → Finds limits found l → v ≡ said_of found → Said limits f m g p v
 
-said_by : (f : ClassFile) (m : Method) (g : ClassFile) (p : Method) (v : Verdict) → IsVerdictOn f m g p v → Said f m g p v
-said_by f m g p verdict.Missing h = absurd h
-said_by f m g p (verdict.NoCode side.First) h = no_first h
-said_by f m g p (verdict.NoCode side.Second) h = no_second h.0 h.1
-said_by f m g p (verdict.Refused side.First cause) h = first_refused cause (meets_code f m cause h.1) h.0 h.1
-said_by f m g p (verdict.Refused side.Second cause) h = second_refused cause (form_code f m h.0) (meets_code g p cause h.1) h.0 h.1
-said_by f m g p verdict.Equivalent (l, h, same) = equivalent (form_code f m h.roots.one.form) (form_code g p h.roots.two.form) h.roots ((alike_least f m g p l h).0 same)
-said_by f m g p verdict.Apart (l, h, other) = apart (form_code f m h.roots.one.form) (form_code g p h.roots.two.form) h.roots (λ alike. other ((alike_least f m g p l h).1 alike))
+said_by : (limits : Limits) (f : ClassFile) (m : Method) (g : ClassFile) (p : Method) (v : Verdict) → IsVerdictOn limits f m g p v → Said limits f m g p v
+said_by limits f m g p verdict.Missing h = absurd h
+said_by limits f m g p (verdict.NoCode side.First) h = no_first h
+said_by limits f m g p (verdict.NoCode side.Second) h = no_second h.0 h.1
+said_by limits f m g p (verdict.Refused side.First cause) h = first_refused cause (meets_code f m cause h.1) h.0 h.1
+said_by limits f m g p (verdict.Refused side.Second cause) h = second_refused cause (form_code f m h.0) (meets_code g p cause h.1) h.0 h.1
+said_by limits f m g p verdict.Equivalent (l, h, (found, same)) = searched verdict.Equivalent search.equivalent l h found refl
+said_by limits f m g p verdict.Apart (l, h, found) = searched verdict.Apart search.apart l h found refl
+said_by limits f m g p (verdict.Rounds n) (l, h, found) = searched (verdict.Rounds n) (search.rounds n) l h found refl
+said_by limits f m g p (verdict.Budget k) (l, h, found) = searched (verdict.Budget k) (search.budget k) l h found refl
 
-said_once : (f : ClassFile) (m : Method) (g : ClassFile) (p : Method) (v w : Verdict) → HasBytes m → HasBytes p → Said f m g p v → Said f m g p w → v ≡ w
-said_once f m g p v w x y (no_first e) (no_first d) = refl
-said_once f m g p v w x y (no_first e) (no_second c d) = absurd (no_code m e c)
-said_once f m g p v w x y (no_first e) (first_refused other c d l) = absurd (no_code m e c)
-said_once f m g p v w x y (no_first e) (second_refused other c d l o) = absurd (no_code m e c)
-said_once f m g p v w x y (no_first e) (equivalent c d q l) = absurd (no_code m e c)
-said_once f m g p v w x y (no_first e) (apart c d q o) = absurd (no_code m e c)
-said_once f m g p v w x y (no_second a e) (no_first d) = absurd (no_code m d a)
-said_once f m g p v w x y (no_second a e) (no_second c d) = refl
-said_once f m g p v w x y (no_second a e) (first_refused other c d l) = absurd (no_code p e d)
-said_once f m g p v w x y (no_second a e) (second_refused other c d l o) = absurd (no_code p e d)
-said_once f m g p v w x y (no_second a e) (equivalent c d q l) = absurd (no_code p e d)
-said_once f m g p v w x y (no_second a e) (apart c d q o) = absurd (no_code p e d)
-said_once f m g p v w x y (first_refused cause a b h) (no_first d) = absurd (no_code m d a)
-said_once f m g p v w x y (first_refused cause a b h) (no_second c d) = absurd (no_code p d b)
-said_once f m g p v w x y (first_refused cause a b h) (first_refused other c d l) = ap (λ r. verdict.Refused side.First r) (cause_once f m cause other x h l)
-said_once f m g p v w x y (first_refused cause a b h) (second_refused other c d l o) = absurd (not_refused f m cause x h l)
-said_once f m g p v w x y (first_refused cause a b h) (equivalent c d q l) = absurd (not_refused f m cause x h q.one.form)
-said_once f m g p v w x y (first_refused cause a b h) (apart c d q o) = absurd (not_refused f m cause x h q.one.form)
-said_once f m g p v w x y (second_refused cause a b h k) (no_first d) = absurd (no_code m d a)
-said_once f m g p v w x y (second_refused cause a b h k) (no_second c d) = absurd (no_code p d b)
-said_once f m g p v w x y (second_refused cause a b h k) (first_refused other c d l) = absurd (not_refused f m other x l h)
-said_once f m g p v w x y (second_refused cause a b h k) (second_refused other c d l o) = ap (λ r. verdict.Refused side.Second r) (cause_once g p cause other y k o)
-said_once f m g p v w x y (second_refused cause a b h k) (equivalent c d q l) = absurd (not_refused g p cause y k q.two.form)
-said_once f m g p v w x y (second_refused cause a b h k) (apart c d q o) = absurd (not_refused g p cause y k q.two.form)
-said_once f m g p v w x y (equivalent a b r h) (no_first d) = absurd (no_code m d a)
-said_once f m g p v w x y (equivalent a b r h) (no_second c d) = absurd (no_code p d b)
-said_once f m g p v w x y (equivalent a b r h) (first_refused other c d l) = absurd (not_refused f m other x l r.one.form)
-said_once f m g p v w x y (equivalent a b r h) (second_refused other c d l o) = absurd (not_refused g p other y o r.two.form)
-said_once f m g p v w x y (equivalent a b r h) (equivalent c d q l) = refl
-said_once f m g p v w x y (equivalent a b r h) (apart c d q o) = absurd (o (alike_once f m g p x y r q h))
-said_once f m g p v w x y (apart a b r n) (no_first d) = absurd (no_code m d a)
-said_once f m g p v w x y (apart a b r n) (no_second c d) = absurd (no_code p d b)
-said_once f m g p v w x y (apart a b r n) (first_refused other c d l) = absurd (not_refused f m other x l r.one.form)
-said_once f m g p v w x y (apart a b r n) (second_refused other c d l o) = absurd (not_refused g p other y o r.two.form)
-said_once f m g p v w x y (apart a b r n) (equivalent c d q l) = absurd (n (alike_once f m g p x y q r l))
-said_once f m g p v w x y (apart a b r n) (apart c d q o) = refl
+said_once : (limits : Limits) (f : ClassFile) (m : Method) (g : ClassFile) (p : Method) (v w : Verdict) → HasBytes m → HasBytes p → Said limits f m g p v → Said limits f m g p w → v ≡ w
+said_once limits f m g p v w x y (no_first e) (no_first d) = refl
+said_once limits f m g p v w x y (no_first e) (no_second c d) = absurd (no_code m e c)
+said_once limits f m g p v w x y (no_first e) (first_refused other c d l) = absurd (no_code m e c)
+said_once limits f m g p v w x y (no_first e) (second_refused other c d l o) = absurd (no_code m e c)
+said_once limits f m g p v w x y (no_first e) (searched _ two q l o d) = absurd (no_code m e (form_code f m l.roots.one.form))
+said_once limits f m g p v w x y (no_second a e) (no_first d) = absurd (no_code m d a)
+said_once limits f m g p v w x y (no_second a e) (no_second c d) = refl
+said_once limits f m g p v w x y (no_second a e) (first_refused other c d l) = absurd (no_code p e d)
+said_once limits f m g p v w x y (no_second a e) (second_refused other c d l o) = absurd (no_code p e d)
+said_once limits f m g p v w x y (no_second a e) (searched _ two q l o d) = absurd (no_code p e (form_code g p l.roots.two.form))
+said_once limits f m g p v w x y (first_refused cause a b h) (no_first d) = absurd (no_code m d a)
+said_once limits f m g p v w x y (first_refused cause a b h) (no_second c d) = absurd (no_code p d b)
+said_once limits f m g p v w x y (first_refused cause a b h) (first_refused other c d l) = ap (λ r. verdict.Refused side.First r) (cause_once f m cause other x h l)
+said_once limits f m g p v w x y (first_refused cause a b h) (second_refused other c d l o) = absurd (not_refused f m cause x h l)
+said_once limits f m g p v w x y (first_refused cause a b h) (searched _ two q l o d) = absurd (not_refused f m cause x h l.roots.one.form)
+said_once limits f m g p v w x y (second_refused cause a b h k) (no_first d) = absurd (no_code m d a)
+said_once limits f m g p v w x y (second_refused cause a b h k) (no_second c d) = absurd (no_code p d b)
+said_once limits f m g p v w x y (second_refused cause a b h k) (first_refused other c d l) = absurd (not_refused f m other x l h)
+said_once limits f m g p v w x y (second_refused cause a b h k) (second_refused other c d l o) = ap (λ r. verdict.Refused side.Second r) (cause_once g p cause other y k o)
+said_once limits f m g p v w x y (second_refused cause a b h k) (searched _ two q l o d) = absurd (not_refused g p cause y k l.roots.two.form)
+said_once limits f m g p v w x y (searched _ one r h is e) (no_first d) = absurd (no_code m d (form_code f m h.roots.one.form))
+said_once limits f m g p v w x y (searched _ one r h is e) (no_second c d) = absurd (no_code p d (form_code g p h.roots.two.form))
+said_once limits f m g p v w x y (searched _ one r h is e) (first_refused other c d l) = absurd (not_refused f m other x l h.roots.one.form)
+said_once limits f m g p v w x y (searched _ one r h is e) (second_refused other c d l o) = absurd (not_refused g p other y o h.roots.two.form)
+said_once limits f m g p v w x y (searched _ one r h is e) (searched _ two q l o d) = e ∙ ap said_of (found_once limits f m g p r q one two x y h l is o) ∙ sym d
 
-verdict_once : (f : ClassFile) (m : Method) (g : ClassFile) (p : Method) (v w : Verdict) → HasBytes m → HasBytes p → IsVerdictOn f m g p v → IsVerdictOn f m g p w → v ≡ w
-verdict_once f m g p v w x y h k = said_once f m g p v w x y (said_by f m g p v h) (said_by f m g p w k)
+verdict_once : (limits : Limits) (f : ClassFile) (m : Method) (g : ClassFile) (p : Method) (v w : Verdict) → HasBytes m → HasBytes p → IsVerdictOn limits f m g p v → IsVerdictOn limits f m g p w → v ≡ w
+verdict_once limits f m g p v w x y h k = said_once limits f m g p v w x y (said_by limits f m g p v h) (said_by limits f m g p w k)
 
 -- ---- one verdict on a method
 
@@ -138,21 +139,21 @@ partner_once m others p q distinct a b =
     same_some p q (sym first ∙ ap (slice_get others) one ∙ second)
 
 -- what a verdict says, by whether there is a partner
-with_partner : (f g : ClassFile) (m : Method) (v : Verdict) → IsVerdict f g m v → ((v ≡ verdict.Missing) × ((p : Method) → IsPartner m g.methods p → ⊥)) ⊎ ((p : Method) × IsPartner m g.methods p × IsVerdictOn f m g p v)
-with_partner f g m verdict.Missing h = inl (refl, h)
-with_partner f g m _ h = inr h
+with_partner : (limits : Limits) (f g : ClassFile) (m : Method) (v : Verdict) → IsVerdict limits f g m v → ((v ≡ verdict.Missing) × ((p : Method) → IsPartner m g.methods p → ⊥)) ⊎ ((p : Method) × IsPartner m g.methods p × IsVerdictOn limits f m g p v)
+with_partner limits f g m verdict.Missing h = inl (refl, h)
+with_partner limits f g m _ h = inr h
 
-pub line_once : (f g : ClassFile) (m : Method) (v w : Verdict) → AreDistinct g.methods → HasBytes m → AllByRecursion HasBytes g.methods → IsVerdict f g m v → IsVerdict f g m w → v ≡ w
-line_once f g m v w distinct x all h k =
-    elim (with_partner f g m v h) [
+pub line_once : (limits : Limits) (f g : ClassFile) (m : Method) (v w : Verdict) → AreDistinct g.methods → HasBytes m → AllByRecursion HasBytes g.methods → IsVerdict limits f g m v → IsVerdict limits f g m w → v ≡ w
+line_once limits f g m v w distinct x all h k =
+    elim (with_partner limits f g m v h) [
       | inl a ↦
-          elim (with_partner f g m w k) [
+          elim (with_partner limits f g m w k) [
             | inl b ↦ a.0 ∙ sym b.0
             | inr b ↦ absurd (a.1 b.0 b.1)
           ]
       | inr a ↦
-          elim (with_partner f g m w k) [
+          elim (with_partner limits f g m w k) [
             | inl b ↦ absurd (b.1 a.0 a.1)
-            | inr b ↦ verdict_once f m g a.0 v w x (all_at HasBytes g.methods a.0 all a.1.among) a.2 (subst (λ (p : Method). IsVerdictOn f m g p w) (partner_once m g.methods b.0 a.0 distinct b.1 a.1) b.2)
+            | inr b ↦ verdict_once limits f m g a.0 v w x (all_at HasBytes g.methods a.0 all a.1.among) a.2 (subst (λ (p : Method). IsVerdictOn limits f m g p w) (partner_once m g.methods b.0 a.0 distinct b.1 a.1) b.2)
           ]
     ]

@@ -47,6 +47,8 @@ verdict_words (verdict.NoCode s) = codes "nocode" ∷ side_word s ∷ []
 verdict_words (verdict.Refused s cause) = codes "refused" ∷ side_word s ∷ word_at (kind_word cause.kind) cause.at
 verdict_words verdict.Equivalent = codes "equivalent" ∷ []
 verdict_words verdict.Apart = codes "unknown" ∷ codes "apart" ∷ []
+verdict_words (verdict.Rounds n) = codes "unknown" ∷ codes "rounds" ∷ decimal n ∷ []
+verdict_words (verdict.Budget k) = codes "unknown" ∷ codes "budget" ∷ decimal k ∷ []
 
 abbrev pub pool_word : PoolWord → List ℕ
 pool_word pool.Tag = codes "pool-tag"

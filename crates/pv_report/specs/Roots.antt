@@ -2,8 +2,7 @@
 use Rattle.std.specs.Prelude.{ℕ}
 use Rattle.pv_class.specs.declared.file.ClassFile.{ClassFile}
 use Rattle.pv_class.specs.declared.file.Method.{Method}
-use Rattle.pv_graph.specs.Unfold.{UnfoldEqually}
-use Rattle.pv_graph.specs.Graphs.{Graph, IsWellMade, form_at}
+use Rattle.pv_graph.specs.Graphs.{Graph, IsWellMade}
 use Rattle.pv_graph.specs.Calls.{IsFinished}
 use Rattle.pv_build.specs.Conversion.{IsRootOf}
 use Rattle.pv_alike.specs.Least.{Rooted, IsLeastOf}
@@ -15,10 +14,6 @@ pub record HaveRoots (first : ClassFile) (m : Method) (second : ClassFile) (p : 
   pub other : ℕ
   pub one : IsRootOf graph root first m
   pub two : IsRootOf graph other second p
-
--- .. which unfold equally there
-abbrev pub Alike : {first second : ClassFile} {m p : Method} → HaveRoots first m second p → Type 0
-Alike r = UnfoldEqually (form_at r.graph.nodes) r.root r.other
 
 -- a well-made graph in which no theta is left without kids
 pub record IsWhole (g : Graph) : Type 0 where

@@ -1,18 +1,18 @@
 //! The report on two class files.
 //!
-//! This layer stands on `pv_build`, which converts two methods into one graph, on `pv_alike`, in which their roots
-//! are compared, and on those below them; that a root has the outcomes of its method is a law of `pv_runs`. `pv_token`
-//! shows names and writes numbers.
+//! This layer stands on `pv_build`, which converts two methods into one graph, on `pv_alike`, which makes the least graph of their
+//! roots, on `pv_prove`, which searches there for a proof that the roots are equal, and on those below them; that a root has the outcomes
+//! of its method is a law of `pv_runs`. `pv_token` shows names and writes numbers.
 //! `specs/` says which method is the partner of another (`Partners`), what the least graph of two methods' roots is
-//! (`Roots`), what is said of a method (`Verdicts`), what the lines are (`Lines`), what a report is (`Report`), and which
-//! numbers the statuses have (`Statuses`). The two files are read into a pair; then all verdicts are made, by the least
-//! graphs; and then the lines.
+//! (`Roots`), what is said of a method, within limits on the search (`Verdicts`), what the lines are (`Lines`), what a report is
+//! (`Report`), and which numbers the statuses have (`Statuses`). The two files are read into a pair; then all verdicts are made, by the
+//! least graphs and one table of axioms; and then the lines.
 //!
-//! The layer above uses the clause of `judge`: the text and the status are those of the bytes that were fetched
-//! (`Judging`), and there is one of each (`judged_once` of `proofs/ReportOnce`). It uses that a method and its partner
-//! have the same meaning where the verdict is `Equivalent` (`one_meaning` of `proofs/SameRoots`), and that a line
-//! determines its method (`law_lines`). The report on a certificate uses the parts too: the pair (`read_pair`), partners
-//! (`partner_of`), the least graph of two methods' roots (`least_roots`), and what lines are made of.
+//! The layer above uses the clause of `judge`: the text and the status are those of the bytes that were fetched, within these limits
+//! (`Judging`), and there is one of each (`law_judged`). It uses that two methods have the same meaning
+//! where the roots of their least graph have the same values, as they do where the verdict is `Equivalent` (`least_meaning` of
+//! `proofs/SameMeanings`), and that a line determines its method (`law_lines`). The report on a certificate uses the parts too: the
+//! pair (`read_pair`), partners (`partner_of`), the least graph of two methods' roots (`least_roots`), and what lines are made of.
 #![tactic(auto)]
 
 mod laws;
@@ -23,7 +23,7 @@ mod report;
 mod status;
 mod verdict;
 
-pub use laws::law_lines;
+pub use laws::{law_judged, law_lines};
 pub use line::{push_method, push_verdict, side_word};
 pub use pair::{BadClass, Fetched, Pair, read_pair};
 pub use partners::partner_of;

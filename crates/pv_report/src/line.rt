@@ -1,6 +1,6 @@
 //! The lines of a report.
 
-ghost use Rattle.std.specs.Prelude.{◌≡◌, ◌++◌, [], OnOk};
+ghost use Rattle.std.specs.Prelude.{◌≡◌, ◌++◌, ◌∷◌, [], OnOk, codes, decimal};
 ghost use Rattle.pv_token.specs.Words.{spaced};
 ghost use Rattle.pv_report.specs.Lines.{side_word, kind_word, verdict_words, method_line, line_of, line_text, pool_word, word_at, fault_words, bad_class};
 
@@ -104,7 +104,19 @@ pub fn push_verdict(out: &mut Vec<u8>, verdict: Verdict) -> Result<(), AllocErro
         }
         Verdict::Equivalent => out.extend_from_slice(b" equivalent"),
         Verdict::Apart => out.extend_from_slice(b" unknown apart"),
+        Verdict::Rounds(rounds) => push_unknown(out, b"rounds", rounds),
+        Verdict::Budget(rounds) => push_unknown(out, b"budget", rounds),
     }
+}
+
+// That nothing is known, with the limit that was reached and the number of rounds, each word after a blank.
+fn push_unknown(out: &mut Vec<u8>, limit: &[u8], rounds: u32) -> Result<(), AllocError>
+    ensures { OnOk result (out.new.items ≡ out.old.items ++ spaced (codes "unknown" ∷ limit.now ∷ decimal rounds ∷ [])) }
+{
+    out.extend_from_slice(b" unknown ")?;
+    out.extend_from_slice(limit)?;
+    out.extend_from_slice(b" ")?;
+    push_decimal(out, rounds as usize)
 }
 
 fn kind_word(kind: CauseKind) -> &'static [u8]

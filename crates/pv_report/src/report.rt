@@ -1,7 +1,9 @@
 //! What is said of two files.
 
-ghost use Rattle.std.specs.Prelude.{◌≡◌, ◌↔◌, length, IfOk, IsTrue};
+ghost use Rattle.std.specs.Prelude.{◌≡◌, ◌↔◌, length, map, IfOk, IsTrue};
 ghost use Rattle.std.specs.List.{AllZip, flat_map};
+ghost use Rattle.pv_axioms.specs.Entries.{axioms};
+ghost use Rattle.pv_pattern.specs.Seen.{axiom_seen};
 ghost use Rattle.pv_report.specs.Lines.{bad_class, line_text};
 ghost use Rattle.pv_report.specs.Report.{IsStatusOf, lines_of};
 ghost use Rattle.pv_report.specs.Verdicts.{IsVerdict};
@@ -11,7 +13,10 @@ use crate::line::{push_bad_class, push_line};
 use crate::pair::{BadClass, Fetched, Pair, read_pair};
 use crate::status::Status;
 use crate::verdict::{Verdict, verdict_on};
+use pv_base::Gate;
 use pv_class::Method;
+use pv_pattern::Axiom;
+use pv_prove::{Limits, all_axioms};
 use pv_value::Memory;
 use std::alloc::{AllocError, Global};
 
@@ -23,15 +28,23 @@ pub struct Answer {
 }
 
 /// What is said of two files: a line for each method of the first, in its order, or one line on the first of the two that
-/// is no class file. The limit of the fetches is `LONGEST_FILE`. Out of memory is the one error.
-pub fn judge(alloc: Global, first: &Fetched, second: &Fetched) -> Result<Answer, Memory>
-    ensures { IfOk result (λ answer. JudgesFetched first.now second.now answer.text.items answer.status) }
+/// is no class file. The limit of the fetches is `LONGEST_FILE`. The gate is passed as `find` does, and changes no answer. Out of
+/// memory is the one error.
+pub fn judge<G: Gate>(
+    alloc: Global,
+    gate: &G,
+    limits: Limits,
+    first: &Fetched,
+    second: &Fetched,
+) -> Result<Answer, Memory>
+    ensures { IfOk result (λ answer. JudgesFetched limits first.now second.now answer.text.items answer.status) }
 {
     let pair = match read_pair(alloc, first, second)? {
         Ok(pair) => pair,
         Err(bad) => return Ok(bad_class(alloc, bad)?),
     };
-    let verdicts = verdicts(alloc, &pair)?;
+    let table = all_axioms(alloc)?;
+    let verdicts = verdicts(alloc, gate, &table, limits, &pair)?;
     let text = lines(alloc, pair.first.methods.as_slice(), &verdicts)?;
     let status = status_of(&verdicts);
     Ok(Answer { text, status })
@@ -51,13 +64,20 @@ pub fn bad_class(alloc: Global, bad: BadClass) -> Result<Answer, AllocError>
 }
 
 // The verdicts on the methods of the first class, in their order.
-fn verdicts(alloc: Global, pair: &Pair) -> Result<Vec<Verdict>, Memory>
-    requires { IsReadPair pair.now }
-    ensures { IfOk result (λ verdicts. AllZip (IsVerdict pair.now.first pair.now.second) pair.now.first.methods verdicts.items) }
+fn verdicts<G: Gate>(
+    alloc: Global,
+    gate: &G,
+    table: &[Axiom],
+    limits: Limits,
+    pair: &Pair,
+) -> Result<Vec<Verdict>, Memory>
+    requires table { map axiom_seen table.now ≡ axioms }
+    requires read { IsReadPair pair.now }
+    ensures { IfOk result (λ verdicts. AllZip (IsVerdict limits pair.now.first pair.now.second) pair.now.first.methods verdicts.items) }
 {
     let mut verdicts = Vec::new(alloc);
     for place in 0..pair.first.methods.as_slice().len() {
-        let verdict = verdict_on(alloc, pair, place)?;
+        let verdict = verdict_on(alloc, gate, table, limits, pair, place)?;
         verdicts.push(verdict)?;
     }
     Ok(verdicts)

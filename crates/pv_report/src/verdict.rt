@@ -1,19 +1,27 @@
 //! What is said of a method.
 
-ghost use Rattle.std.specs.Prelude.{◌≡◌, ◌↔◌, ◌<◌, length, slice_get, true, Some, IfOk, IsTrue};
+ghost use Rattle.std.specs.Prelude.{◌≡◌, ◌↔◌, ◌<◌, length, map, slice_get, true, Some, IfOk, IsTrue};
 ghost use Rattle.pv_class.specs.declared.file.Method.{Method};
 ghost use Rattle.pv_alike.specs.Least.{IsLeastOf};
+ghost use Rattle.pv_axioms.specs.Entries.{axioms};
+ghost use Rattle.pv_pattern.specs.Seen.{axiom_seen};
+ghost use Rattle.pv_prove.specs.Finding.{verdict_of};
 ghost use Rattle.pv_report.specs.Roots.{IsWhole};
 ghost use Rattle.pv_report.specs.Verdicts.{HasCode};
-ghost use Rattle.pv_report.specs.Judging.{IsRead, IsReadPair, IsLeastOnPlaces, IsVerdictAt, IsVerdictOnPlaces};
+ghost use Rattle.pv_report.specs.Judging.{IsRead, IsReadPair, IsLeastOfSome, IsLeastOnPlaces, IsVerdictAt, IsVerdictBy, IsVerdictOnPlaces, said_of};
 
 use crate::pair::Pair;
 use crate::partners::partner_of;
 use pv_alike::{Least, least};
+use pv_base::Gate;
 use pv_build::convert;
 use pv_class::ClassFile;
+use pv_endings::endings;
 use pv_frame::{Cause, Refused};
 use pv_graph::{Graph, NodeId};
+use pv_heights::laws::law_verdict;
+use pv_pattern::Axiom;
+use pv_prove::{Limits, Outcome, find};
 use pv_value::Memory;
 use std::alloc::Global;
 
@@ -37,18 +45,30 @@ pub enum Verdict {
     Equivalent,
     /// Nothing joins the two.
     Apart,
+    /// After this many rounds of the search nothing was decided.
+    Rounds(u32),
+    /// After this many rounds of the search there were more matches than the budget.
+    Budget(u32),
 }
 
 /// The verdict on the method at a place of the first class.
-pub(crate) fn verdict_on(alloc: Global, pair: &Pair, method: usize) -> Result<Verdict, Memory>
+pub(crate) fn verdict_on<G: Gate>(
+    alloc: Global,
+    gate: &G,
+    table: &[Axiom],
+    limits: Limits,
+    pair: &Pair,
+    method: usize,
+) -> Result<Verdict, Memory>
+    requires table { map axiom_seen table.now ≡ axioms }
     requires read { IsReadPair pair.now }
     requires there { method < length pair.now.first.methods }
-    ensures { IfOk result (λ verdict. IsVerdictAt pair.now.first method pair.now.second verdict) }
+    ensures { IfOk result (λ verdict. IsVerdictAt limits pair.now.first method pair.now.second verdict) }
 {
     let one = &pair.first.methods.as_slice()[method];
     match partner_of(one, &pair.second.methods)? {
         None => Ok(Verdict::Missing),
-        Some(partner) => verdict_with(alloc, &pair.first, method, &pair.second, partner),
+        Some(partner) => verdict_with(alloc, gate, table, limits, pair, method, partner),
     }
 }
 
@@ -61,27 +81,58 @@ fn has_code(class: &ClassFile, method: usize) -> bool
 }
 
 // The verdict on a method and its partner, each at its place in its class.
-fn verdict_with(
+fn verdict_with<G: Gate>(
     alloc: Global,
-    first: &ClassFile,
+    gate: &G,
+    table: &[Axiom],
+    limits: Limits,
+    pair: &Pair,
     method: usize,
-    second: &ClassFile,
     partner: usize,
 ) -> Result<Verdict, Memory>
-    requires first { IsRead first.now }
-    requires second { IsRead second.now }
-    requires there { method < length first.now.methods }
-    requires partner { partner < length second.now.methods }
-    ensures { IfOk result (λ verdict. IsVerdictOnPlaces first.now method second.now partner verdict) }
+    requires table { map axiom_seen table.now ≡ axioms }
+    requires read { IsReadPair pair.now }
+    requires there { method < length pair.now.first.methods }
+    requires partner { partner < length pair.now.second.methods }
+    ensures { IfOk result (λ verdict. IsVerdictOnPlaces limits pair.now.first method pair.now.second partner verdict) }
 {
-    let roots = match least_roots(alloc, first, method, second, partner)? {
-        Ok(roots) => roots,
-        Err(verdict) => return Ok(verdict),
-    };
+    match least_roots(alloc, &pair.first, method, &pair.second, partner)? {
+        Ok(roots) => verdict_by(alloc, gate, table, limits, &roots),
+        Err(verdict) => Ok(verdict),
+    }
+}
+
+// The verdict on two methods, by the least graph of their roots. Where the roots are one node it is the same under all limits,
+// and takes no search: for the law that says so their endings are listed, in linear time.
+fn verdict_by<G: Gate>(
+    alloc: Global,
+    gate: &G,
+    table: &[Axiom],
+    limits: Limits,
+    roots: &Least,
+) -> Result<Verdict, Memory>
+    requires table { map axiom_seen table.now ≡ axioms }
+    requires least { IsLeastOfSome roots.now }
+    ensures { IfOk result (λ verdict. IsVerdictBy limits roots.now verdict) }
+{
     if roots.first() == roots.second() {
-        Ok(Verdict::Equivalent)
-    } else {
-        Ok(Verdict::Apart)
+        law_verdict();
+        let _endings = endings(alloc, roots.graph(), roots.first())?;
+        return Ok(Verdict::Equivalent);
+    }
+    let found = find(alloc, gate, roots, table, limits)?;
+    Ok(said_of(found.outcome))
+}
+
+// What is said of what a search found.
+fn said_of(outcome: Outcome) -> Verdict
+    ensures { result ≡ said_of (verdict_of outcome) }
+{
+    match outcome {
+        Outcome::Met(_) => Verdict::Equivalent,
+        Outcome::Budget(rounds) => Verdict::Budget(rounds),
+        Outcome::Apart => Verdict::Apart,
+        Outcome::Rounds(rounds) => Verdict::Rounds(rounds),
     }
 }
 

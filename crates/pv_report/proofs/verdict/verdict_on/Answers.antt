@@ -4,9 +4,9 @@ use Rattle.pv_report.proofs.Partnering.{verdict_at}
 use Rattle.pv_report.proofs.verdict.verdict_on.Goals as goal
 
 pub returns-in-Some : goal.returns-in-Some
-returns-in-Some c =
+returns-in-Some g c =
     let pair = c.args.pair.now in
     let one = c.index-as_slice-method.result in
     let here = here_again pair.first.methods c.args.method one c.requires.there (rw (← c.as_slice.ensures) c.index-as_slice-method.is) in
     let like : IsLikeAt one pair.second.methods c.in-Some.partner = rw c.in-Some.is at c.in_ok-partner_of.ensures in
-    verdict_at pair.first pair.second c.args.method c.in-Some.partner one c.verdict_with.result here like c.verdict_with.ensures
+    verdict_at c.args.limits pair.first pair.second c.args.method c.in-Some.partner one c.verdict_with.result here like c.verdict_with.ensures

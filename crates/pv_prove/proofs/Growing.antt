@@ -1,4 +1,4 @@
--- A search, seen from the least graph, and one that is saturated.
+-- A search, seen from the least graph; one that is saturated; and the grounds of joins in a round.
 use Rattle.std.proofs.Common.{◌≡◌, ℕ, suc, List, Vec, Global, refl, sym, ◌∙◌, subst}
 use Rattle.pv_graph.specs.Graphs.{Graph, form_at}
 use Rattle.pv_steps.specs.Facts.{View}
@@ -9,7 +9,10 @@ use Rattle.pv_match.specs.declared.found.Match.{Match}
 use Rattle.pv_rounds.specs.declared.search.Search.{Search}
 use Rattle.pv_rounds.specs.declared.search.Looked.{Looked}
 use Rattle.pv_rounds.specs.declared.search.Looked.TheVariants.{Over, Saturated, Open}
-use Rattle.pv_rounds.specs.Searching.{IsSearch, IsOver, IsSaturatedNow, Looks, GoesOn}
+use Rattle.pv_rounds.specs.Searching.{IsSearch, IsBegun, IsOver, IsSaturatedNow, Looks, MakesRound, GoesOn}
+use Rattle.pv_grounds.specs.Rounds.{AreGrounded}
+use Rattle.pv_grounds.proofs.Cited.{round_grounded}
+use Rattle.pv_prove.specs.Looking.{KeepsGrounds}
 
 module _ (g : Graph) (k : ℕ) (s : Search) (is : IsSearch g k s) where
   view_is : base_view s.graph ≡ form_at g.nodes
@@ -60,3 +63,8 @@ pub still : (s : Search) (x : Looked) → Looks s x → (IsOver s → ⊥) → (
 still s (Over n) looks few none = absurd (few looks.1)
 still s Saturated looks few none = stays s looks.1
 still s (Open list) looks few none = absurd (none list refl)
+
+-- a round keeps the grounds of joins
+pub round_keeps : (old new : Search) → IsBegun old → GoesOn old new → MakesRound old.graph new.graph old.endings.items old.classes new.classes → KeepsGrounds old new
+round_keeps old new begun on made before =
+    subst (λ (es : List ℕ). AreGrounded new.graph es new.classes) (sym on.endings_) (round_grounded old.graph new.graph old.endings.items old.classes new.classes begun.2.graph_ made before)

@@ -1,12 +1,11 @@
 -- The verdict looks at nodes and roots alone.
-use Rattle.std.specs.Prelude.{ℕ, ◌<◌, false, List, [], ◌∷◌, Some, slice_get}
-use Rattle.std.proofs.Common.{◌≡◌, ◌⊎◌, inl, inr, sym, subst}
+use Rattle.std.specs.Prelude.{ℕ, false, List, [], ◌∷◌, Some, slice_get}
+use Rattle.std.proofs.Common.{◌≡◌, inl, inr, sym, subst}
 use Rattle.pv_graph.specs.declared.node.Node.{Node}
 use Rattle.pv_graph.specs.declared.node.Op.TheVariants as op
 use Rattle.pv_graph.specs.Nodes.{node_of}
 use Rattle.pv_graph.specs.Graphs.{Graph, form_at}
 use Rattle.pv_graph.specs.Walks.{IsClosed, Spine}
-use Rattle.pv_alike.specs.Least.{Rooted}
 use Rattle.pv_steps.specs.Right.{RootKids, MayBeAssumed}
 use Rattle.pv_heights.specs.Terms.{base}
 use Rattle.pv_heights.specs.Verdicts.{Question, AreEndings, plain, ending, IsOverBudget, KidsMeet, Meets, AreSaturated, Decides, DecidesFirst, Verdict, equivalent, apart, rounds, budget, IsVerdictWith, IsVerdict}

@@ -1,7 +1,7 @@
 -- Roots that met have the same values.
 use Rattle.std.specs.Prelude.{ℕ, ◌<◌, List, [], ◌∷◌, length, Some}
 use Rattle.std.specs.List.{AllZip}
-use Rattle.std.proofs.Common.{◌≡◌, inl, inr, refl, sym, ap, ◌∙◌, subst}
+use Rattle.std.proofs.Common.{◌≡◌, inl, inr, refl, sym, ◌∙◌, subst}
 use Rattle.pv_value.specs.declared.world.World.{World}
 use Rattle.pv_value.specs.declared.outcome.Input.{Input}
 use Rattle.pv_value.specs.declared.outcome.Val.{Val}
@@ -12,14 +12,13 @@ use Rattle.pv_graph.specs.declared.node.Op.TheVariants as op
 use Rattle.pv_graph.specs.Forms.{form}
 use Rattle.pv_graph.specs.Ops.{root}
 use Rattle.pv_graph.specs.Walks.{In, Spine}
-use Rattle.pv_graph.specs.Graphs.{Graph, form_of, form_at}
-use Rattle.pv_graph.specs.Nodes.{node_of}
+use Rattle.pv_graph.specs.Graphs.{Graph, form_at}
 use Rattle.pv_denote.specs.Denote.{Index, Value, SameAt}
 use Rattle.pv_denote.specs.Meaning.{Same}
 use Rattle.pv_denote.proofs.Cited.{den_makes, means_map, value_says, closed_value, spine_has}
 use Rattle.pv_alike.specs.Least.{Rooted}
 use Rattle.pv_steps.specs.Facts.{View, HaveValues}
-use Rattle.pv_steps.specs.Right.{Is, RootKids, MayBeAssumed}
+use Rattle.pv_steps.specs.Right.{RootKids}
 use Rattle.pv_endings.specs.declared.root.RootParts.{RootParts}
 use Rattle.pv_endings.specs.Endings.{IsRootOver}
 use Rattle.pv_heights.specs.Searches.{OneClass}

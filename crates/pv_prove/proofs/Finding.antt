@@ -1,16 +1,24 @@
 -- What two searches end with is the verdict.
 use Rattle.std.proofs.Common.{◌≡◌, ℕ, zero, ◌<◌, List, [], length, sym, ◌∙◌, subst}
+use Rattle.pv_graph.specs.Graphs.{Graph}
 use Rattle.pv_alike.specs.Least.{Rooted}
 use Rattle.pv_endings.specs.Endings.{AreEndingsOf}
 use Rattle.pv_heights.specs.Verdicts.{Verdict, IsVerdict}
 use Rattle.pv_heights.proofs.Verdicts.{answers_are_verdicts}
 use Rattle.pv_heights.proofs.Once.{verdict_once}
+use Rattle.pv_rounds.specs.declared.search.Search.{Search}
 use Rattle.pv_rounds.specs.Searching.{Begins, IsLeastGraph}
+use Rattle.pv_grounds.specs.Same.{IsGroundedSearch}
+use Rattle.pv_grounds.proofs.Cited.{new_grounded, induct_grounded}
 use Rattle.pv_prove.specs.declared.outcome.Limits.{Limits}
 use Rattle.pv_prove.specs.declared.outcome.Outcome.{Outcome}
 use Rattle.pv_prove.specs.declared.searches.Searches.{Searches}
 use Rattle.pv_prove.specs.Finding.{question, verdict_of, HaveMade}
 use Rattle.pv_prove.specs.Looking.{Ends}
+
+-- all joins of a search that begins have their grounds
+begun_grounds : (g : Graph) (ends : List ℕ) (most : ℕ) (s : Search) → Begins g ends most s → IsGroundedSearch s
+begun_grounds g ends most s b = induct_grounded s.graph s.endings.items b.first s.classes b.found b.inducts (new_grounded s.graph s.endings.items b.first b.fresh)
 
 -- two searches that begin
 pub begun : (l : Rooted) (most : ℕ) (none ends : List ℕ) (s : Searches) → none ≡ [] → AreEndingsOf l.graph l.first ends → Begins l.graph none most s.plain → Begins l.graph ends most s.ending → HaveMade l most zero s
@@ -21,6 +29,8 @@ begun l most none ends s e are p q = record {
   ends = subst (AreEndingsOf l.graph l.first) (sym q.endings_) are;
   plain_budget = p.budget_;
   ending_budget = q.budget_;
+  plain_grounds = begun_grounds l.graph none most s.plain p;
+  ending_grounds = begun_grounds l.graph ends most s.ending q;
 }
 
 module _ (l : Rooted) (limits : Limits) (s : Searches) (outcome : Outcome) (least : IsLeastGraph l.graph) (low : l.first < length l.graph.nodes) (low_ : l.second < length l.graph.nodes) (d : Ends l limits s outcome) where

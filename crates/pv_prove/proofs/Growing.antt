@@ -1,5 +1,5 @@
--- A search, seen from the least graph, and one that is saturated.
-use Rattle.std.proofs.Common.{◌≡◌, ℕ, suc, List, Vec, Global, refl, sym, ◌∙◌, subst}
+-- A search, seen from the least graph; one that is saturated; and the grounds of joins in a round.
+use Rattle.std.proofs.Common.{◌≡◌, ℕ, suc, List, Vec, Global, Result, Ok, Err, OnOk, refl, sym, ◌∙◌, subst}
 use Rattle.pv_graph.specs.Graphs.{Graph, form_at}
 use Rattle.pv_steps.specs.Facts.{View}
 use Rattle.pv_axioms.specs.Entries.{axioms}
@@ -9,7 +9,11 @@ use Rattle.pv_match.specs.declared.found.Match.{Match}
 use Rattle.pv_rounds.specs.declared.search.Search.{Search}
 use Rattle.pv_rounds.specs.declared.search.Looked.{Looked}
 use Rattle.pv_rounds.specs.declared.search.Looked.TheVariants.{Over, Saturated, Open}
-use Rattle.pv_rounds.specs.Searching.{IsSearch, IsOver, IsSaturatedNow, Looks, GoesOn}
+use Rattle.pv_rounds.specs.Searching.{IsSearch, IsBegun, IsOver, IsSaturatedNow, Looks, MakesRound, GoesOn}
+use Rattle.pv_grounds.specs.Rounds.{AreGrounded}
+use Rattle.pv_grounds.proofs.Cited.{round_grounded}
+use Rattle.pv_prove.specs.declared.searches.Searches.{Searches}
+use Rattle.pv_prove.specs.Looking.{KeepsGrounds, GoOn}
 
 module _ (g : Graph) (k : ℕ) (s : Search) (is : IsSearch g k s) where
   view_is : base_view s.graph ≡ form_at g.nodes
@@ -60,3 +64,18 @@ pub still : (s : Search) (x : Looked) → Looks s x → (IsOver s → ⊥) → (
 still s (Over n) looks few none = absurd (few looks.1)
 still s Saturated looks few none = stays s looks.1
 still s (Open list) looks few none = absurd (none list refl)
+
+-- a round keeps the grounds of joins
+round_keeps : (old new : Search) → IsBegun old → GoesOn old new → MakesRound old.graph new.graph old.endings.items old.classes new.classes → KeepsGrounds old new
+round_keeps old new begun on made before =
+    subst (λ (es : List ℕ). AreGrounded new.graph es new.classes) (sym on.endings_) (round_grounded old.graph new.graph old.endings.items old.classes new.classes begun.2.graph_ made before)
+
+pub grow_keeps : {E : Type 0} (r : Result (Unit {0}) E) (old new : Search) → IsBegun old → OnOk r (GoesOn old new) → OnOk r (MakesRound old.graph new.graph old.endings.items old.classes new.classes) → OnOk r (KeepsGrounds old new)
+grow_keeps (Ok u) old new begun on made = round_keeps old new begun on made
+grow_keeps (Err e) old new begun on made = tt
+
+-- two searches, of which the plain one has gone on
+pub both_go : {E : Type 0} (r : Result (Unit {0}) E) (old new : Searches) → GoesOn old.plain new.plain → KeepsGrounds old.plain new.plain
+    → OnOk r (GoesOn old.ending new.ending) → OnOk r (KeepsGrounds old.ending new.ending) → OnOk r (GoOn old new)
+both_go (Ok u) old new on keeps goes grounds = record { plain_ = on; ending_ = goes; plain_grounds = keeps; ending_grounds = grounds }
+both_go (Err e) old new on keeps goes grounds = tt

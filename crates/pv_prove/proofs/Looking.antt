@@ -114,6 +114,8 @@ module _ (l : Rooted) (limits : Limits) (k : ℕ) (s : Searches) (at : StandAt l
         ends = subst (AreEndingsOf l.graph l.first) (sym on.ending_.endings_) at.made.ends;
         plain_budget = on.plain_.budget_ ∙ at.made.plain_budget;
         ending_budget = on.ending_.budget_ ∙ at.made.ending_budget;
+        plain_grounds = on.plain_grounds at.made.plain_grounds;
+        ending_grounds = on.ending_grounds at.made.ending_grounds;
       };
       undecided = subst (λ (es : List ℕ). (b : TwoSearches Q es (suc k)) → UndecidedBefore Q es (suc k) b) (sym on.ending_.endings_) (λ b. next k two b (at.undecided two) nothing);
     }

@@ -3,9 +3,11 @@ use Rattle.std.specs.Prelude.{◌≡◌, ◌⊎◌, ℕ, Some, None}
 use Rattle.pv_alike.specs.Least.{Rooted}
 use Rattle.pv_endings.specs.Endings.{AreEndingsOf}
 use Rattle.pv_heights.specs.Searches.{TwoSearches, UndecidedBefore, Answers}
+use Rattle.pv_rounds.specs.declared.search.Search.{Search}
 use Rattle.pv_rounds.specs.declared.search.Looked.{Looked}
 use Rattle.pv_rounds.specs.declared.search.Looked.TheVariants.{Over, Saturated}
 use Rattle.pv_rounds.specs.Searching.{IsBegun, IsOver, IsSaturatedNow, Looks, GoesOn}
+use Rattle.pv_grounds.specs.Same.{IsGroundedSearch}
 use Rattle.pv_prove.specs.declared.outcome.Limits.{Limits}
 use Rattle.pv_prove.specs.declared.outcome.Outcome.{Outcome}
 use Rattle.pv_prove.specs.declared.outcome.Outcome.TheVariants.{Met, Budget, Apart, Rounds}
@@ -53,10 +55,16 @@ abbrev pub Sees : Rooted → ℕ → Searches → Seen → Type 0
 Sees l k s (Decided outcome) = Decide l k s outcome
 Sees l k s (Open plain ending) = AreOpen l s plain ending
 
--- both stand one round further on
+-- where all joins of a search had their grounds, they have them still
+abbrev pub KeepsGrounds : Search → Search → Type 0
+KeepsGrounds old new = IsGroundedSearch old → IsGroundedSearch new
+
+-- both stand one round further on, and their joins keep their grounds
 pub record GoOn (old new : Searches) : Type 0 where
   pub plain_ : GoesOn old.plain new.plain
   pub ending_ : GoesOn old.ending new.ending
+  pub plain_grounds : KeepsGrounds old.plain new.plain
+  pub ending_grounds : KeepsGrounds old.ending new.ending
 
 -- they have made k rounds, and no height before decides
 pub record StandAt (l : Rooted) (limits : Limits) (k : ℕ) (s : Searches) : Type 0 where

@@ -6,7 +6,7 @@ ghost use Rattle.pv_axioms.specs.Entries.{axioms};
 ghost use Rattle.pv_pattern.specs.Seen.{axiom_seen};
 ghost use Rattle.pv_rounds.specs.Searching.{GoesOn, IsBegun, IsLeastGraph, IsOver, Looks};
 ghost use Rattle.pv_prove.specs.Finding.{HaveMade};
-ghost use Rattle.pv_prove.specs.Looking.{AreBegun, AreOpen, GoOn, Sees, seen_of};
+ghost use Rattle.pv_prove.specs.Looking.{AreBegun, AreOpen, GoOn, KeepsGrounds, Sees, seen_of};
 
 use crate::meeting::how_met;
 use crate::outcome::Outcome;
@@ -49,7 +49,8 @@ fn go_on(alloc: Global, search: &mut Search, looked: &Looked) -> Result<(), Memo
     requires begun { IsBegun search.old }
     requires looked { Looks search.old looked.now }
     requires few { IsOver search.old → ⊥ }
-    ensures { OnOk result (GoesOn search.old search.new) }
+    ensures goes { OnOk result (GoesOn search.old search.new) }
+    ensures grounds { OnOk result (KeepsGrounds search.old search.new) }
 {
     match looked {
         Looked::Open(list) => search.grow(alloc, list),

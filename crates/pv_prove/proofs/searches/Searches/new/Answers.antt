@@ -1,4 +1,4 @@
-use Rattle.std.proofs.Common.{ℕ, subst}
+use Rattle.std.proofs.Common.{rules, subst}
 use Rattle.pv_graph.specs.Graphs.{Graph}
 use Rattle.pv_endings.specs.Endings.{AreEndingsOf}
 use Rattle.pv_rounds.specs.Searching.{Begins}
@@ -12,7 +12,7 @@ returns c =
     let none = c.new.result.items in
     let ends = c.in_ok-nodes.nodes.items in
     let s : Searches = record { plain = c.in_ok-plain.plain; ending = c.in_ok-ending.ending } in
-    let are = subst (λ (p : ℕ). AreEndingsOf l.graph p ends) c.first.ensures (subst (λ (g : Graph). AreEndingsOf g c.first.result ends) c.graph.ensures c.in_ok-nodes.ensures) in
+    let are : AreEndingsOf l.graph l.first ends = search rules in
     let plain = subst (λ (g : Graph). Begins g none c.args.budget s.plain) c.graph-2.ensures c.in_ok-plain.ensures in
     let ending = subst (λ (g : Graph). Begins g ends c.args.budget s.ending) c.graph-3.ensures c.in_ok-ending.ensures in
     begun l c.args.budget none ends s c.new.ensures.items are plain ending

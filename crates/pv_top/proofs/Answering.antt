@@ -43,7 +43,7 @@ said_result held c old new rose result s = result_said old new s.text s.meant re
 
 -- each whole line that says `equivalent` is true
 answer_lines : (held : Option Stored) (c : Command (List ℕ)) (contents : List (List ℕ)) (text : List ℕ) (s : Status) → AllZip (λ (f : List ℕ × ℕ) (bytes : List ℕ). Holds held f.0 bytes) (fetches c) contents → AllByRecursion AreBytes contents → IsAnswer c contents text s → IsTrueOf held (first_of c) (second_of c) text
-answer_lines held (Validate a b) (x ∷ y ∷ []) text s h bytes is = judged_line held a b x y text s (record { first_held = h.0; second_held = h.1.0; first_bytes = bytes.0; second_bytes = bytes.1.0 }) is
+answer_lines held (Validate a b rounds budget) (x ∷ y ∷ []) text s h bytes is = judged_line held (record { rounds = rounds; budget = budget }) a b x y text s (record { first_held = h.0; second_held = h.1.0; first_bytes = bytes.0; second_bytes = bytes.1.0 }) is
 answer_lines held (Check a b c) (x ∷ y ∷ z ∷ []) text s h bytes is = ruled_line held a b x y z text s (record { first_held = h.0; second_held = h.1.0; first_bytes = bytes.0; second_bytes = bytes.1.0 }) is
 answer_lines held _ _ text s h bytes is = absurd is
 

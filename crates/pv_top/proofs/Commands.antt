@@ -5,7 +5,7 @@ use Rattle.std.specs.Str.{bytes_eq}
 use Rattle.std.proofs.lemmas.Slice.Eq.{bytes_eq-Decides}
 use Rattle.pv_top.specs.declared.words.Command.{Command}
 use Rattle.pv_top.specs.declared.words.Command.TheVariants.{Validate, Check}
-use Rattle.pv_top.specs.Words.{IsCommand, texts, words_of}
+use Rattle.pv_top.specs.Words.{HasDefaults, IsCommand, texts, words_of}
 
 -- ---- words that were read
 
@@ -23,13 +23,18 @@ called words rest word name are is = are ∙ ap (λ (w : List ℕ). w ∷ rest) 
 
 -- ---- the words are one command at most
 
-words_once : (c d : Command (List ℕ)) → words_of c ≡ words_of d → c ≡ d
-words_once (Validate a b) (Validate x y) e = let p : a ≡ x = cc e in let q : b ≡ y = cc e in cc (p, q)
-words_once (Check a b c) (Check x y z) e = let p : a ≡ x = cc e in let q : b ≡ y = cc e in let r : c ≡ z = cc e in cc (p, q, r)
-words_once _ _ e = absurd (cc e)
+words_once : (c d : Command (List ℕ)) → words_of c ≡ words_of d → HasDefaults c → HasDefaults d → c ≡ d
+words_once (Validate a b r k) (Validate x y s l) e h j =
+    let p : a ≡ x = cc e in
+    let q : b ≡ y = cc e in
+    let rounds : r ≡ s = h.0 ∙ sym j.0 in
+    let budget : k ≡ l = h.1 ∙ sym j.1 in
+    cc (p, q, rounds, budget)
+words_once (Check a b c) (Check x y z) e h j = let p : a ≡ x = cc e in let q : b ≡ y = cc e in let r : c ≡ z = cc e in cc (p, q, r)
+words_once _ _ e h j = absurd (cc e)
 
 pub one_command : (words : List (List ℕ)) (c d : Option (Command (List ℕ))) → IsCommand words c → IsCommand words d → c ≡ d
 one_command words None None p q = refl
 one_command words None (Some d) p q = absurd (p d q)
 one_command words (Some c) None p q = absurd (q c p)
-one_command words (Some c) (Some d) p q = let same = words_once c d (sym p.spelled ∙ q.spelled) in ap (λ (x : Command (List ℕ)). Some x) same
+one_command words (Some c) (Some d) p q = let same = words_once c d (sym p.spelled ∙ q.spelled) p.limits q.limits in ap (λ (x : Command (List ℕ)). Some x) same

@@ -4,6 +4,7 @@ use Rattle.std.specs.Prelude.{codes}
 use Rattle.std.proofs.lemmas.List.{append_cancel_left, append-nil, take-append-drop}
 use Rattle.pv_base.specs.Stored.{Stored}
 use Rattle.pv_base.specs.Outside.{more}
+use Rattle.pv_prove.specs.declared.outcome.Limits.{Limits}
 use Rattle.pv_report.specs.declared.status.Status.{Status}
 use Rattle.pv_report.specs.declared.status.Status.TheVariants as status
 use Rattle.pv_report.specs.Report.{Judged}
@@ -30,11 +31,11 @@ is_said status.Memory = false
 is_said s = true
 
 -- .. is that of a report
-judged_said : (a b text : List ℕ) (s : Status) → Judged a b text s → is_said s ≡ true
-judged_said a b text status.AllEquivalent h = refl
-judged_said a b text status.Others h = refl
-judged_said a b text status.BadClass h = refl
-judged_said a b text _ (vs, r, is) = absurd is
+judged_said : (limits : Limits) (a b text : List ℕ) (s : Status) → Judged limits a b text s → is_said s ≡ true
+judged_said limits a b text status.AllEquivalent h = refl
+judged_said limits a b text status.Others h = refl
+judged_said limits a b text status.BadClass h = refl
+judged_said limits a b text _ (vs, r, is) = absurd is
 
 ruled_said : (a b cert text : List ℕ) (s : Status) → Ruled a b cert text s → is_said s ≡ true
 ruled_said a b cert text status.AllEquivalent h = refl
@@ -44,7 +45,7 @@ ruled_said a b cert text status.BadCert h = refl
 ruled_said a b cert text _ (fs, r, is) = absurd is
 
 pub answer_said : (c : Command (List ℕ)) (contents : List (List ℕ)) (text : List ℕ) (s : Status) → IsAnswer c contents text s → is_said s ≡ true
-answer_said (Validate a b) (x ∷ y ∷ []) text s h = judged_said x y text s h
+answer_said (Validate a b rounds budget) (x ∷ y ∷ []) text s h = judged_said (record { rounds = rounds; budget = budget }) x y text s h
 answer_said (Check a b c) (x ∷ y ∷ z ∷ []) text s h = ruled_said x y z text s h
 answer_said _ _ text s h = absurd h
 

@@ -2,6 +2,7 @@
 use Rattle.std.proofs.Common.{◌≡◌, ℕ, List, ◌∷◌, ◌++◌, Option, inl, inr, sym, ap, subst, ◌∙◌}
 use Rattle.std.specs.Prelude.{codes}
 use Rattle.pv_base.specs.Stored.{Stored}
+use Rattle.pv_prove.specs.declared.outcome.Limits.{Limits}
 use Rattle.pv_report.specs.declared.status.Status.{Status}
 use Rattle.pv_report.specs.declared.status.Status.TheVariants as status
 use Rattle.pv_report.specs.declared.verdict.Side.{Side}
@@ -11,7 +12,7 @@ use Rattle.pv_report.specs.declared.verdict.Verdict.TheVariants.{Equivalent}
 use Rattle.pv_report.specs.Lines.{fault_words, in_words, line_of, line_text, method_line, side_word, verdict_words}
 use Rattle.pv_report.specs.Report.{IsBadPair, IsBadText, IsReport, Judged}
 use Rattle.pv_report.specs.Verdicts.{IsVerdict}
-use Rattle.pv_report.proofs.Cited.{Lacks, bad_class_other, bad_class_whole, one_meaning, only_equivalent, whole_line}
+use Rattle.pv_report.proofs.Cited.{Lacks, bad_class_other, bad_class_whole, least_meaning, only_equivalent, whole_line}
 use Rattle.pv_sections.specs.declared.finding.Finding.{Finding}
 use Rattle.pv_sections.specs.declared.finding.Finding.TheVariants as finding
 use Rattle.pv_sections.specs.Findings.{IsFinding}
@@ -37,12 +38,13 @@ bad_pair held a b first second text (inr bad) = bad_text held a b second text si
 
 -- ---- a report
 
-report_line : (held : Option Stored) (a b first second text : List ℕ) (verdicts : List Verdict) → HoldsBoth held a b first second → IsReport first second verdicts text → IsTrueOf held a b text
-report_line held a b first second text verdicts h r line l ends =
-    let found = line_among (IsVerdict r.first r.second) line_of whole_line r.first.methods verdicts line r.each (subst (λ (t : List ℕ). IsLineOf t line) r.text_is l) in
+report_line : (held : Option Stored) (limits : Limits) (a b first second text : List ℕ) (verdicts : List Verdict) → HoldsBoth held a b first second → IsReport limits first second verdicts text → IsTrueOf held a b text
+report_line held limits a b first second text verdicts h r line l ends =
+    let found = line_among (IsVerdict limits r.first r.second) line_of whole_line r.first.methods verdicts line r.each (subst (λ (t : List ℕ). IsLineOf t line) r.text_is l) in
     let m = found.thing in
     let is = only_equivalent m found.answer ends.0 (sym found.says ∙ ends.1) in
-    let equal : IsVerdict r.first r.second m Equivalent = subst (λ (v : Verdict). IsVerdict r.first r.second m v) is found.is in
+    let equal : IsVerdict limits r.first r.second m Equivalent = subst (λ (v : Verdict). IsVerdict limits r.first r.second m v) is found.is in
+    let on = equal.2 in
     record {
       first = first;
       second = second;
@@ -57,14 +59,14 @@ report_line held a b first second text verdicts h r line l ends =
       partner = equal.0;
       partner_is = equal.1;
       says = found.says ∙ ap (line_of m) is;
-      equivalent = one_meaning r.first m r.second equal.0 equal.2 equal.1.like.desc (has_bytes first r.first m h.first_bytes r.first_is found.among) (has_bytes second r.second equal.0 h.second_bytes r.second_is equal.1.among);
+      equivalent = least_meaning r.first m r.second equal.0 on.0 on.1 on.2.1 equal.1.like.desc (has_bytes first r.first m h.first_bytes r.first_is found.among) (has_bytes second r.second equal.0 h.second_bytes r.second_is equal.1.among);
     }
 
-pub judged_line : (held : Option Stored) (a b first second text : List ℕ) (s : Status) → HoldsBoth held a b first second → Judged first second text s → IsTrueOf held a b text
-judged_line held a b first second text status.BadClass h bad = bad_pair held a b first second text bad
-judged_line held a b first second text status.AllEquivalent h (vs, r, is) = report_line held a b first second text vs h r
-judged_line held a b first second text status.Others h (vs, r, is) = report_line held a b first second text vs h r
-judged_line held a b first second text _ h (vs, r, is) = absurd is
+pub judged_line : (held : Option Stored) (limits : Limits) (a b first second text : List ℕ) (s : Status) → HoldsBoth held a b first second → Judged limits first second text s → IsTrueOf held a b text
+judged_line held limits a b first second text status.BadClass h bad = bad_pair held a b first second text bad
+judged_line held limits a b first second text status.AllEquivalent h (vs, r, is) = report_line held limits a b first second text vs h r
+judged_line held limits a b first second text status.Others h (vs, r, is) = report_line held limits a b first second text vs h r
+judged_line held limits a b first second text _ h (vs, r, is) = absurd is
 
 -- ---- a report on a certificate
 

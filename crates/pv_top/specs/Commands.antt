@@ -7,7 +7,7 @@ use Rattle.pv_top.specs.Words.{IsCommand, texts}
 
 -- a command by its names
 abbrev pub named : Command (Bor (List ℕ)) → Command (List ℕ)
-named (Validate a b) = Validate a.now b.now
+named (Validate a b rounds budget) = Validate a.now b.now rounds budget
 named (Check a b cert) = Check a.now b.now cert.now
 
 abbrev pub IsRead : List (Bor (List ℕ)) → Option (Command (Bor (List ℕ))) → Type 0

@@ -25,7 +25,7 @@ Says old new (b ∷ text) meant result rose = Puts old new (b ∷ text) meant re
 
 -- the text that a command answers to the bytes of its files, and the status that goes with it
 abbrev pub IsAnswer : Command (List ℕ) → List (List ℕ) → List ℕ → Status → Type 0
-IsAnswer (Validate a b) (x ∷ y ∷ []) text s = Judged x y text s
+IsAnswer (Validate a b rounds budget) (x ∷ y ∷ []) text s = Judged (record { rounds = rounds; budget = budget }) x y text s
 IsAnswer (Check a b cert) (x ∷ y ∷ z ∷ []) text s = Ruled x y z text s
 IsAnswer c contents text s = ⊥
 

@@ -16,4 +16,4 @@ mod words;
 
 pub use pv_report::Status;
 pub use top::run;
-pub use words::Command;
+pub use words::{Command, DEFAULT_BUDGET, DEFAULT_ROUNDS};

@@ -15,6 +15,7 @@ ghost use Rattle.pv_top.specs.declared.words.Command as commands;
 use crate::words::{Command, read_words};
 use pv_base::{FileFault, Files, Gate, Sink};
 use pv_class::LONGEST_FILE;
+use pv_prove::Limits;
 use pv_report::{Answer, Fetched, Status, judge};
 use pv_sections::{LONGEST_CERT, rule};
 use pv_value::Memory;
@@ -31,9 +32,9 @@ pub(crate) struct Wanted<'a> {
 /// Does what the words of a command line say, and answers how that went.
 ///
 /// `words` are the words after the program's name. `validate A B` fetches the class files A and B
-/// and says, in a line for each method of A, whether its partner in B has the same meaning.
+/// and says, in a line for each method of A, whether a search shows that its partner in B has the same meaning.
 /// `check A B CERT` fetches a certificate too, and says, in a line for each of its sections, whether
-/// the steps of the section show this of the two methods that it names; the gate is passed before each step.
+/// the steps of the section show this of the two methods that it names; the gate is passed before each step, and as a search does.
 pub fn run<R: Threads + Sync, F: Files, K: Sink, G: Gate>(
     _rt: &R,
     alloc: Global,
@@ -91,11 +92,11 @@ fn answer<G: Gate>(
     ensures { IfOk result (λ answer. AnswersFetched (named command.entry) fetched.now answer.text.items answer.status) }
 {
     match command {
-        Command::Validate { .. } => {
+        Command::Validate { rounds, budget, .. } => {
             let [first, second] = fetched else {
                 unreachable!();
             };
-            judge(alloc, first, second)
+            judge(alloc, gate, Limits { rounds, budget }, first, second)
         }
         Command::Check { .. } => {
             let [first, second, cert] = fetched else {
@@ -118,7 +119,7 @@ fn fetch_files<F: Files>(
     ensures held { F.held files.new ≡ F.held files.old }
 {
     match command {
-        Command::Validate { first, second } => {
+        Command::Validate { first, second, .. } => {
             let all = [
                 Wanted {
                     name: first,

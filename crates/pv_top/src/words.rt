@@ -4,13 +4,28 @@ ghost use Rattle.std.specs.Prelude.{◌≡◌, ◌↔◌, IsTrue};
 ghost use Rattle.pv_top.specs.Words.{IsFileName};
 ghost use Rattle.pv_top.specs.Commands.{IsRead};
 
+/// How many rounds a search may make, where the words don't say.
+pub const DEFAULT_ROUNDS: u32 = 6;
+
+/// How many matches a round may have, where the words don't say.
+pub const DEFAULT_BUDGET: u32 = 200_000;
+
 /// A command, by the names of its files.
 #[derive(Clone, Copy, Debug)]
 pub enum Command<N> {
-    /// Compare two class files.
-    Validate { first: N, second: N },
+    /// Compare two class files, by searches of so many rounds, each of so many matches.
+    Validate {
+        first: N,
+        second: N,
+        rounds: u32,
+        budget: u32,
+    },
     /// Check a certificate for two class files.
-    Check { first: N, second: N, cert: N },
+    Check {
+        first: N,
+        second: N,
+        cert: N,
+    },
 }
 
 /// The command that the words are, None where they are none.
@@ -21,7 +36,12 @@ pub(crate) fn read_words<'a>(words: &[&'a str]) -> Option<Command<&'a str>>
         [command, first, second] => {
             let (command, first, second): (&str, &str, &str) = (*command, *first, *second);
             if command == "validate" && is_file_name(first) && is_file_name(second) {
-                Some(Command::Validate { first, second })
+                Some(Command::Validate {
+                    first,
+                    second,
+                    rounds: DEFAULT_ROUNDS,
+                    budget: DEFAULT_BUDGET,
+                })
             } else {
                 None
             }

@@ -20,7 +20,7 @@ returns-in-Some-clause-bad_words g c none =
 
 -- no words are no command
 nothing : IsCommand [] None
-nothing (Validate a b) is = let none : [] ≡ words_of (Validate a b) = is.spelled in cc none
+nothing (Validate a b rounds budget) is = let none : [] ≡ words_of (Validate a b rounds budget) = is.spelled in cc none
 nothing (Check a b cert) is = let none : [] ≡ words_of (Check a b cert) = is.spelled in cc none
 
 pub returns-clause-bad_words : goal.returns-clause-bad_words

@@ -8,7 +8,7 @@ ghost use Rattle.pv_top.specs.Commands.{IsRead};
 pub const DEFAULT_ROUNDS: u32 = 6;
 
 /// How many matches a round may have, where the words don't say.
-pub const DEFAULT_BUDGET: u32 = 200_000;
+pub const DEFAULT_BUDGET: u32 = 2_000;
 
 /// A command, by the names of its files.
 #[derive(Clone, Copy, Debug)]

@@ -34,7 +34,8 @@ pub(crate) struct Wanted<'a> {
 /// `words` are the words after the program's name. `validate A B` fetches the class files A and B
 /// and says, in a line for each method of A, whether a search shows that its partner in B has the same meaning.
 /// `check A B CERT` fetches a certificate too, and says, in a line for each of its sections, whether
-/// the steps of the section show this of the two methods that it names; the gate is passed before each step, and as a search does.
+/// the steps of the section show this of the two methods that it names. The gate is passed before each step, and by a search
+/// before each node at which the left side of an axiom may start.
 pub fn run<R: Threads + Sync, F: Files, K: Sink, G: Gate>(
     _rt: &R,
     alloc: Global,

@@ -4,16 +4,16 @@ ghost use Rattle.std.specs.Prelude.{◌≡◌, ◌↔◌, IsTrue};
 ghost use Rattle.pv_top.specs.Words.{IsFileName};
 ghost use Rattle.pv_top.specs.Commands.{IsRead};
 
-/// How many rounds a search may make, where the words don't say.
+/// The rounds that a search may make, where the words don't say.
 pub const DEFAULT_ROUNDS: u32 = 6;
 
-/// How many matches a round may have, where the words don't say.
-pub const DEFAULT_BUDGET: u32 = 2_000;
+/// The matches that a round may have, where the words don't say.
+pub const DEFAULT_BUDGET: u32 = 200_000;
 
 /// A command, by the names of its files.
 #[derive(Clone, Copy, Debug)]
 pub enum Command<N> {
-    /// Compare two class files, by searches of so many rounds, each of so many matches.
+    /// Compare two class files, by searches of at most `rounds` rounds, each of at most `budget` matches.
     Validate {
         first: N,
         second: N,

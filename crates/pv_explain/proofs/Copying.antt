@@ -22,7 +22,7 @@ use Rattle.pv_explain.specs.Copying.{AreFirstCopies, AreOwnCopies, HasBase, IsCo
 use Rattle.pv_explain.specs.Lines.{HaveCopies, IsSource}
 
 -- the sort of a node of a sealed graph fits it
-sort_of : (g : Graph) → IsGraph g → g.is_open ≡ false → (n : ℕ) (node : Node) → slice_get g.nodes n ≡ Some node → (s : OpSort) × (slice_get g.sorts n ≡ Some s) × HasSort g.sorts node.op node.kids s
+pub sort_of : (g : Graph) → IsGraph g → g.is_open ≡ false → (n : ℕ) (node : Node) → slice_get g.nodes n ≡ Some node → (s : OpSort) × (slice_get g.sorts n ≡ Some s) × HasSort g.sorts node.op node.kids s
 sort_of g is sealed n node e =
     let s = found g.sorts n (let z = slice_get_within g.nodes n node e in let y = is.long in omega (arith, z, y)) in
     (s.0, s.1, by s.0 (is.sorted n node s.0 e s.1))

@@ -74,7 +74,7 @@ side_line [] j a b e = absurd (cc)
 side_line (l ∷ lines) zero a b e = let z = same_Some (l.first, l.second) (a, b) e in (l, refl, ap (λ (p : ℕ × ℕ). p.0) z, ap (λ (p : ℕ × ℕ). p.1) z)
 side_line (l ∷ lines) (suc j) a b e = side_line lines j a b e
 
-copied_one : (map : List ℕ) (k m n : ℕ) → IsCopied map k m → IsCopied map k n → m ≡ n
+pub copied_one : (map : List ℕ) (k m n : ℕ) → IsCopied map k m → IsCopied map k n → m ≡ n
 copied_one map k m n h i = same_Some _ _ (sym h ∙ i)
 
 line_copies : (w : Written) (map : List ℕ) (lines : List Line) → AreStated w map lines → (j a b : ℕ) → slice_get (sides lines) j ≡ Some (a, b) → (l : Line) × (slice_get lines j ≡ Some l) × IsCopied map a l.left × IsCopied map b l.right

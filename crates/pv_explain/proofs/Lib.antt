@@ -12,8 +12,12 @@ mod Linking
 mod Placing
 -- 7. What the steps of an induction rest on, and what is visible in its block and after it.
 mod Inductions
--- 8. The whole section.
+-- 8. Thetas at iteration 0, and one iteration later.
+mod Iterating
+-- 9. The pairs of an induction: what is stated of them outside its block, inside it, and after it.
+mod Beginning
+-- 10. The whole section.
 mod Concluding
--- 9. More axioms keep the grounds of joins; what other crates cite.
+-- 11. More axioms keep the grounds of joins; what other crates cite.
 mod Giving
 pub mod Cited

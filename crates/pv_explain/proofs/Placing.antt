@@ -1,5 +1,5 @@
 -- The place where a join is explained: what its ground gives there, and the place after it.
-use Rattle.std.specs.Prelude.{◌≡◌, ◌⊎◌, ℕ, zero, suc, ◌+◌, ◌<◌, ◌≤◌, false, Option, None, IfSome, List, [], ◌∷◌, ◌++◌, length, Some, slice_get, drop, take}
+use Rattle.std.specs.Prelude.{◌≡◌, ◌⊎◌, ℕ, zero, suc, ◌+◌, ◌<◌, ◌≤◌, false, Option, None, Result, Ok, Err, IfOk, OnOk, IfSome, List, [], ◌∷◌, ◌++◌, length, Some, slice_get, drop, take}
 use Rattle.std.specs.List.{Contains}
 use Rattle.std.specs.Option.{IsSome}
 use Rattle.std.proofs.Common.{inl, inr, refl, sym, ap, ◌∙◌, subst, arith, append_assoc}
@@ -23,7 +23,7 @@ use Rattle.pv_steps.specs.Right.{IsFresh, looks_at}
 use Rattle.pv_axioms.specs.Entries.{Instance}
 use Rattle.pv_classes.specs.declared.join.Join.{Join}
 use Rattle.pv_classes.specs.declared.join.Reason.TheVariants as reason
-use Rattle.pv_classes.specs.Blocks.{Block}
+use Rattle.pv_classes.specs.Blocks.{Block, block, blocks_of, inner_of, pairs_of, size_of, size_of_all}
 use Rattle.pv_classes.specs.Closest.{IsOutside as IsAside, IsOfKids}
 use Rattle.pv_classes.specs.Grounds.{Context, depths, JoinGround, JoinsGround}
 use Rattle.pv_classes.specs.Sorts.{HaveOneSort, JoinOneSort}
@@ -35,12 +35,13 @@ use Rattle.pv_explain.specs.declared.source.Source.{Source}
 use Rattle.pv_explain.specs.declared.follow.Line.{Line}
 use Rattle.pv_explain.specs.declared.level.Level.{Level}
 use Rattle.pv_explain.specs.Sections.{IsGiven}
-use Rattle.pv_explain.specs.Lines.{IsLevel, AreKidsLinked, IsInstanceAt, IsStated, AreStated, IsLineOf, sides}
-use Rattle.pv_explain.specs.Levels.{ends_of, IsFound, PairsOneSort, IsPlace, JoinStands, JoinsStand, LearnsAt, GrowsAt}
+use Rattle.pv_explain.specs.Lines.{IsLevel, IsSource, AreKidsLinked, IsInstanceAt, IsStated, AreStated, IsLineOf, sides}
+use Rattle.pv_explain.specs.Levels.{AreLow, ends_of, IsFound, PairsOneSort, IsPlace, JoinStands, JoinsStand, LearnsAt, GrowsAt}
+use Rattle.pv_explain.specs.Iterations.{BlockStands}
 use Rattle.pv_explain.proofs.Copying.{copied_low, have_copies, source_later}
 use Rattle.pv_explain.proofs.Following.{stated_goes}
 use Rattle.pv_explain.proofs.Congruent.{level_goes}
-use Rattle.pv_explain.proofs.Linking.{all_linked_by, ends_more, sides_more, sides_next}
+use Rattle.pv_explain.proofs.Linking.{all_linked_by, at_index, ends_more, sides_more, sides_next}
 
 -- ---- a join by kids
 
@@ -298,3 +299,51 @@ line_low old new s level bs joins a b l h goes line =
 
 pub learns_here : (old new : Written) (s : Source) (level : Level) (bs : List Block) (joins : List Join) → JoinsStand old s level bs joins → GoesOn old new → LearnsAt new s level level
 learns_here old new s level bs joins h goes = learns_none new s level (stated_goes old new s.map.now level.known.items goes h.place.known)
+
+-- ---- a level again
+
+-- what reads past the end of a list
+abbrev pub no_line : Line
+no_line = record { first = 0; second = 0; left = 0; right = 0; fact = record { step = 0; place = 0 } }
+
+-- the lines of a level are of its nodes
+pub lines_low : (w : Written) (s : Source) (level : Level) → IsSource w s → IsLevel w s level → AreLow (length s.graph.now.nodes) level.lines.items
+lines_low w s level source h l c =
+    let k = h.stated c.0 l (at_index level.lines.items c.0 l c.1 (sym c.2)) in
+    (copied_low s.graph.now w.graph s.map.now l.first l.left source.copies k.left, copied_low s.graph.now w.graph s.map.now l.second l.right source.copies k.right)
+
+-- ---- a join by an induction
+
+-- the block that it cites, which has its ground there
+pub record HasBlock (w : Written) (s : Source) (level : Level) (bs : List Block) (n : ℕ) (j : Join) : Type 0 where
+  pub b : Block
+  pub there : slice_get bs n ≡ Some b
+  pub pair : Contains (pairs_of b) (j.first, j.second)
+  pub stands : BlockStands w s level b
+
+pub join_block : (w : Written) (s : Source) (level : Level) (bs : List Block) (j : Join) (n : ℕ) → JoinStands w s level bs j → j.why ≡ reason.Induction n → HasBlock w s level bs n j
+join_block w s level bs j n h e = by h.ctx h.before h.place h.ground
+  where
+    by : (ctx : Context) (before : List Join) → IsPlace w s level h.assumed ctx before → JoinGround s.graph.now.nodes (IsGiven s.graph.now h.assumed) ctx before bs j → HasBlock w s level bs n j
+    by ctx before place (JoinGround.by_axiom _ _ _ m ms why given) = absurd (let z = sym why ∙ e in cc)
+    by ctx before place (JoinGround.by_kids _ _ _ _ k) = absurd (let z = sym k.why ∙ e in cc)
+    by ctx before place (JoinGround.by_induction _ _ _ _ m b why at_m there g) =
+        let z : reason.Induction m ≡ reason.Induction n = sym why ∙ e in
+        let p : m ≡ n = cc in
+        record { b = b; there = subst (λ (k : ℕ). slice_get bs k ≡ Some b) p at_m; pair = there; stands = record { assumed = h.assumed; ctx = ctx; before = before; place = place; ground = g } }
+    by ctx before place (JoinGround.by_pair d pairs outer _ _ _ i why at_i) = absurd (let z = sym why ∙ e in cc)
+
+-- each block is no greater than all
+pub size_in : (bs : List Block) (n : ℕ) (b : Block) → slice_get bs n ≡ Some b → size_of b ≤ size_of_all (blocks_of bs)
+size_in [] n b e = absurd (cc)
+size_in (c ∷ bs) zero b e = let z = ap size_of (same_Some c b e) in omega (arith, z)
+size_in (c ∷ bs) (suc n) b e = let z = size_in bs n b e in omega (arith, z)
+
+-- the blocks inside a block are smaller
+pub size_inside : (b : Block) (bs : List Block) → blocks_of bs ≡ inner_of b → suc (size_of_all (blocks_of bs)) ≡ size_of b
+size_inside (block d pairs joins inner) bs e = let z = ap size_of_all e in omega (arith, z)
+
+-- a line was stated, and the level is as it was
+pub learns_where_ok : {T E : Type 0} → (old new : Written) (s : Source) (level : Level) (r : Result T E) → AreStated old s.map.now level.known.items → IfOk r (λ l. GoesOn old new) → OnOk r (LearnsAt new s level level)
+learns_where_ok old new s level (Ok l) stated goes = learns_none new s level (stated_goes old new s.map.now level.known.items goes stated)
+learns_where_ok old new s level (Err e) stated goes = tt

@@ -25,6 +25,10 @@ pub record IsFound (lines : List Line) (a b : ℕ) (l : Line) : Type 0 where
   pub first : l.first ≡ a
   pub second : l.second ≡ b
 
+-- the two nodes of each line are among the first n
+abbrev pub AreLow : ℕ → List Line → Type 0
+AreLow n lines = (l : Line) → Contains lines l → (l.first < n) × (l.second < n)
+
 -- each of these pairs has a line
 abbrev pub HaveLines : List (ℕ × ℕ) → List Line → Type 0
 HaveLines pairs lines = (a b : ℕ) → Contains pairs (a, b) → (l : Line) × IsFound lines a b l

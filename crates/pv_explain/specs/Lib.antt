@@ -5,3 +5,4 @@ pub mod Sections
 pub mod Copying
 pub mod Lines
 pub mod Levels
+pub mod Iterations

@@ -1,11 +1,8 @@
 -- What a search joined, and the sections that explain it.
 use Rattle.std.specs.Prelude.{◌≡◌, ℕ, ◌<◌, false, List, [], length}
-use Rattle.std.specs.List.{Contains}
 use Rattle.pv_graph.specs.Walks.{In}
 use Rattle.pv_graph.specs.Graphs.{Graph, IsGraph, Extends}
 use Rattle.pv_axioms.specs.Entries.{Instance}
-use Rattle.pv_classes.specs.declared.join.Join.{Join}
-use Rattle.pv_classes.specs.declared.join.Reason.TheVariants as reason
 use Rattle.pv_classes.specs.Linked.{Linked}
 use Rattle.pv_classes.specs.Grounds.{JoinsGround}
 use Rattle.pv_classes.specs.Sorts.{HaveOneSort}
@@ -22,13 +19,6 @@ pub record IsGiven (g : Graph) (assumed : List ℕ) (n : ℕ) (nodes : List ℕ)
 -- each join of the search has its ground, where these nodes are assumed to end
 abbrev pub IsGrounded : Search → List ℕ → Type 0
 IsGrounded s assumed = JoinsGround s.graph.now.nodes (IsGiven s.graph.now assumed) [] [] s.blocks.now s.joins.now
-
--- the join is by no induction
-abbrev pub IsNoInduction : Join → Type 0
-IsNoInduction j = (n : ℕ) → j.why ≡ reason.Induction n → ⊥
-
-abbrev pub HaveNoInduction : List Join → Type 0
-HaveNoInduction joins = (j : Join) → Contains joins j → IsNoInduction j
 
 -- the search joined a and b
 abbrev pub HasLinked : Search → ℕ → ℕ → Type 0

@@ -7,7 +7,7 @@ ghost use Rattle.pv_steps.specs.Right.{Gives};
 ghost use Rattle.pv_steps.specs.Accepted.{Derives};
 ghost use Rattle.pv_axioms.specs.Entries.{Instance};
 ghost use Rattle.pv_writer.specs.Written.{GoesOn, inside};
-ghost use Rattle.pv_explain.specs.Sections.{HasLinked, HaveNoInduction, IsGrounded, IsGrown};
+ghost use Rattle.pv_explain.specs.Sections.{HasLinked, IsGrounded, IsGrown};
 ghost use Rattle.pv_explain.specs.Copying.{HasBase};
 ghost use Rattle.pv_explain.specs.Lines.{IsSource};
 ghost use Rattle.pv_explain.specs.Levels.{HasAll, HasLast, IsOutside};
@@ -52,7 +52,6 @@ fn state_all(
     requires graph { source.now.graph ≡ search.now.graph }
     requires outside { IsOutside writer.old search.now.graph.now }
     requires grounds { IsGrounded search.now (assumed_in (inside writer.old)) }
-    requires plain { HaveNoInduction search.now.joins.now }
     ensures lines { IfOk result (λ level. HasAll writer.new source.now level search.now.joins.now) }
     ensures goes { IfOk result (λ level. GoesOn writer.old writer.new) }
 {
@@ -83,7 +82,6 @@ fn explain(
     requires begins { HasBase writer.old search.now.graph.now }
     requires outside { IsOutside writer.old search.now.graph.now }
     requires grounds { IsGrounded search.now (assumed_in (inside writer.old)) }
-    requires plain { HaveNoInduction search.now.joins.now }
     requires linked { HasLinked search.now a b }
     requires first { a < base }
     requires second { b < base }
@@ -112,7 +110,6 @@ pub fn section(
 ) -> Result<Listed<Step>, Memory>
     requires grown { IsGrown least.now search.now.graph.now }
     requires grounds { IsGrounded search.now [] }
-    requires plain { HaveNoInduction search.now.joins.now }
     requires linked { HasLinked search.now a b }
     requires first { a < length least.now.nodes }
     requires second { b < length least.now.nodes }

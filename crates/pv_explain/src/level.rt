@@ -1,7 +1,8 @@
 //! What is stated at a level.
 
 ghost use Rattle.std.specs.Prelude.{◌≡◌, ℕ, ◌<◌, ◌++◌, ◌∷◌, [], IfOk, IfSome, OnOk, true, false, length, None};
-ghost use Rattle.pv_explain.specs.Levels.{IsFound};
+ghost use Rattle.pv_explain.specs.Lines.{sides};
+ghost use Rattle.pv_explain.specs.Levels.{AreLow, IsFound};
 
 use crate::follow::Line;
 use pv_graph::NodeId;
@@ -45,6 +46,37 @@ impl Level {
         self.forest.push(line.first, line.second)?;
         self.lines.push(line)?;
         Ok(())
+    }
+
+    // More lines that a join may cite.
+    pub(crate) fn learn(&mut self, more: &[Line]) -> Result<(), Memory>
+        ensures forest { self.new.forest ≡ self.old.forest }
+        ensures lines { self.new.lines.items ≡ self.old.lines.items }
+        ensures known { OnOk result (self.new.known.items ≡ self.old.known.items ++ more.now) }
+    {
+        self.known.extend_from_slice(more)?;
+        Ok(())
+    }
+
+    // The level with these lines, and these that a join may cite.
+    pub(crate) fn of(
+        alloc: Global,
+        nodes: usize,
+        lines: &[Line],
+        known: Vec<Line>,
+    ) -> Result<Level, Memory>
+        requires { AreLow nodes lines.now }
+        ensures nodes { IfOk result (λ l. l.forest.nodes ≡ nodes) }
+        ensures ends { IfOk result (λ l. l.forest.ends ≡ sides lines.now) }
+        ensures lines { IfOk result (λ l. l.lines.items ≡ lines.now) }
+        ensures known { IfOk result (λ l. l.known.items ≡ known.items) }
+    {
+        let mut level = Level::new(alloc, nodes)?;
+        for line in lines {
+            level.push(*line)?;
+        }
+        level.learn(&known)?;
+        Ok(level)
     }
 }
 

@@ -7,13 +7,20 @@
 //! For each join a line says by which fact the copies of its two nodes are equal (`specs/Lines`). A line is stated
 //! by an axiom, or by the kids, which earlier lines link. Lines on a path are put together by flips and chains. A level is the outside of all inductions, or the inside of one, with the lines of its joins (`specs/Levels`).
 //!
-//! The layer above uses `section`: a search that joined two nodes, with no join by an induction so far, gives a section that derives their equality (`specs/Sections`).
+//! A join by an induction cites a block. Outside the block each of its pairs is stated at iteration 0; inside it, where the
+//! pairs are known, its joins have lines of their own, and so has each pair one iteration later (`specs/Iterations`). The
+//! block is written once at a level, for all its pairs. Blocks may lie in blocks: joins and blocks are stated by
+//! functions that call each other, down to the innermost block.
+//!
+//! The layer above uses `section`: a search that joined two nodes gives a section that derives their equality (`specs/Sections`).
 #![tactic(auto)]
 
 mod axiom;
 mod conclude;
 mod copy;
 mod follow;
+mod induction;
+mod iteration;
 mod joins;
 mod kids;
 mod level;

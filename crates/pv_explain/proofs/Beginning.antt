@@ -1,29 +1,26 @@
 -- The pairs of an induction: what is stated of them outside its block, inside it, and after it.
-use Rattle.std.specs.Prelude.{◌≡◌, ◌≢◌, ℕ, zero, suc, ◌+◌, ◌<◌, ◌≤◌, true, List, [], ◌∷◌, ◌++◌, length, Some, slice_get, take}
+use Rattle.std.specs.Prelude.{◌≡◌, ℕ, zero, suc, ◌+◌, ◌<◌, ◌≤◌, true, List, [], ◌∷◌, ◌++◌, length, Some, slice_get, take}
 use Rattle.std.specs.List.{AllZip, Contains}
-use Rattle.std.proofs.Common.{inl, inr, refl, sym, ap, ◌∙◌, subst, arith, length-append, append_assoc}
+use Rattle.std.proofs.Common.{inl, inr, refl, sym, ap, ◌∙◌, subst, arith, length-append}
 use Rattle.std.proofs.Math.ListN.{get_or}
 use Rattle.std.proofs.lemmas.List.{take_more}
 use Rattle.std.proofs.lemmas.Bool.Decides.{nat_tests}
 use Rattle.std.proofs.lemmas.Option.{same_Some, slice_get_within, slice_get-get_or, none-some}
 use Rattle.pv_graph.specs.declared.node.Op.TheVariants as op
-use Rattle.pv_graph.specs.declared.node.OpSort.{OpSort}
 use Rattle.pv_graph.specs.declared.node.Node.{Node}
-use Rattle.pv_graph.specs.Ops.{is_depth, shape}
+use Rattle.pv_graph.specs.Ops.{is_depth}
 use Rattle.pv_graph.specs.Nodes.{node_of}
 use Rattle.pv_graph.specs.Walks.{In}
-use Rattle.pv_graph.specs.Graphs.{Graph, IsGraph}
 use Rattle.pv_graph.proofs.Cited.{found, get_last, push_cases}
 use Rattle.pv_steps.specs.declared.step.Fact.{Fact}
 use Rattle.pv_steps.specs.declared.step.Reason.{Reason}
 use Rattle.pv_steps.specs.declared.step.Reason.TheVariants.{Same}
 use Rattle.pv_steps.specs.declared.step.Step.TheVariants.{Open, Close}
 use Rattle.pv_steps.specs.Steps.{AreOpen, Loop, OpenBlock, blocks, outer_of, assumed_in, Shows}
-use Rattle.pv_steps.specs.Right.{AreOfOneSort, ClosesPair, IsFresh, RightOver, looks_at}
+use Rattle.pv_steps.specs.Right.{AreOfOneSort, ClosesPair, IsFresh, RightOver}
 use Rattle.pv_axioms.specs.Entries.{Instance}
 use Rattle.pv_classes.specs.declared.join.Join.{Join}
 use Rattle.pv_classes.specs.Blocks.{Block, depth_of, inner_of, joins_of, listed, pairs_of}
-use Rattle.pv_classes.specs.Closest.{Is}
 use Rattle.pv_classes.specs.Grounds.{Context, IsDeeper, IsStep, JoinsGround, BlockGround, depths}
 use Rattle.pv_classes.specs.Sorts.{HaveOneSort, PairOneSort}
 use Rattle.pv_classes.proofs.Elements.{contains_at, in_first, in_rest, zip_map}
@@ -38,7 +35,7 @@ use Rattle.pv_explain.specs.declared.iteration.Unrolled.{Unrolled}
 use Rattle.pv_explain.specs.declared.induction.Begun.{Begun}
 use Rattle.pv_explain.specs.Copies.{IsCopied}
 use Rattle.pv_explain.specs.Sections.{IsGiven}
-use Rattle.pv_explain.specs.Lines.{IsSource, IsLevel, AreStated, GivesCopies, LinkedBy, sides}
+use Rattle.pv_explain.specs.Lines.{IsSource, AreStated, GivesCopies, LinkedBy, sides}
 use Rattle.pv_explain.specs.Levels.{GrowsAt, HaveLines, IsPlace, JoinsStand, ends_of}
 use Rattle.pv_explain.specs.Iterations.{AreBegun, AreLinesOf, BlockStands, Ends, GoOn, IsBegun, IsInside, IsTheta, IsUnrolled, MayBegin, MayGoOn, Opens, both_copies, line_of}
 use Rattle.pv_explain.proofs.Copying.{sort_of, source_later}
@@ -72,6 +69,9 @@ congruent_starts w s d z x y u v why left right gives fresh = record {
   fresh = λ e looks. subst (λ (n : ℕ). IsFresh n (blocks (inside w))) (same_Some d e looks) fresh;
 }
 
+pub fresh_goes : (old new : Written) (d : ℕ) → GoesOn old new → IsFresh d (blocks (inside old)) → IsFresh d (blocks (inside new))
+fresh_goes old new d goes h = subst (λ (ps : List OpenBlock). IsFresh d (blocks ps)) (sym goes.blocks) h
+
 pub begun_goes : (old new : Written) (s : Source) (d z : ℕ) (pair : ℕ × ℕ) (b : Begun) → GoesOn old new → IsBegun old (inside old) s d z pair b → IsBegun new (inside new) s d z pair b
 begun_goes old new s d z pair b goes h = record {
   left = unrolled_goes old new s d z pair.0 b.left goes h.left;
@@ -103,6 +103,25 @@ zip_left R [] (b ∷ ys) i y h e = absurd h
 zip_left R (a ∷ xs) [] i y h e = absurd h
 zip_left R (a ∷ xs) (b ∷ ys) zero y h e = (a, refl, subst (λ v. R a v) (same_Some b y e) h.0)
 zip_left R (a ∷ xs) (b ∷ ys) (suc i) y h e = zip_left R xs ys i y h.1 e
+
+abbrev no_fact : Fact
+no_fact = record { step = 0; place = 0 }
+
+abbrev no_equal : Equal
+no_equal = record { left = 0; right = 0; fact = no_fact }
+
+abbrev no_unrolled : Unrolled
+no_unrolled = record { theta = 0; first = 0; second = 0; copy = 0; start = no_equal; next = no_equal }
+
+-- what reads past the end of a list
+abbrev pub no_begun : Begun
+no_begun = record { left = no_unrolled; right = no_unrolled; start = no_fact }
+
+pub take_at : {A : Type 0} → (xs : List A) (i : ℕ) (d : A) → i < length xs → take i xs ++ get_or xs i d ∷ [] ≡ take (i + 1) xs
+take_at xs i d low = sym (take_more xs i d low)
+
+pub read_in : {A : Type 0} → (xs : List A) (i : ℕ) (d : A) → i < length xs → Contains xs (get_or xs i d)
+read_in xs i d low = contains_at xs (get_or xs i d) i (slice_get-get_or xs i d low)
 
 -- ---- the lines of pairs
 
@@ -294,6 +313,14 @@ inner_stand old new s level inner b begun known h opens stated have is = record 
   grounds = block_joins s.graph.now.nodes (IsGiven s.graph.now h.assumed) h.ctx h.before b h.ground;
 }
 
+-- the lines of its pairs are known inside, so its joins have their grounds there
+pub open_stands : (old new : Written) (s : Source) (level inner : Level) (b : Block) (begun : List Begun) (list : List (ℕ × ℕ)) (step : ℕ) (known : List Line) → BlockStands old s level b → AreBegun old (inside old) s (depth_of b) (pairs_of b) begun → list ≡ both_copies begun
+    → Pushed old new (Open (depth_of b) list) step → AreLinesOf step begun known → IsInner (length s.graph.now.nodes) level inner known → JoinsStand new s inner (listed (inner_of b)) (joins_of b)
+open_stands old new s level inner b begun list step known stands all e pushed are is =
+    inner_stand old new s level inner b begun known stands (block_opened old new (depth_of b) step begun list e pushed)
+    (lines_stated old new (inside old) s (depth_of b) all.0 step (pairs_of b) begun known all.1 are (λ j x y at. opened_pair old new (depth_of b) step j x y list pushed (ap (λ (ps : List (ℕ × ℕ)). slice_get ps j) e ∙ at)))
+    (lines_have old (inside old) s (depth_of b) all.0 step (pairs_of b) begun known all.1 are) is
+
 -- ---- inside it
 
 -- what is stated of the pairs stays
@@ -407,34 +434,3 @@ block_done first old now new last d begun begins opens goes ends = record {
   later = later_trans first old last begins.later (later_trans old now last opens.later (later_trans now new last goes.later ends.later));
   blocks = ends.blocks_ ∙ ap outer_of (goes.blocks ∙ opens.blocks_) ∙ begins.blocks;
 }
-
--- ---- in a loop
-
-abbrev no_fact : Fact
-no_fact = record { step = 0; place = 0 }
-
-abbrev no_equal : Equal
-no_equal = record { left = 0; right = 0; fact = no_fact }
-
-abbrev no_unrolled : Unrolled
-no_unrolled = record { theta = 0; first = 0; second = 0; copy = 0; start = no_equal; next = no_equal }
-
--- what reads past the end of a list
-abbrev pub no_begun : Begun
-no_begun = record { left = no_unrolled; right = no_unrolled; start = no_fact }
-
-pub take_at : {A : Type 0} → (xs : List A) (i : ℕ) (d : A) → i < length xs → take i xs ++ get_or xs i d ∷ [] ≡ take (i + 1) xs
-take_at xs i d low = sym (take_more xs i d low)
-
-pub read_in : {A : Type 0} → (xs : List A) (i : ℕ) (d : A) → i < length xs → Contains xs (get_or xs i d)
-read_in xs i d low = contains_at xs (get_or xs i d) i (slice_get-get_or xs i d low)
-
--- ---- the block, opened
-
--- the lines of its pairs are known inside, so its joins have their grounds there
-pub open_stands : (old new : Written) (s : Source) (level inner : Level) (b : Block) (begun : List Begun) (list : List (ℕ × ℕ)) (step : ℕ) (known : List Line) → BlockStands old s level b → AreBegun old (inside old) s (depth_of b) (pairs_of b) begun → list ≡ both_copies begun
-    → Pushed old new (Open (depth_of b) list) step → AreLinesOf step begun known → IsInner (length s.graph.now.nodes) level inner known → JoinsStand new s inner (listed (inner_of b)) (joins_of b)
-open_stands old new s level inner b begun list step known stands all e pushed are is =
-    inner_stand old new s level inner b begun known stands (block_opened old new (depth_of b) step begun list e pushed)
-    (lines_stated old new (inside old) s (depth_of b) all.0 step (pairs_of b) begun known all.1 are (λ j x y at. opened_pair old new (depth_of b) step j x y list pushed (ap (λ (ps : List (ℕ × ℕ)). slice_get ps j) e ∙ at)))
-    (lines_have old (inside old) s (depth_of b) all.0 step (pairs_of b) begun known all.1 are) is

@@ -1,5 +1,5 @@
 -- Thetas at iteration 0, and one iteration later: their sorts, and what is stated of them.
-use Rattle.std.specs.Prelude.{◌≡◌, ℕ, zero, suc, ◌<◌, Bool, true, false, List, [], ◌∷◌, length, Option, Some, None, slice_get, if◌then◌else◌}
+use Rattle.std.specs.Prelude.{◌≡◌, ℕ, ◌<◌, Bool, true, false, List, [], ◌∷◌, length, Option, Some, None, slice_get, if◌then◌else◌}
 use Rattle.std.specs.List.{AllZip}
 use Rattle.std.proofs.Math.ListN.{get_or}
 use Rattle.std.proofs.Common.{inl, inr, refl, sym, ap, ◌∙◌, subst, arith}
@@ -8,18 +8,15 @@ use Rattle.pv_graph.specs.declared.node.Op.TheVariants as op
 use Rattle.pv_graph.specs.declared.node.OpSort.{OpSort}
 use Rattle.pv_graph.specs.declared.node.OpSort.TheVariants as sort
 use Rattle.pv_graph.specs.declared.node.Node.{Node}
-use Rattle.pv_graph.specs.Ops.{is_depth, but_root, same_sort, alike, HaveSorts, HasSort, sort_over}
+use Rattle.pv_graph.specs.Ops.{is_depth, but_root, same_sort, alike, HaveSorts, sort_over}
 use Rattle.pv_graph.specs.Nodes.{node_of}
 use Rattle.pv_graph.specs.Graphs.{Graph, IsGraph}
 use Rattle.pv_graph.specs.Calls.{AreNodes, FitsOver}
 use Rattle.pv_graph.proofs.Cited.{exactly_are, kid_within, shape_takes}
 use Rattle.pv_steps.specs.declared.step.Fact.{Fact}
-use Rattle.pv_steps.specs.declared.step.Reason.{Reason}
-use Rattle.pv_steps.specs.declared.step.Reason.TheVariants.{Same, By, Pair}
-use Rattle.pv_steps.specs.Right.{Gives}
 use Rattle.pv_axioms.specs.Entries.{Instance}
 use Rattle.pv_classes.specs.Closest.{Is}
-use Rattle.pv_writer.specs.Written.{Written, inside, IsAt, IsFact, IsLater, GoesOn, HasNode, States}
+use Rattle.pv_writer.specs.Written.{Written, IsAt, IsFact, IsLater, GoesOn, HasNode, States}
 use Rattle.pv_writer.proofs.Pushing.{fact_goes}
 use Rattle.pv_explain.specs.declared.source.Source.{Source}
 use Rattle.pv_explain.specs.declared.follow.Equal.{Equal}
@@ -196,11 +193,3 @@ start_goes old new d z x a e goes h = start_later old new d z x a e goes.later (
 
 pub unrolled_goes : (old new : Written) (s : Source) (d z x : ℕ) (u : Unrolled) → GoesOn old new → IsUnrolled old s d z x u → IsUnrolled new s d z x u
 unrolled_goes old new s d z x u goes h = unrolled_later old new s d z x u goes.later (λ f m n k. fact_goes old new f m n goes k) h
-
--- ---- by a reason
-
-pub gone_known : (w : Written) (f : Fact) (a b c : ℕ) (r : Reason) → IsFact w f a b → ((g : Fact) → r ≡ By g → ⊥) → Gives w.before (inside w) [] r b c → IsFact w f a c
-gone_known w f a b c Same h other g = subst (IsFact w f a) g h
-gone_known w f a b c (By k) h other g = absurd (other k refl)
-gone_known w f a b c (Pair zero) h other g = absurd (cc)
-gone_known w f a b c (Pair (suc j)) h other g = absurd (cc)

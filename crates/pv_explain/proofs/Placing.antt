@@ -99,6 +99,37 @@ join_axiom w s level bs j n ns list h e f = by h.ctx h.before h.place h.ground
     by ctx before place (JoinGround.by_induction _ _ _ _ m b why at_m there g) = absurd (let z = sym why ∙ e in cc)
     by ctx before place (JoinGround.by_pair d pairs outer _ _ _ i why at_i) = absurd (let z = sym why ∙ e in cc)
 
+-- ---- a join by an induction
+
+-- the block that it cites, which has its ground there
+pub record HasBlock (w : Written) (s : Source) (level : Level) (bs : List Block) (n : ℕ) (j : Join) : Type 0 where
+  pub b : Block
+  pub there : slice_get bs n ≡ Some b
+  pub pair : Contains (pairs_of b) (j.first, j.second)
+  pub stands : BlockStands w s level b
+
+pub join_block : (w : Written) (s : Source) (level : Level) (bs : List Block) (j : Join) (n : ℕ) → JoinStands w s level bs j → j.why ≡ reason.Induction n → HasBlock w s level bs n j
+join_block w s level bs j n h e = by h.ctx h.before h.place h.ground
+  where
+    by : (ctx : Context) (before : List Join) → IsPlace w s level h.assumed ctx before → JoinGround s.graph.now.nodes (IsGiven s.graph.now h.assumed) ctx before bs j → HasBlock w s level bs n j
+    by ctx before place (JoinGround.by_axiom _ _ _ m ms why given) = absurd (let z = sym why ∙ e in cc)
+    by ctx before place (JoinGround.by_kids _ _ _ _ k) = absurd (let z = sym k.why ∙ e in cc)
+    by ctx before place (JoinGround.by_induction _ _ _ _ m b why at_m there g) =
+        let z : reason.Induction m ≡ reason.Induction n = sym why ∙ e in
+        let p : m ≡ n = cc in
+        record { b = b; there = subst (λ (k : ℕ). slice_get bs k ≡ Some b) p at_m; pair = there; stands = record { assumed = h.assumed; ctx = ctx; before = before; place = place; ground = g } }
+    by ctx before place (JoinGround.by_pair d pairs outer _ _ _ i why at_i) = absurd (let z = sym why ∙ e in cc)
+
+-- each block is no greater than all
+pub size_in : (bs : List Block) (n : ℕ) (b : Block) → slice_get bs n ≡ Some b → size_of b ≤ size_of_all (blocks_of bs)
+size_in [] n b e = absurd (cc)
+size_in (c ∷ bs) zero b e = let z = ap size_of (same_Some c b e) in omega (arith, z)
+size_in (c ∷ bs) (suc n) b e = let z = size_in bs n b e in omega (arith, z)
+
+-- the blocks inside a block are smaller
+pub size_inside : (b : Block) (bs : List Block) → blocks_of bs ≡ inner_of b → suc (size_of_all (blocks_of bs)) ≡ size_of b
+size_inside (block d pairs joins inner) bs e = let z = ap size_of_all e in omega (arith, z)
+
 -- ---- a join by a pair of the innermost induction
 
 pub join_pair : (w : Written) (s : Source) (level : Level) (bs : List Block) (j : Join) (n : ℕ) → JoinStands w s level bs j → j.why ≡ reason.Pair n → (l : Line) × IsFound level.known.items j.first j.second l
@@ -272,6 +303,11 @@ both_stated w map (x ∷ xs) ys h k (suc j) l e = both_stated w map xs ys (λ i 
 pub learns_more : (w : Written) (s : Source) (old new : Level) (more : List Line) → new.forest ≡ old.forest → new.lines.items ≡ old.lines.items → new.known.items ≡ old.known.items ++ more → AreStated w s.map.now old.known.items → AreStated w s.map.now more → LearnsAt w s old new
 learns_more w s old new more e f g h k = record { forest_ = e; lines = f; more = more; known_ = g; stated = subst (AreStated w s.map.now) (sym g) (both_stated w s.map.now old.known.items more h k) }
 
+-- a line was stated, and the level is as it was
+pub learns_where_ok : {T E : Type 0} → (old new : Written) (s : Source) (level : Level) (r : Result T E) → AreStated old s.map.now level.known.items → IfOk r (λ l. GoesOn old new) → OnOk r (LearnsAt new s level level)
+learns_where_ok old new s level (Ok l) stated goes = learns_none new s level (stated_goes old new s.map.now level.known.items goes stated)
+learns_where_ok old new s level (Err e) stated goes = tt
+
 -- ---- as the loop over joins has it
 
 pub joins_at : (w : Written) (s : Source) (level : Level) (bs : List Block) (joins : List Join) (i : ℕ) (j : Join) → i < length joins → j ≡ get_or joins i j → JoinsStand w s level bs (drop i joins) → JoinsStand w s level bs (j ∷ drop (i + 1) joins)
@@ -297,9 +333,6 @@ line_low old new s level bs joins a b l h goes line =
     let n = h.place.lines.nodes_ in
     (omega (arith, p, n), omega (arith, q, n))
 
-pub learns_here : (old new : Written) (s : Source) (level : Level) (bs : List Block) (joins : List Join) → JoinsStand old s level bs joins → GoesOn old new → LearnsAt new s level level
-learns_here old new s level bs joins h goes = learns_none new s level (stated_goes old new s.map.now level.known.items goes h.place.known)
-
 -- ---- a level again
 
 -- what reads past the end of a list
@@ -311,39 +344,3 @@ pub lines_low : (w : Written) (s : Source) (level : Level) → IsSource w s → 
 lines_low w s level source h l c =
     let k = h.stated c.0 l (at_index level.lines.items c.0 l c.1 (sym c.2)) in
     (copied_low s.graph.now w.graph s.map.now l.first l.left source.copies k.left, copied_low s.graph.now w.graph s.map.now l.second l.right source.copies k.right)
-
--- ---- a join by an induction
-
--- the block that it cites, which has its ground there
-pub record HasBlock (w : Written) (s : Source) (level : Level) (bs : List Block) (n : ℕ) (j : Join) : Type 0 where
-  pub b : Block
-  pub there : slice_get bs n ≡ Some b
-  pub pair : Contains (pairs_of b) (j.first, j.second)
-  pub stands : BlockStands w s level b
-
-pub join_block : (w : Written) (s : Source) (level : Level) (bs : List Block) (j : Join) (n : ℕ) → JoinStands w s level bs j → j.why ≡ reason.Induction n → HasBlock w s level bs n j
-join_block w s level bs j n h e = by h.ctx h.before h.place h.ground
-  where
-    by : (ctx : Context) (before : List Join) → IsPlace w s level h.assumed ctx before → JoinGround s.graph.now.nodes (IsGiven s.graph.now h.assumed) ctx before bs j → HasBlock w s level bs n j
-    by ctx before place (JoinGround.by_axiom _ _ _ m ms why given) = absurd (let z = sym why ∙ e in cc)
-    by ctx before place (JoinGround.by_kids _ _ _ _ k) = absurd (let z = sym k.why ∙ e in cc)
-    by ctx before place (JoinGround.by_induction _ _ _ _ m b why at_m there g) =
-        let z : reason.Induction m ≡ reason.Induction n = sym why ∙ e in
-        let p : m ≡ n = cc in
-        record { b = b; there = subst (λ (k : ℕ). slice_get bs k ≡ Some b) p at_m; pair = there; stands = record { assumed = h.assumed; ctx = ctx; before = before; place = place; ground = g } }
-    by ctx before place (JoinGround.by_pair d pairs outer _ _ _ i why at_i) = absurd (let z = sym why ∙ e in cc)
-
--- each block is no greater than all
-pub size_in : (bs : List Block) (n : ℕ) (b : Block) → slice_get bs n ≡ Some b → size_of b ≤ size_of_all (blocks_of bs)
-size_in [] n b e = absurd (cc)
-size_in (c ∷ bs) zero b e = let z = ap size_of (same_Some c b e) in omega (arith, z)
-size_in (c ∷ bs) (suc n) b e = let z = size_in bs n b e in omega (arith, z)
-
--- the blocks inside a block are smaller
-pub size_inside : (b : Block) (bs : List Block) → blocks_of bs ≡ inner_of b → suc (size_of_all (blocks_of bs)) ≡ size_of b
-size_inside (block d pairs joins inner) bs e = let z = ap size_of_all e in omega (arith, z)
-
--- a line was stated, and the level is as it was
-pub learns_where_ok : {T E : Type 0} → (old new : Written) (s : Source) (level : Level) (r : Result T E) → AreStated old s.map.now level.known.items → IfOk r (λ l. GoesOn old new) → OnOk r (LearnsAt new s level level)
-learns_where_ok old new s level (Ok l) stated goes = learns_none new s level (stated_goes old new s.map.now level.known.items goes stated)
-learns_where_ok old new s level (Err e) stated goes = tt

@@ -1,13 +1,13 @@
 -- Thetas at iteration 0, and one iteration later; and the pairs of an induction, as they are stated outside its block and inside.
 use Rattle.std.specs.Prelude.{◌≡◌, ℕ, suc, true, List, [], ◌∷◌, length, Some, slice_get}
-use Rattle.std.specs.List.{Contains, AllZip}
+use Rattle.std.specs.List.{AllZip}
 use Rattle.pv_graph.specs.declared.node.Op.TheVariants as op
 use Rattle.pv_graph.specs.declared.node.OpSort.{OpSort}
 use Rattle.pv_graph.specs.declared.node.OpSort.TheVariants as sort
 use Rattle.pv_graph.specs.declared.node.Node.{Node}
 use Rattle.pv_graph.specs.Ops.{is_depth, but_root}
 use Rattle.pv_steps.specs.declared.step.Fact.{Fact}
-use Rattle.pv_steps.specs.Steps.{Loop, OpenBlock, outer_of, blocks, Shows}
+use Rattle.pv_steps.specs.Steps.{Loop, OpenBlock, outer_of, Shows}
 use Rattle.pv_classes.specs.Blocks.{Block}
 use Rattle.pv_classes.specs.Closest.{Is}
 use Rattle.pv_classes.specs.Grounds.{Context, BlockGround}

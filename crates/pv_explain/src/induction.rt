@@ -181,11 +181,7 @@ fn copies_of_pairs(alloc: Global, begun: &[Begun]) -> Result<Vec<(NodeId, NodeId
 // ---- the block is opened
 
 // Opens an induction, and gives the number of the step.
-fn push_open(
-    writer: &mut Writer,
-    depth: u32,
-    pairs: Vec<(NodeId, NodeId)>,
-) -> Result<u32, Memory>
+fn push_open(writer: &mut Writer, depth: u32, pairs: Vec<(NodeId, NodeId)>) -> Result<u32, Memory>
     requires { RightOver Instance writer.old.graph writer.old.before (Step.Open depth pairs.items) }
     ensures { IfOk result (λ step. Pushed writer.old writer.new (Step.Open depth pairs.items) step) }
 {
@@ -260,11 +256,7 @@ fn all_next_facts(
 }
 
 // Ends an induction, and gives the number of the step.
-fn push_close(
-    writer: &mut Writer,
-    depth: u32,
-    facts: Vec<(Fact, Fact)>,
-) -> Result<u32, Memory>
+fn push_close(writer: &mut Writer, depth: u32, facts: Vec<(Fact, Fact)>) -> Result<u32, Memory>
     requires { RightOver Instance writer.old.graph writer.old.before (Step.Close depth facts.items) }
     ensures { IfOk result (λ step. Pushed writer.old writer.new (Step.Close depth facts.items) step) }
 {

@@ -20,6 +20,7 @@ use std::alloc::Global;
 
 // The axioms of a theta: at iteration 0 it is its first kid, and one iteration later its second.
 const AT_ZERO: u32 = 301;
+
 const ONE_LATER: u32 = 303;
 
 // A theta of a search with its kids, its copy, and what is stated of the copy: it is the copy of the first kid at
@@ -60,12 +61,7 @@ fn eval_node(
 }
 
 // A node one iteration of a depth later.
-fn shift_node(
-    alloc: Global,
-    writer: &mut Writer,
-    depth: u32,
-    a: NodeId,
-) -> Result<NodeId, Memory>
+fn shift_node(alloc: Global, writer: &mut Writer, depth: u32, a: NodeId) -> Result<NodeId, Memory>
     requires kids { AreNodes writer.old.graph (a ∷ []) }
     requires fits { FitsOver writer.old.graph (Op.Shift depth) (a ∷ []) }
     ensures { IfOk result (λ n. HasNode writer.old writer.new (Op.Shift depth) (a ∷ []) n) }

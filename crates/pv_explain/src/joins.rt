@@ -21,7 +21,7 @@ use pv_writer::Writer;
 use std::alloc::Global;
 
 // The block with this number.
-fn block_at<'a>(blocks: &'a [Block], n: u32) -> &'a Block
+fn block_at(blocks: &[Block], n: u32) -> &Block
     requires { n < length blocks.now }
     ensures { slice_get blocks.now n ≡ Some result.now }
 {

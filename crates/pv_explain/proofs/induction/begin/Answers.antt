@@ -1,6 +1,6 @@
 use Rattle.std.specs.List.{AllZip, Contains}
 use Rattle.std.proofs.Common.{ℕ, List, sym, subst}
-use Rattle.pv_steps.specs.Steps.{OpenBlock, blocks}
+use Rattle.pv_steps.specs.Steps.{blocks}
 use Rattle.pv_steps.specs.Right.{IsFresh}
 use Rattle.pv_classes.specs.Blocks.{depth_of}
 use Rattle.pv_writer.specs.Written.{inside}
@@ -8,7 +8,7 @@ use Rattle.pv_writer.proofs.Pushing.{goes_trans}
 use Rattle.pv_explain.specs.Iterations.{IsBegun, MayBegin}
 use Rattle.pv_explain.proofs.Copying.{source_later}
 use Rattle.pv_explain.proofs.Congruent.{level_goes}
-use Rattle.pv_explain.proofs.Beginning.{block_begin, block_fresh}
+use Rattle.pv_explain.proofs.Beginning.{block_begin, block_fresh, fresh_goes}
 use Rattle.pv_explain.proofs.induction.begin.Goals as goal
 
 pub begin_pairs-requires-clause-source : goal.begin_pairs-requires-clause-source
@@ -24,7 +24,7 @@ begin_pairs-requires-clause-pairs c =
 pub begin_pairs-requires-clause-fresh : goal.begin_pairs-requires-clause-fresh
 begin_pairs-requires-clause-fresh c =
     subst (λ (d : ℕ). IsFresh d (blocks (inside c.zero_node.new.writer))) (sym c.depth.ensures)
-    (subst (λ (ps : List OpenBlock). IsFresh (depth_of c.args.block.now) (blocks ps)) (sym c.in_ok-zero.ensures.goes.blocks) (block_fresh c.args.writer.now c.args.source.now c.args.level.now c.args.block.now c.requires))
+    (fresh_goes c.args.writer.now c.zero_node.new.writer (depth_of c.args.block.now) c.in_ok-zero.ensures.goes (block_fresh c.args.writer.now c.args.source.now c.args.level.now c.args.block.now c.requires))
 
 pub returns-clause-begun : goal.returns-clause-begun
 returns-clause-begun c =

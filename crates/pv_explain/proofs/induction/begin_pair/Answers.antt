@@ -1,11 +1,8 @@
-use Rattle.std.proofs.Common.{List, sym, subst}
-use Rattle.pv_steps.specs.Steps.{OpenBlock, blocks}
-use Rattle.pv_steps.specs.Right.{IsFresh}
 use Rattle.pv_writer.proofs.Pushing.{goes_trans}
 use Rattle.pv_explain.proofs.Copying.{source_later}
 use Rattle.pv_explain.proofs.Congruent.{level_goes}
 use Rattle.pv_explain.proofs.Iterating.{unrolled_goes, zero_later}
-use Rattle.pv_explain.proofs.Beginning.{begin_linked, begin_theta, congruent_starts}
+use Rattle.pv_explain.proofs.Beginning.{begin_linked, begin_theta, congruent_starts, fresh_goes}
 use Rattle.pv_explain.proofs.induction.begin_pair.Goals as goal
 
 pub unroll-requires-clause-theta : goal.unroll-requires-clause-theta
@@ -40,7 +37,7 @@ equal_at_zero-requires c =
     congruent_starts c.kid_reason.new.writer c.args.source.now c.args.depth c.args.zero c.args.pair.0 c.args.pair.1 c.in_ok-left.left c.in_ok-right.right c.in_ok-why.why
     (unrolled_goes c.unroll.new.writer c.kid_reason.new.writer c.args.source.now c.args.depth c.args.zero c.args.pair.0 c.in_ok-left.left later c.in_ok-left.ensures.unrolled)
     (unrolled_goes c.unroll-2.new.writer c.kid_reason.new.writer c.args.source.now c.args.depth c.args.zero c.args.pair.1 c.in_ok-right.right c.in_ok-why.ensures.goes c.in_ok-right.ensures.unrolled) c.in_ok-why.ensures.reason
-    (subst (λ (ps : List OpenBlock). IsFresh c.args.depth (blocks ps)) (sym goes.blocks) c.requires.fresh)
+    (fresh_goes c.args.writer.now c.kid_reason.new.writer c.args.depth goes c.requires.fresh)
 
 pub meet-requires-clause-left : goal.meet-requires-clause-left
 meet-requires-clause-left c =

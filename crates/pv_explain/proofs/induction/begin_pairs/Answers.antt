@@ -1,8 +1,6 @@
 use Rattle.std.specs.List.{AllZip}
 use Rattle.std.proofs.Math.ListN.{get_or}
 use Rattle.std.proofs.Common.{ℕ, List, ◌∷◌, ◌++◌, [], sym, subst, take, take_all}
-use Rattle.pv_steps.specs.Steps.{OpenBlock, blocks}
-use Rattle.pv_steps.specs.Right.{IsFresh}
 use Rattle.pv_writer.specs.Written.{inside}
 use Rattle.pv_writer.proofs.Pushing.{goes_refl, goes_trans}
 use Rattle.pv_explain.specs.declared.induction.Begun.{Begun}
@@ -10,7 +8,7 @@ use Rattle.pv_explain.specs.Iterations.{IsBegun}
 use Rattle.pv_explain.proofs.Copying.{source_later}
 use Rattle.pv_explain.proofs.Congruent.{level_goes}
 use Rattle.pv_explain.proofs.Iterating.{zero_later}
-use Rattle.pv_explain.proofs.Beginning.{all_begun_goes, read_in, take_at, zip_push}
+use Rattle.pv_explain.proofs.Beginning.{all_begun_goes, fresh_goes, read_in, take_at, zip_push}
 use Rattle.pv_explain.proofs.induction.begin_pairs.Goals as goal
 
 pub loop-pair-init : goal.loop-pair-init
@@ -31,7 +29,7 @@ pub begin_pair-requires-clause-pair : goal.begin_pair-requires-clause-pair
 begin_pair-requires-clause-pair c = c.requires.pairs (get_or c.args.pairs.now c.loop-pair.pair-index (0, 0)) (read_in c.args.pairs.now c.loop-pair.pair-index (0, 0) c.loop-pair-test.true)
 
 pub begin_pair-requires-clause-fresh : goal.begin_pair-requires-clause-fresh
-begin_pair-requires-clause-fresh c = subst (λ (ps : List OpenBlock). IsFresh c.args.depth (blocks ps)) (sym c.loop-pair.invariant.goes.blocks) c.requires.fresh
+begin_pair-requires-clause-fresh c = fresh_goes c.args.writer.now c.loop-pair.writer c.args.depth c.loop-pair.invariant.goes c.requires.fresh
 
 pub loop-pair-preserved : goal.loop-pair-preserved
 loop-pair-preserved c =

@@ -112,7 +112,7 @@ pub state_pair-returns-clause-learns : goal.state_pair-returns-clause-learns
 state_pair-returns-clause-learns t c =
     let old = c.args.level.now in
     learns_more c.state_block.new.writer c.args.source.now old c.learn.new.self c.in_ok-lines.lines.items c.in_ok-learn.ensures.forest c.in_ok-learn.ensures.lines
-    (c.in_ok-learn.ensures.known ∙ ap (λ (ls : List Line). old.known.items ++ ls) c.deref-2.ensures.value)
+    (subst (λ (ls : List Line). c.learn.new.self.known.items ≡ old.known.items ++ ls) c.deref-2.ensures.value c.in_ok-learn.ensures.known)
     (stated_goes c.args.writer.now c.state_block.new.writer c.args.source.now.map.now old.known.items c.in_ok-lines.ensures.goes c.requires.stands.place.known) c.in_ok-lines.ensures.stated
 
 pub state_pair-returns-clause-goes : goal.state_pair-returns-clause-goes

@@ -1,4 +1,4 @@
-use Rattle.std.proofs.Common.{ℕ, ◌+◌, ◌*◌, drop, take}
+use Rattle.std.proofs.Common.{◌+◌, ◌*◌, drop, take}
 use Rattle.pv_classes.specs.Blocks.{blocks_of, size_of, size_of_all}
 use Rattle.pv_writer.specs.Written.{GoesOn}
 use Rattle.pv_explain.specs.Levels.{GrowsAt, JoinsStand}

@@ -1,5 +1,5 @@
 use Rattle.std.proofs.Math.ListN.{get_or}
-use Rattle.std.proofs.Common.{◌≡◌, ◌∷◌, ◌++◌, [], ◌∙◌, ℕ, ◌<◌, List, ap, sym, subst, take, take_all}
+use Rattle.std.proofs.Common.{◌∷◌, ◌++◌, [], ◌∙◌, ℕ, ◌<◌, List, ap, sym, subst, take, take_all}
 use Rattle.pv_paths.specs.Paths.{Joined}
 use Rattle.pv_explain.specs.declared.follow.Line.{Line}
 use Rattle.pv_explain.specs.Lines.{sides}

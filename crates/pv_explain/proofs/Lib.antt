@@ -14,6 +14,10 @@ mod Placing
 mod Inductions
 -- 8. The whole section.
 mod Concluding
--- 9. More axioms keep the grounds of joins; what other crates cite.
+-- 9. Reasons for pairs of nodes.
+mod Pairing
+-- 10. Ending blocks.
+mod EndingBlocks
+-- 11. More axioms keep the grounds of joins; what other crates cite.
 mod Giving
 pub mod Cited

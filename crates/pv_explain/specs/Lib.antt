@@ -5,3 +5,5 @@ pub mod Sections
 pub mod Copying
 pub mod Lines
 pub mod Levels
+pub mod Pairs
+pub mod Endings

@@ -4,7 +4,6 @@ ghost use Rattle.std.specs.Prelude.{IfOk, OnOk};
 ghost use Rattle.pv_writer.specs.Written.{GoesOn};
 ghost use Rattle.pv_explain.specs.Lines.{IsLineOf};
 ghost use Rattle.pv_explain.specs.Levels.{GrowsAt, JoinStands, JoinsStand};
-ghost use Rattle.pv_explain.specs.Sections.{HaveNoInduction, IsNoInduction};
 
 use crate::axiom::state_axiom;
 use crate::follow::Line;
@@ -26,7 +25,6 @@ fn state_join(
     join: &Join,
 ) -> Result<Line, Memory>
     requires stands { JoinStands writer.old source.now level.now blocks.now join.now }
-    requires plain { IsNoInduction join.now }
     ensures line { IfOk result (λ line. IsLineOf writer.new source.now.map.now join.now.first join.now.second line) }
     ensures goes { IfOk result (λ line. GoesOn writer.old writer.new) }
 {
@@ -52,7 +50,6 @@ pub(crate) fn state_joins(
     joins: &[Join],
 ) -> Result<(), Memory>
     requires stand { JoinsStand writer.old source.now level.old blocks.now joins.now }
-    requires plain { HaveNoInduction joins.now }
     ensures level { OnOk result (GrowsAt writer.new source.now level.old level.new joins.now) }
     ensures goes { OnOk result (GoesOn writer.old writer.new) }
 {

@@ -10,7 +10,6 @@ state_joins-requires c = record {
       first_place c.args.writer.now c.args.source.now c.in_ok-level.level c.args.search.now.blocks.now c.args.search.now.joins.now c.requires.source (outside_at c.args.writer.now c.args.source.now c.args.search.now c.requires.graph c.requires.outside)
       (c.in_ok-level.ensures.nodes ∙ c.len.ensures.len) c.in_ok-level.ensures.ends c.in_ok-level.ensures.lines c.in_ok-level.ensures.known
       (grounds_at c.args.source.now c.args.search.now (assumed_in (inside c.args.writer.now)) c.requires.graph c.requires.grounds);
-  plain = c.requires.plain;
 }
 
 pub returns-clause-lines : goal.returns-clause-lines

@@ -1,4 +1,4 @@
-use Rattle.std.proofs.Common.{◌+◌, ◌∷◌, sym, subst, drop, take, take_all}
+use Rattle.std.proofs.Common.{◌+◌, ◌∷◌, subst, drop, take, take_all}
 use Rattle.pv_writer.proofs.Pushing.{goes_refl, goes_trans}
 use Rattle.pv_explain.specs.Levels.{GrowsAt}
 use Rattle.pv_explain.proofs.Placing.{IsPushed, first_stands, grows_next, grows_none, joins_at, learns_here, line_low, rest_stand, take_next}
@@ -12,7 +12,6 @@ state_join-requires c = record {
   stands =
       first_stands c.loop-join.writer c.args.source.now c.loop-join.level c.args.blocks.now c.join-item.result (drop (c.loop-join.join-index + 1) c.args.joins.now)
       (joins_at c.loop-join.writer c.args.source.now c.loop-join.level c.args.blocks.now c.args.joins.now c.loop-join.join-index c.join-item.result c.loop-join-test.true c.join-item.is c.loop-join.invariant.stand);
-  plain = c.requires.plain c.join-item.result (c.loop-join.join-index, c.loop-join-test.true, sym c.join-item.is);
 }
 
 pub push-requires-clause-first : goal.push-requires-clause-first

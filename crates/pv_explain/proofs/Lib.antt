@@ -18,6 +18,10 @@ mod Iterating
 mod Beginning
 -- 10. The whole section.
 mod Concluding
--- 11. More axioms keep the grounds of joins; what other crates cite.
+-- 11. Reasons for pairs of nodes.
+mod Pairing
+-- 12. Ending blocks.
+mod EndingBlocks
+-- 13. More axioms keep the grounds of joins; what other crates cite.
 mod Giving
 pub mod Cited

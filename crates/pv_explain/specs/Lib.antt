@@ -6,3 +6,5 @@ pub mod Copying
 pub mod Lines
 pub mod Levels
 pub mod Iterations
+pub mod Pairs
+pub mod Endings

@@ -1,4 +1,4 @@
-//! A section for two nodes that joins link.
+//! What a search joined, explained, and a section for two nodes.
 
 ghost use Rattle.std.specs.Prelude.{◌≡◌, ◌≢◌, ◌<◌, [], false, IfOk, OnOk, length};
 ghost use Rattle.pv_graph.specs.Graphs.{IsGraph};
@@ -9,8 +9,9 @@ ghost use Rattle.pv_axioms.specs.Entries.{Instance};
 ghost use Rattle.pv_writer.specs.Written.{GoesOn, inside};
 ghost use Rattle.pv_explain.specs.Sections.{HasLinked, IsGrounded, IsGrown};
 ghost use Rattle.pv_explain.specs.Copying.{HasBase};
-ghost use Rattle.pv_explain.specs.Lines.{IsSource};
+ghost use Rattle.pv_explain.specs.Lines.{IsLevel, IsSource};
 ghost use Rattle.pv_explain.specs.Levels.{HasAll, HasLast, IsOutside};
+ghost use Rattle.pv_explain.specs.Pairs.{GiveEach, HasLinkedPairs, LinksPairs};
 
 use crate::copy::copy_nodes;
 use crate::joins::state_joins;
@@ -67,8 +68,58 @@ fn state_all(
     Ok(level)
 }
 
+// Why the two nodes of each pair are equal, in order.
+fn pair_reasons(
+    alloc: Global,
+    writer: &mut Writer,
+    source: &Source,
+    level: &Level,
+    pairs: &[(NodeId, NodeId)],
+) -> Result<Vec<Reason>, Memory>
+    requires source { IsSource writer.old source.now }
+    requires level { IsLevel writer.old source.now level.now }
+    requires linked { LinksPairs source.now level.now pairs.now }
+    ensures reasons { IfOk result (λ reasons. GiveEach writer.new reasons.items pairs.now) }
+    ensures goes { IfOk result (λ reasons. GoesOn writer.old writer.new) }
+{
+    let mut reasons = Vec::new(alloc);
+    for pair in pairs {
+        let why = kid_reason(alloc, writer, source, level, pair.0, pair.1)?;
+        reasons.push(why)?;
+    }
+    Ok(reasons)
+}
+
+// Why the two nodes of each pair are equal, in order. A search joined them: the steps that state it are written.
+pub(crate) fn explain_all(
+    alloc: Global,
+    writer: &mut Writer,
+    search: &Search,
+    base: u32,
+    pairs: &[(NodeId, NodeId)],
+) -> Result<Vec<Reason>, Memory>
+    requires made { IsGraph search.now.graph.now }
+    requires sealed { search.now.graph.now.is_open ≡ false }
+    requires base { base ≡ search.now.graph.now.base }
+    requires begins { HasBase writer.old search.now.graph.now }
+    requires outside { IsOutside writer.old search.now.graph.now }
+    requires grounds { IsGrounded search.now (assumed_in (inside writer.old)) }
+    requires linked { HasLinkedPairs search.now pairs.now }
+    ensures reasons { IfOk result (λ reasons. GiveEach writer.new reasons.items pairs.now) }
+    ensures goes { IfOk result (λ reasons. GoesOn writer.old writer.new) }
+{
+    let map = copy_nodes(alloc, writer, search.graph, base)?;
+    let source = Source {
+        graph: search.graph,
+        map: &map,
+    };
+    let level = state_all(alloc, writer, &source, search)?;
+    let reasons = pair_reasons(alloc, writer, &source, &level, pairs)?;
+    Ok(reasons)
+}
+
 // Why two nodes of the base are equal that a search joined: the steps that state it are written.
-fn explain(
+pub(crate) fn explain(
     alloc: Global,
     writer: &mut Writer,
     search: &Search,
@@ -88,19 +139,12 @@ fn explain(
     ensures reason { IfOk result (λ why. Gives writer.new.before (inside writer.new) [] why a b) }
     ensures goes { IfOk result (λ why. GoesOn writer.old writer.new) }
 {
-    let map = copy_nodes(alloc, writer, search.graph, base)?;
-    let source = Source {
-        graph: search.graph,
-        map: &map,
-    };
-    let level = state_all(alloc, writer, &source, search)?;
-    let why = kid_reason(alloc, writer, &source, &level, a, b)?;
-    Ok(why)
+    let reasons = explain_all(alloc, writer, search, base, &[(a, b)])?;
+    Ok(reasons[0])
 }
 
 /// The steps of a section over a sealed graph that derive that two of its nodes are equal, which a search joined in a
-/// graph that grew from it. Each join has its ground: an axiom with no node assumed to end, or kids. Out of memory is the one
-/// error.
+/// graph that grew from it. Each join has its ground, where no node is assumed to end. Out of memory is the one error.
 pub fn section(
     alloc: Global,
     least: &Graph,

@@ -1,23 +1,29 @@
 //! From joins to a section of a certificate.
 //!
 //! This layer stands on `pv_classes`, which says what joins and blocks rest on (`JoinsGround`), on `pv_paths` for paths
-//! through joins, and on `pv_writer`, which takes right steps alone. The definition that it meets is `Derives` of `pv_steps`.
+//! through joins, on `pv_endings` for the kids of a root and the nodes that it waits for, and on `pv_writer`, which takes right
+//! steps alone. The definition that it meets is `Derives` of `pv_steps`.
 //!
 //! A certificate has a graph of its own, into which the nodes of the search are copied (`copy_nodes`; `specs/Copies`).
 //! For each join a line says by which fact the copies of its two nodes are equal (`specs/Lines`). A line is stated
-//! by an axiom, or by the kids, which earlier lines link. Lines on a path are put together by flips and chains. A level is the outside of all inductions, or the inside of one, with the lines of its joins (`specs/Levels`).
+//! by an axiom, or by the kids, which earlier lines link. Lines on a path are put together by flips and chains. A level is the outside
+//! of all inductions, or the inside of one, with the lines of its joins (`specs/Levels`). `explain_all` copies the nodes of a search and
+//! states its joins once, and gives a reason for each pair of nodes that is asked for (`specs/Pairs`).
 //!
 //! A join by an induction cites a block. Outside the block each of its pairs is stated at iteration 0; inside it, where the
 //! pairs are known, its joins have lines of their own, and so has each pair one iteration later (`specs/Iterations`). The
 //! block is written once at a level, for all its pairs. Blocks may lie in blocks: joins and blocks are stated by
 //! functions that call each other, down to the innermost block.
 //!
-//! The layer above uses `section`: a search that joined two nodes gives a section that derives their equality (`specs/Sections`).
+//! The layer above uses two calls (`specs/Sections`). `section`: a search that joined two nodes gives a section that derives their
+//! equality. `ending_section`: two searches joined the kids of two roots, a plain one the tokens and one with endings the others. They
+//! give a section that derives that the roots are equal, with an ending block (`specs/Endings`).
 #![tactic(auto)]
 
 mod axiom;
 mod conclude;
 mod copy;
+mod ending;
 mod follow;
 mod induction;
 mod iteration;
@@ -27,4 +33,5 @@ mod level;
 mod source;
 
 pub use conclude::section;
+pub use ending::{BothSearches, RootPair, ending_section};
 pub use source::Search;

@@ -1,0 +1,30 @@
+use Rattle.std.proofs.Common.{ℕ, List, length, sym, subst}
+use Rattle.pv_writer.proofs.Pushing.{goes_trans}
+use Rattle.pv_explain.specs.Copying.{AreFirstCopies}
+use Rattle.pv_explain.proofs.Copying.{source_later}
+use Rattle.pv_explain.proofs.Concluding.{outside_goes}
+use Rattle.pv_explain.proofs.Pairing.{links_pairs}
+use Rattle.pv_explain.proofs.conclude.explain_all.Goals as goal
+
+pub state_all-requires-clause-source : goal.state_all-requires-clause-source
+state_all-requires-clause-source c =
+    let g = c.args.search.now.graph.now in
+    let h = subst (λ (m : List ℕ). AreFirstCopies c.copy_nodes.new.writer g (length g.nodes) m) (sym c.deref.ensures.value) c.in_ok-map.ensures.copies in
+    record { made = c.requires.made; sealed = c.requires.sealed; copies = h.copies; full = h.all }
+
+pub state_all-requires-clause-outside : goal.state_all-requires-clause-outside
+state_all-requires-clause-outside c = outside_goes c.args.writer.now c.copy_nodes.new.writer c.args.search.now.graph.now c.in_ok-map.ensures.goes c.requires.outside
+
+pub pair_reasons-requires-clause-source : goal.pair_reasons-requires-clause-source
+pair_reasons-requires-clause-source c =
+    let g = c.args.search.now.graph.now in
+    let h = subst (λ (m : List ℕ). AreFirstCopies c.copy_nodes.new.writer g (length g.nodes) m) (sym c.deref.ensures.value) c.in_ok-map.ensures.copies in
+    source_later c.copy_nodes.new.writer c.state_all.new.writer (record { graph = c.args.search.now.graph; map = c.deref.result }) c.in_ok-level.ensures.goes.later
+    (record { made = c.requires.made; sealed = c.requires.sealed; copies = h.copies; full = h.all })
+
+pub pair_reasons-requires-clause-linked : goal.pair_reasons-requires-clause-linked
+pair_reasons-requires-clause-linked c = links_pairs c.args.search.now c.deref.result c.in_ok-level.level c.args.pairs.now c.requires.made c.in_ok-level.ensures.lines.ends c.requires.linked
+
+pub returns-clause-goes : goal.returns-clause-goes
+returns-clause-goes c =
+    goes_trans c.args.writer.now c.state_all.new.writer c.pair_reasons.new.writer (goes_trans c.args.writer.now c.copy_nodes.new.writer c.state_all.new.writer c.in_ok-map.ensures.goes c.in_ok-level.ensures.goes) c.in_ok-reasons.ensures.goes

@@ -70,6 +70,8 @@ pub fn answer<R: Files + Threads + Sync>(rt: &R, bench: &Bench, line: &str) -> A
         "run" => runs::running(rt, bench, rest),
         "validate" => runs::validation(rt, bench, rest),
         "one-line" => runs::one_line(rt, bench, rest),
+        "placed" => runs::placing(rt, bench, rest),
+        "certified" => runs::certified(rt, bench, rest),
 
         _ => Err(NoAnswer::Unreadable),
     }

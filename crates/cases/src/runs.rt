@@ -5,6 +5,8 @@
 //! | `run WORD ..; SETTING` | the status, what was sent, the calls that the store got, and whether it holds what it held |
 //! | `validate BYTES BYTES` | the status and what was sent, where the words are `validate A B` and these are the files A and B |
 //! | `one-line BYTES BYTES` | whether the status is at most 2 and what was sent is one line |
+//! | `placed NAME WORD ..; SETTING` | the status, the calls that the store got, and the text that it holds under the name afterwards |
+//! | `certified BYTES BYTES` | the statuses and what was sent, by `validate --cert C A B` and by `check A B C` after it |
 //!
 //! A WORD is `""` for the empty one. A SETTING is words `NAME=BYTES`, which are files, `fail=2,6`, the
 //! numbers of the calls that fail, and first `room=9`, the bytes that the sink has room for.
@@ -89,6 +91,15 @@ fn holds_file(bench: &Bench, files: &mut MemFiles, name: &str, bytes: &[u8]) -> 
     }
 }
 
+// A store that holds the files A and B.
+fn two_files(bench: &Bench, first: &str, second: &str) -> Result<MemFiles, NoAnswer> {
+    let alloc = bench.alloc();
+    let mut entries = Vec::new(alloc);
+    entries.push((Name::new(alloc, b"A")?, bench.bytes(first)?))?;
+    entries.push((Name::new(alloc, b"B")?, bench.bytes(second)?))?;
+    Ok(MemFiles::new(alloc, entries, Vec::new(alloc)))
+}
+
 // What a run over two files answers and sends.
 fn validated<R: Threads + Sync>(
     rt: &R,
@@ -100,10 +111,7 @@ fn validated<R: Threads + Sync>(
     let [first, second] = *words.as_slice() else {
         return Err(NoAnswer::Unreadable);
     };
-    let mut entries = Vec::new(alloc);
-    entries.push((Name::new(alloc, b"A")?, bench.bytes(first)?))?;
-    entries.push((Name::new(alloc, b"B")?, bench.bytes(second)?))?;
-    let mut files = MemFiles::new(alloc, entries, Vec::new(alloc));
+    let mut files = two_files(bench, first, second)?;
     let mut out = MemSink::new(alloc, ROOM)?;
     let command = ["validate", "A", "B"];
     let status = run(rt, alloc, &command, &mut files, &mut out, &OpenGate);
@@ -123,4 +131,54 @@ pub fn one_line<R: Threads + Sync>(rt: &R, bench: &Bench, rest: &str) -> Answer 
     let feeds = out.taken().iter().filter(|b| **b == b'\n').count();
     let is_one = status.number() <= 2 && feeds == 1 && out.taken().ends_with(b"\n");
     shown(bench.alloc(), is_one)
+}
+
+/// `placed NAME WORD ..; SETTING`
+pub fn placing<R: Threads + Sync>(rt: &R, bench: &Bench, rest: &str) -> Answer {
+    let alloc = bench.alloc();
+    let (name, rest) = rest.split_once(' ').ok_or(NoAnswer::Unreadable)?;
+    let (command, setting) = rest.split_once(';').ok_or(NoAnswer::Unreadable)?;
+    let command = command_words(alloc, command)?;
+    let setting = words(alloc, setting)?;
+    let (room, setting) = read_room(&setting)?;
+    let mut files = read_files(bench, setting)?;
+    let mut out = MemSink::new(alloc, room)?;
+    let status = run(rt, alloc, &command, &mut files, &mut out, &OpenGate);
+    let asked = asked_text(alloc, files.asked())?;
+    let held = match files.fetch(alloc, name, ROOM) {
+        Ok(bytes) => bytes,
+        Err(_) => Vec::new(alloc),
+    };
+    let text = str::from_utf8(&held).map_err(|_| NoAnswer::Unreadable)?;
+    Ok(format!(in alloc; "{status:?} {asked}; {text:?}")?)
+}
+
+/// `certified BYTES BYTES`
+pub fn certified<R: Threads + Sync>(rt: &R, bench: &Bench, rest: &str) -> Answer {
+    let alloc = bench.alloc();
+    let words = words(alloc, rest)?;
+    let [first, second] = *words.as_slice() else {
+        return Err(NoAnswer::Unreadable);
+    };
+    let mut files = two_files(bench, first, second)?;
+    let mut out = MemSink::new(alloc, ROOM)?;
+    let made = run(
+        rt,
+        alloc,
+        &["validate", "--cert", "C", "A", "B"],
+        &mut files,
+        &mut out,
+        &OpenGate,
+    );
+    let mut checked = MemSink::new(alloc, ROOM)?;
+    let seen = run(
+        rt,
+        alloc,
+        &["check", "A", "B", "C"],
+        &mut files,
+        &mut checked,
+        &OpenGate,
+    );
+    let (sent, said) = (sent_text(&out)?, sent_text(&checked)?);
+    Ok(format!(in alloc; "{made:?} {sent:?}; {seen:?} {said:?}")?)
 }

@@ -1,16 +1,18 @@
-//! The program: `punthizha validate A B` and `punthizha check A B CERT` over real files and standard output.
+//! The program: `punthizha validate [--rounds N] [--budget N] [--cert FILE] A B` and `punthizha check A B CERT` over real files and
+//! standard output.
 //!
 //! It hands the words of the command line after the program's name to `pv_top::run`, and exits with
 //! its status as a number.
 #![tactic(auto)]
 
-ghost use Rattle.std.specs.Prelude.{◌≡◌, ◌⊎◌, IfOk, List, None, Some, ℕ};
+ghost use Rattle.std.specs.Prelude.{◌≡◌, IfOk, List, Option, Some, ℕ};
 ghost use Rattle.punthizha.specs.CommandLine.{after_name, bytes_of};
 ghost use Rattle.pv_base.specs.Outside.{Rose};
-ghost use Rattle.pv_top.specs.Words.{IsCommand, first_of, second_of, texts};
+ghost use Rattle.pv_words.specs.Answers.{texts};
+ghost use Rattle.pv_top.specs.Words.{IsCommand, first_of, second_of};
 ghost use Rattle.pv_top.specs.declared.words.Command as commands;
 ghost use Rattle.pv_top.specs.Promise.{EachEquivalent};
-ghost use Rattle.pv_top.specs.Run.{Answered, CallsFor};
+ghost use Rattle.pv_top.specs.Run.{Answered, CallsFor, Leaves};
 
 use pv_base::{Files, HostFiles, HostSink, OpenGate, Sink};
 use pv_top::{Status, run};
@@ -55,9 +57,9 @@ fn run_words<R: AllocGlobal + Threads + Sync, F: Files, K: Sink>(
     out: &mut K,
 ) -> Status
     ensures equivalent { (c : commands.Command (List ℕ)) → IsCommand (after_name words.now) (Some c) → EachEquivalent (F.held files.old) (first_of c) (second_of c) (K.sent out.old) (K.sent out.new) }
-    ensures answered { (c : commands.Command (List ℕ)) → IsCommand (after_name words.now) (Some c) → Answered (F.held files.old) (Some c) (K.sent out.old) (K.sent out.new) (Rose (F.failures files.old) (F.failures files.new)) (Rose (K.failures out.old) (K.failures out.new)) result }
-    ensures asked { (c : commands.Command (List ℕ)) → IsCommand (after_name words.now) (Some c) → CallsFor (F.held files.old) (Some c) (F.asked files.old) (F.asked files.new) result }
-    ensures bad_words { IsCommand (after_name words.now) None → (result ≡ Status.Memory) ⊎ Answered (F.held files.old) None (K.sent out.old) (K.sent out.new) (Rose (F.failures files.old) (F.failures files.new)) (Rose (K.failures out.old) (K.failures out.new)) result }
+    ensures answered { (c : Option (commands.Command (List ℕ))) → IsCommand (after_name words.now) c → Answered (F.held files.old) c (K.sent out.old) (K.sent out.new) (Rose (F.failures files.old) (F.failures files.new)) (Rose (K.failures out.old) (K.failures out.new)) result }
+    ensures asked { (c : Option (commands.Command (List ℕ))) → IsCommand (after_name words.now) c → CallsFor (F.held files.old) c (F.asked files.old) (F.asked files.new) (Rose (K.failures out.old) (K.failures out.new)) result }
+    ensures held { (c : Option (commands.Command (List ℕ))) → IsCommand (after_name words.now) c → Leaves c (F.held files.old) (F.held files.new) result }
 {
     let Ok(borrowed) = borrowed(rt.alloc(), words) else {
         return Status::Memory;

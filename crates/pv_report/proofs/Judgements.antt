@@ -1,6 +1,7 @@
 -- What is said of two files that were fetched.
-use Rattle.std.proofs.Common.{◌≡◌, ℕ, List, Ok, Err, inl, inr, subst, sym}
+use Rattle.std.proofs.Common.{◌≡◌, ℕ, List, Some, Ok, Err, inl, inr, subst, sym}
 use Rattle.std.specs.List.{AllZip, flat_map}
+use Rattle.pv_cert.specs.declared.cert.Section.{Section}
 use Rattle.pv_class.specs.declared.fault.ClassFault.{ClassFault}
 use Rattle.pv_prove.specs.declared.outcome.Limits.{Limits}
 use Rattle.pv_report.specs.declared.pair.Fetched.{Fetched}
@@ -15,6 +16,8 @@ use Rattle.pv_report.specs.Verdicts.{IsVerdict}
 use Rattle.pv_report.specs.Lines.{bad_class, line_text}
 use Rattle.pv_report.specs.Report.{IsBadPair, IsReport, IsStatusOf, Judged, lines_of}
 use Rattle.pv_report.specs.Judging.{IsBadSide, JudgesFetched, ReadsPair}
+use Rattle.pv_report.specs.Shown.{IsSectionOf, equivalent_of}
+use Rattle.pv_report.specs.Proving.{ShowsFetched}
 
 -- one of the two files has no reading
 pub bad_pair : (a b : List ℕ) (s : Side) (f : ClassFault) (text : List ℕ) → IsBadSide a b s f → text ≡ bad_class s f → IsBadPair a b text
@@ -35,3 +38,14 @@ pub judges : (limits : Limits) (first second : Fetched) (pair : Pair) (verdicts 
 judges limits first second pair verdicts text s read each e is a b p q =
     let both = read a b p q in
     judged_by limits a b text verdicts s (record { first = pair.first; second = pair.second; first_is = both.0; second_is = both.1; each = each; text_is = e }) is
+
+-- a report is no bad class
+pub report_status : (verdicts : List Verdict) (s : Status) → IsStatusOf verdicts s → s ≡ status.BadClass → ⊥
+report_status verdicts s is e = subst (IsStatusOf verdicts) e is
+
+-- both have one, and these are the sections
+pub shows : (limits : Limits) (first second : Fetched) (pair : Pair) (verdicts : List Verdict) (sections : List Section) → ReadsPair first second (Ok pair) → AllZip (IsVerdict limits pair.first pair.second) pair.first.methods verdicts
+    → AllZip (IsSectionOf pair.first pair.second) (equivalent_of pair.first.methods verdicts) sections → ShowsFetched limits first second (Some sections)
+shows limits first second pair verdicts sections read each are a b p q =
+    let both = read a b p q in
+    record { first = pair.first; second = pair.second; first_is = both.0; second_is = both.1; verdicts = verdicts; each = each; sections_are = are }

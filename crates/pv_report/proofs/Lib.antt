@@ -3,6 +3,7 @@ pub mod Lists
 pub mod LineWords
 pub mod Partnering
 pub mod Searched
+pub mod Showing
 pub mod Judgements
 pub mod SameFlows
 pub mod SameMeanings

@@ -9,6 +9,7 @@ use Rattle.pv_value.specs.declared.memory.Memory.{Memory}
 use Rattle.pv_class.specs.declared.file.ClassFile.{ClassFile}
 use Rattle.pv_frame.specs.Programs.{is_instance}
 use Rattle.pv_prove.specs.declared.outcome.Limits.{Limits}
+use Rattle.pv_report.specs.declared.verdict.Judgement.{Judgement}
 use Rattle.pv_report.specs.declared.verdict.Verdict.{Verdict}
 use Rattle.pv_report.specs.declared.verdict.Verdict.TheVariants as verdict
 use Rattle.pv_report.specs.Verdicts.{LackRoots, IsVerdict, IsVerdictOn}
@@ -67,9 +68,10 @@ as_verdict limits f g m p verdict.Missing partner on = absurd on
 as_verdict limits f g m p _ partner on = (p, partner, on)
 
 -- the verdict on a method and its partner at their places is the verdict on the method
-pub verdict_at : (limits : Limits) (f g : ClassFile) (place other : ℕ) (m : Method) (r : Result Verdict Memory) → slice_get f.methods place ≡ Some m → IsLikeAt m g.methods other → IfOk r (λ v. IsVerdictOnPlaces limits f place g other v) → IfOk r (λ v. IsVerdictAt limits f place g v)
-verdict_at limits f g place other m (Ok v) here like h =
+pub verdict_at : (limits : Limits) (f g : ClassFile) (place other : ℕ) (m : Method) (r : Result Judgement Memory) → slice_get f.methods place ≡ Some m → IsLikeAt m g.methods other → IfOk r (λ x. IsVerdictOnPlaces limits f place g other x.verdict)
+    → IfOk r (λ x. IsVerdictAt limits f place g x.verdict)
+verdict_at limits f g place other m (Ok x) here like h =
     λ n at. let same = slice_once f.methods place m n here at in
-    subst (λ (x : Method). IsVerdict limits f g x v) same
-    (as_verdict limits f g m like.0 v (record { among = contains_here g.methods other like.0 like.1; like = like.2 }) (h m like.0 here like.1))
+    subst (λ (y : Method). IsVerdict limits f g y x.verdict) same
+    (as_verdict limits f g m like.0 x.verdict (record { among = contains_here g.methods other like.0 like.1; like = like.2 }) (h m like.0 here like.1))
 verdict_at limits f g place other m (Err e) here like h = tt

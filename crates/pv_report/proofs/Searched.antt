@@ -13,7 +13,7 @@ use Rattle.pv_prove.specs.declared.outcome.Limits.{Limits}
 use Rattle.pv_prove.specs.declared.outcome.Outcome.{Outcome}
 use Rattle.pv_prove.specs.declared.outcome.Outcome.TheVariants.{Met, Budget, Apart, Rounds}
 use Rattle.pv_prove.specs.Finding.{question, verdict_of, MetAreSame}
-use Rattle.pv_report.specs.declared.verdict.Verdict.{Verdict}
+use Rattle.pv_report.specs.declared.verdict.Judgement.{Judgement}
 use Rattle.pv_report.specs.declared.verdict.Verdict.TheVariants.{Equivalent}
 use Rattle.pv_report.specs.Verdicts.{Finds}
 use Rattle.pv_report.specs.Judging.{IsLeastOfSome, IsLeastOnPlaces, IsVerdictBy, IsVerdictOnPlaces, said_of}
@@ -38,8 +38,8 @@ least_graph l (g, a, b, is) = record {
 }
 
 -- the verdict by it is that on the methods
-pub on_places : (limits : Limits) (first second : ClassFile) (k j : ℕ) (l : Rooted) (r : Result Verdict Memory) → IsLeastOnPlaces first k second j (Ok l) → IfOk r (λ v. IsVerdictBy limits l v) → IfOk r (λ v. IsVerdictOnPlaces limits first k second j v)
-on_places limits first second k j l (Ok v) h by = λ m p here there. by first m second p (h m p here there)
+pub on_places : (limits : Limits) (first second : ClassFile) (k j : ℕ) (l : Rooted) (r : Result Judgement Memory) → IsLeastOnPlaces first k second j (Ok l) → IfOk r (λ f. IsVerdictBy limits l f.verdict) → IfOk r (λ f. IsVerdictOnPlaces limits first k second j f.verdict)
+on_places limits first second k j l (Ok f) h by = λ m p here there. by first m second p (h m p here there)
 on_places limits first second k j l (Err e) h by = tt
 
 -- ---- what a search finds

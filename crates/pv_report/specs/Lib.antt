@@ -6,5 +6,7 @@ pub mod Lines
 pub mod Listed
 pub mod Statuses
 pub mod Report
+pub mod Shown
 pub mod Judging
+pub mod Proving
 pub mod Laws

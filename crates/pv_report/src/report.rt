@@ -1,22 +1,28 @@
 //! What is said of two files.
 
-ghost use Rattle.std.specs.Prelude.{◌≡◌, ◌↔◌, length, map, IfOk, IsTrue};
+ghost use Rattle.std.specs.Prelude.{◌≡◌, ◌↔◌, ◌++◌, ◌∷◌, [], None, length, map, IfOk, OnOk, IsTrue};
 ghost use Rattle.std.specs.List.{AllZip, flat_map};
 ghost use Rattle.pv_axioms.specs.Entries.{axioms};
+ghost use Rattle.pv_cert.specs.Lines.{title_text};
 ghost use Rattle.pv_pattern.specs.Seen.{axiom_seen};
+ghost use Rattle.pv_token.specs.Spellings.{AreBytes};
 ghost use Rattle.pv_report.specs.Lines.{bad_class, line_text};
 ghost use Rattle.pv_report.specs.Report.{IsStatusOf, lines_of};
 ghost use Rattle.pv_report.specs.Verdicts.{IsVerdict};
 ghost use Rattle.pv_report.specs.Judging.{IsReadPair, JudgesFetched};
+ghost use Rattle.pv_report.specs.Proving.{ShowsFetched};
+ghost use Rattle.pv_report.specs.Shown.{IsSectionOf, equivalent_of, section_of, sections_for};
 
 use crate::line::{push_bad_class, push_line};
 use crate::pair::{BadClass, Fetched, Pair, read_pair};
 use crate::status::Status;
-use crate::verdict::{Verdict, verdict_on};
+use crate::verdict::{Detail, Judgement, Means, Verdict, judgement_on};
 use pv_base::Gate;
+use pv_cert::Section;
 use pv_class::Method;
-use pv_pattern::Axiom;
+use pv_list::Listed;
 use pv_prove::{Limits, all_axioms};
+use pv_steps::Step;
 use pv_value::Memory;
 use std::alloc::{AllocError, Global};
 
@@ -27,26 +33,61 @@ pub struct Answer {
     pub status: Status,
 }
 
+/// What is said of two files, and, where both are class files, the sections that show it.
+#[derive(Drop)]
+pub struct Report {
+    pub answer: Answer,
+    pub sections: Option<Listed<Section>>,
+}
+
 /// What is said of two files: a line for each method of the first, in its order, or one line on the first of the two that
-/// is no class file. The limit of the fetches is `LONGEST_FILE`. The gate is passed as `find` does, and changes no answer. Out of
+/// is no class file. Where steps are wanted, there is a section for each method that is equivalent to its partner, in the order of
+/// the lines. The limit of the fetches is `LONGEST_FILE`. The gate is passed as `find` does, and changes no answer. Out of
 /// memory is the one error.
 pub fn judge<G: Gate>(
     alloc: Global,
     gate: &G,
     limits: Limits,
+    detail: Detail,
     first: &Fetched,
     second: &Fetched,
-) -> Result<Answer, Memory>
-    ensures { IfOk result (λ answer. JudgesFetched limits first.now second.now answer.text.items answer.status) }
+) -> Result<Report, Memory>
+    ensures answer { IfOk result (λ report. JudgesFetched limits first.now second.now report.answer.text.items report.answer.status) }
+    ensures sections { IfOk result (λ report. detail ≡ Detail.Steps → ShowsFetched limits first.now second.now report.sections) }
+    ensures none { IfOk result (λ report. (report.sections ≡ None) ↔ (report.answer.status ≡ Status.BadClass)) }
 {
     let pair = match read_pair(alloc, first, second)? {
         Ok(pair) => pair,
-        Err(bad) => return Ok(bad_class(alloc, bad)?),
+        Err(bad) => {
+            let answer = bad_class(alloc, bad)?;
+            return Ok(Report {
+                answer,
+                sections: None,
+            });
+        }
     };
     let table = all_axioms(alloc)?;
-    let verdicts = verdicts(alloc, gate, &table, limits, &pair)?;
-    let text = lines(alloc, pair.first.methods.as_slice(), &verdicts)?;
-    let status = status_of(&verdicts);
+    let means = Means {
+        table: &table,
+        limits,
+        detail,
+    };
+    let judgements = judge_all(alloc, gate, means, &pair)?;
+    let answer = answer_of(alloc, pair.first.methods.as_slice(), &judgements.verdicts)?;
+    Ok(Report {
+        answer,
+        sections: Some(Listed::from(judgements.sections)),
+    })
+}
+
+// The lines of methods, each with its verdict, and the status.
+fn answer_of(alloc: Global, methods: &[Method], verdicts: &[Verdict]) -> Result<Answer, Memory>
+    requires { length verdicts.now ≡ length methods.now }
+    ensures text { IfOk result (λ answer. answer.text.items ≡ flat_map line_text (lines_of methods.now verdicts.now)) }
+    ensures status { IfOk result (λ answer. IsStatusOf verdicts.now answer.status) }
+{
+    let text = lines(alloc, methods, verdicts)?;
+    let status = status_of(verdicts);
     Ok(Answer { text, status })
 }
 
@@ -63,24 +104,68 @@ pub fn bad_class(alloc: Global, bad: BadClass) -> Result<Answer, AllocError>
     })
 }
 
-// The verdicts on the methods of the first class, in their order.
-fn verdicts<G: Gate>(
+// The verdicts on some methods, and the sections of those that are shown to be equivalent to their partners.
+#[derive(Drop)]
+struct Judgements {
+    verdicts: Vec<Verdict>,
+    sections: Vec<Section>,
+}
+
+impl Judgements {
+    // What is found of one method more.
+    fn push(&mut self, method: &Method, found: Judgement) -> Result<(), Memory>
+        ensures verdicts { OnOk result (self.new.verdicts.items ≡ self.old.verdicts.items ++ found.verdict ∷ []) }
+        ensures sections { OnOk result (self.new.sections.items ≡ self.old.sections.items ++ sections_for method.now found.steps) }
+        ensures title { title_text.fits (method.now.name, method.now.desc) }
+    {
+        law_bytes(method.name.bytes());
+        law_bytes(method.desc.bytes());
+        self.verdicts.push(found.verdict)?;
+        if let Some(steps) = found.steps {
+            self.sections.push(section_of(method, steps)?)?;
+        }
+        Ok(())
+    }
+}
+
+// What a slice of bytes holds are bytes: a law, for its caller's proof.
+fn law_bytes(bytes: &[u8])
+    ensures { AreBytes bytes.now }
+{}
+
+// The section of a method with these steps.
+fn section_of(method: &Method, steps: Listed<Step>) -> Result<Section, Memory>
+    ensures { IfOk result (λ section. section ≡ section_of method.now steps) }
+{
+    Ok(Section {
+        name: method.name.clone()?,
+        desc: method.desc.clone()?,
+        steps,
+    })
+}
+
+// What is found of the methods of the first class, in their order.
+fn judge_all<G: Gate>(
     alloc: Global,
     gate: &G,
-    table: &[Axiom],
-    limits: Limits,
+    means: Means,
     pair: &Pair,
-) -> Result<Vec<Verdict>, Memory>
-    requires table { map axiom_seen table.now ≡ axioms }
+) -> Result<Judgements, Memory>
+    requires table { map axiom_seen means.table.now ≡ axioms }
     requires read { IsReadPair pair.now }
-    ensures { IfOk result (λ verdicts. AllZip (IsVerdict limits pair.now.first pair.now.second) pair.now.first.methods verdicts.items) }
+    ensures verdicts { IfOk result (λ found. AllZip (IsVerdict means.entry.limits pair.now.first pair.now.second) pair.now.first.methods found.verdicts.items) }
+    ensures sections { IfOk result (λ found. means.entry.detail ≡ Detail.Steps → AllZip (IsSectionOf pair.now.first pair.now.second) (equivalent_of pair.now.first.methods found.verdicts.items) found.sections.items) }
 {
-    let mut verdicts = Vec::new(alloc);
-    for place in 0..pair.first.methods.as_slice().len() {
-        let verdict = verdict_on(alloc, gate, table, limits, pair, place)?;
-        verdicts.push(verdict)?;
+    let methods = pair.first.methods.as_slice();
+    let mut judgements = Judgements {
+        verdicts: Vec::new(alloc),
+        sections: Vec::new(alloc),
+    };
+    for place in 0..methods.len() {
+        let found = judgement_on(alloc, gate, means, pair, place)?;
+        judgements.push(&methods[place], found)?;
     }
-    Ok(verdicts)
+    Ok(judgements)
 }
 
 // The lines of methods, each with its verdict.

@@ -1,27 +1,31 @@
 //! What is said of a method.
 
-ghost use Rattle.std.specs.Prelude.{◌≡◌, ◌↔◌, ◌<◌, length, map, slice_get, true, Some, IfOk, IsTrue};
+ghost use Rattle.std.specs.Prelude.{◌≡◌, ◌↔◌, ◌<◌, length, map, slice_get, true, Some, None, IfOk, IsTrue};
 ghost use Rattle.pv_class.specs.declared.file.Method.{Method};
 ghost use Rattle.pv_alike.specs.Least.{IsLeastOf};
 ghost use Rattle.pv_axioms.specs.Entries.{axioms};
 ghost use Rattle.pv_pattern.specs.Seen.{axiom_seen};
-ghost use Rattle.pv_prove.specs.Finding.{verdict_of};
+ghost use Rattle.pv_prove.specs.Finding.{IsShown, verdict_of};
 ghost use Rattle.pv_report.specs.Roots.{IsWhole};
 ghost use Rattle.pv_report.specs.Verdicts.{HasCode};
 ghost use Rattle.pv_report.specs.Judging.{IsRead, IsReadPair, IsLeastOfSome, IsLeastOnPlaces, IsVerdictAt, IsVerdictBy, IsVerdictOnPlaces, said_of};
+ghost use Rattle.pv_report.specs.Proving.{IsProvedAt, IsProvedBy, IsProvedOnPlaces, IsStepsOf};
 
 use crate::pair::Pair;
 use crate::partners::partner_of;
 use pv_alike::{Least, least};
 use pv_base::Gate;
 use pv_build::convert;
+use pv_certify::certify;
 use pv_class::ClassFile;
 use pv_endings::endings;
 use pv_frame::{Cause, Refused};
 use pv_graph::{Graph, NodeId};
 use pv_heights::laws::law_verdict;
+use pv_list::Listed;
 use pv_pattern::Axiom;
-use pv_prove::{Limits, Outcome, find};
+use pv_prove::{Found, Limits, Outcome, find};
+use pv_steps::Step;
 use pv_value::Memory;
 use std::alloc::Global;
 
@@ -51,24 +55,61 @@ pub enum Verdict {
     Budget(u32),
 }
 
-/// The verdict on the method at a place of the first class.
-pub(crate) fn verdict_on<G: Gate>(
+/// How much is to be found of methods.
+#[derive(Clone, Copy, Debug, PartialEq, Eq)]
+pub enum Detail {
+    /// The verdict alone.
+    Verdict,
+    /// The verdict, and where it is `Equivalent` the steps that show it.
+    Steps,
+}
+
+/// What a search takes: the axioms, its limits, and how much it is to find.
+#[derive(Clone, Copy)]
+pub(crate) struct Means<'a> {
+    pub(crate) table: &'a [Axiom],
+    pub(crate) limits: Limits,
+    pub(crate) detail: Detail,
+}
+
+/// The verdict on a method, and the steps that show it, where they are wanted and there are any.
+#[derive(Debug, Drop)]
+pub(crate) struct Judgement {
+    pub(crate) verdict: Verdict,
+    pub(crate) steps: Option<Listed<Step>>,
+}
+
+impl Judgement {
+    // A verdict with no steps.
+    fn bare(verdict: Verdict) -> Judgement
+        ensures verdict { result.verdict ≡ verdict }
+        ensures steps { result.steps ≡ None }
+    {
+        Judgement {
+            verdict,
+            steps: None,
+        }
+    }
+}
+
+/// What is found of the method at a place of the first class.
+pub(crate) fn judgement_on<G: Gate>(
     alloc: Global,
     gate: &G,
-    table: &[Axiom],
-    limits: Limits,
+    means: Means,
     pair: &Pair,
     method: usize,
-) -> Result<Verdict, Memory>
-    requires table { map axiom_seen table.now ≡ axioms }
+) -> Result<Judgement, Memory>
+    requires table { map axiom_seen means.table.now ≡ axioms }
     requires read { IsReadPair pair.now }
     requires there { method < length pair.now.first.methods }
-    ensures { IfOk result (λ verdict. IsVerdictAt limits pair.now.first method pair.now.second verdict) }
+    ensures verdict { IfOk result (λ found. IsVerdictAt means.entry.limits pair.now.first method pair.now.second found.verdict) }
+    ensures steps { IfOk result (λ found. IsProvedAt means.entry.detail pair.now.first method pair.now.second found) }
 {
     let one = &pair.first.methods.as_slice()[method];
     match partner_of(one, &pair.second.methods)? {
-        None => Ok(Verdict::Missing),
-        Some(partner) => verdict_with(alloc, gate, table, limits, pair, method, partner),
+        None => Ok(Judgement::bare(Verdict::Missing)),
+        Some(partner) => judgement_with(alloc, gate, means, pair, method, partner),
     }
 }
 
@@ -80,48 +121,76 @@ fn has_code(class: &ClassFile, method: usize) -> bool
     class.methods.as_slice()[method].code.is_some()
 }
 
-// The verdict on a method and its partner, each at its place in its class.
-fn verdict_with<G: Gate>(
+// What is found of a method and its partner, each at its place in its class.
+fn judgement_with<G: Gate>(
     alloc: Global,
     gate: &G,
-    table: &[Axiom],
-    limits: Limits,
+    means: Means,
     pair: &Pair,
     method: usize,
     partner: usize,
-) -> Result<Verdict, Memory>
-    requires table { map axiom_seen table.now ≡ axioms }
+) -> Result<Judgement, Memory>
+    requires table { map axiom_seen means.table.now ≡ axioms }
     requires read { IsReadPair pair.now }
     requires there { method < length pair.now.first.methods }
     requires partner { partner < length pair.now.second.methods }
-    ensures { IfOk result (λ verdict. IsVerdictOnPlaces limits pair.now.first method pair.now.second partner verdict) }
+    ensures verdict { IfOk result (λ found. IsVerdictOnPlaces means.entry.limits pair.now.first method pair.now.second partner found.verdict) }
+    ensures steps { IfOk result (λ found. IsProvedOnPlaces means.entry.detail pair.now.first method pair.now.second partner found) }
 {
     match least_roots(alloc, &pair.first, method, &pair.second, partner)? {
-        Ok(roots) => verdict_by(alloc, gate, table, limits, &roots),
-        Err(verdict) => Ok(verdict),
+        Ok(roots) => judgement_by(alloc, gate, means, &roots),
+        Err(verdict) => Ok(Judgement::bare(verdict)),
     }
 }
 
-// The verdict on two methods, by the least graph of their roots. Where the roots are one node it is the same under all limits,
-// and takes no search: for the law that says so their endings are listed, in linear time.
-fn verdict_by<G: Gate>(
+// What is found of two methods by the least graph of their roots. Where the roots are one node the verdict is the same under all
+// limits, and takes no search and no steps: for the law that says so their endings are listed, in linear time.
+fn judgement_by<G: Gate>(
     alloc: Global,
     gate: &G,
-    table: &[Axiom],
-    limits: Limits,
+    means: Means,
     roots: &Least,
-) -> Result<Verdict, Memory>
-    requires table { map axiom_seen table.now ≡ axioms }
+) -> Result<Judgement, Memory>
+    requires table { map axiom_seen means.table.now ≡ axioms }
     requires least { IsLeastOfSome roots.now }
-    ensures { IfOk result (λ verdict. IsVerdictBy limits roots.now verdict) }
+    ensures verdict { IfOk result (λ found. IsVerdictBy means.entry.limits roots.now found.verdict) }
+    ensures steps { IfOk result (λ found. IsProvedBy means.entry.detail roots.now found) }
 {
     if roots.first() == roots.second() {
         law_verdict();
         let _endings = endings(alloc, roots.graph(), roots.first())?;
-        return Ok(Verdict::Equivalent);
+        return Ok(Judgement {
+            verdict: Verdict::Equivalent,
+            steps: Some(Listed::from(Vec::new(alloc))),
+        });
     }
-    let found = find(alloc, gate, roots, table, limits)?;
-    Ok(said_of(found.outcome))
+    let found = find(alloc, gate, roots, means.table, means.limits)?;
+    let steps = steps_of(alloc, roots, means, &found)?;
+    Ok(Judgement {
+        verdict: said_of(found.outcome),
+        steps,
+    })
+}
+
+// The steps that show what a search found, where they are wanted and the roots met.
+fn steps_of(
+    alloc: Global,
+    roots: &Least,
+    means: Means,
+    found: &Found,
+) -> Result<Option<Listed<Step>>, Memory>
+    requires first { roots.now.first < length roots.now.graph.nodes }
+    requires second { roots.now.second < length roots.now.graph.nodes }
+    requires shown { IsShown roots.now means.limits found.now.searches found.now.outcome }
+    ensures { IfOk result (λ steps. IsStepsOf means.entry.detail roots.now found.now.outcome steps) }
+{
+    match (means.detail, found.outcome) {
+        (Detail::Steps, Outcome::Met(meeting)) => {
+            let steps = certify(alloc, roots, &found.searches, meeting)?;
+            Ok(Some(steps))
+        }
+        _ => Ok(None),
+    }
 }
 
 // What is said of what a search found.

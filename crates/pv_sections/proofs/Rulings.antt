@@ -35,7 +35,7 @@ bad_text first second cert pair f text s read bad e is a b c p q t =
     subst (λ (x : Status). Ruled a b c text x) (sym is) ((pair.first, both.0), (pair.second, both.1), f, bad c t a b, e)
 
 -- the digest of a file that was read is that of its bytes
-digest_is : (x : Fetched) (digest bytes : List ℕ) → IsDigestOf x digest → IsFetched x bytes → length bytes ≤ LONGEST_FILE → digest ≡ sha256 bytes
+pub digest_is : (x : Fetched) (digest bytes : List ℕ) → IsDigestOf x digest → IsFetched x bytes → length bytes ≤ LONGEST_FILE → digest ≡ sha256 bytes
 digest_is (fetched.Bytes v) digest bytes is got small = is ∙ ap sha256 got
 digest_is fetched.TooLong digest bytes is got small = absurd (omega (arith, got, small))
 

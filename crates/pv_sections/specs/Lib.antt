@@ -4,3 +4,4 @@ pub mod Flaws
 pub mod Lines
 pub mod Ruled
 pub mod Reading
+pub mod Certified

@@ -12,12 +12,15 @@
 #![tactic(auto)]
 
 mod certificate;
+mod digest;
 mod finding;
 mod flaw;
 mod line;
 mod report;
+mod shown;
 
 pub use certificate::LONGEST_CERT;
 pub use finding::Finding;
 pub use flaw::Flaw;
 pub use report::rule;
+pub use shown::{Shown, show};

@@ -2,16 +2,16 @@
 
 ghost use Rattle.std.specs.Prelude.{◌≡◌, ◌↔◌, length, IfOk, IsTrue};
 ghost use Rattle.std.specs.List.{AllZip, flat_map};
-ghost use Rattle.sha2.specs.Sha256.{sha256};
 ghost use Rattle.pv_report.specs.Lines.{line_text};
 ghost use Rattle.pv_report.specs.Listed.{lines_by};
 ghost use Rattle.pv_report.specs.Judging.{IsReadPair};
 ghost use Rattle.pv_sections.specs.Findings.{IsFinding};
 ghost use Rattle.pv_sections.specs.Lines.{section_line};
 ghost use Rattle.pv_sections.specs.Ruled.{IsStatusOf, SaysEquivalent};
-ghost use Rattle.pv_sections.specs.Reading.{IsDigestOf, RulesFetched};
+ghost use Rattle.pv_sections.specs.Reading.{RulesFetched};
 
 use crate::certificate::{cert_of, other_file};
+use crate::digest::digest_of;
 use crate::finding::{Finding, find};
 use crate::line::{bad_certificate, push_section};
 use pv_axioms::Axioms;
@@ -19,7 +19,6 @@ use pv_base::Gate;
 use pv_cert::Section;
 use pv_report::{Answer, Fetched, Pair, Status, Verdict, bad_class, read_pair};
 use pv_value::Memory;
-use sha2::{Digest, Sha256};
 use std::alloc::{AllocError, Global};
 
 /// What is said of two files and a certificate: a line for each section of the certificate, in its order; or one line on
@@ -51,16 +50,6 @@ pub fn rule<G: Gate>(
     let text = lines(alloc, sections, &findings)?;
     let status = status_of(&findings);
     Ok(Answer { text, status })
-}
-
-// The digest of the bytes that were fetched (FIPS 180-4, SHA-256).
-fn digest_of(fetched: &Fetched) -> [u8; 32]
-    ensures { IsDigestOf fetched.now result }
-{
-    match fetched {
-        Fetched::Bytes(bytes) => Sha256::digest(bytes.as_slice()),
-        Fetched::TooLong => [0; 32],
-    }
 }
 
 // What is said of the sections, in their order.

@@ -14,13 +14,13 @@ use Rattle.pv_top.proofs.Saying.{answer_said, each_equivalent, result_said, said
 use Rattle.pv_top.proofs.TrueLines.{judged_line, ruled_line}
 
 -- the bytes that were fetched
-record Contents (held : Option Stored) (all : List (List ℕ × ℕ)) (fetched : List Fetched) : Type 0 where
-  contents : List (List ℕ)
-  are_held : AllZip (λ (f : List ℕ × ℕ) (bytes : List ℕ). Holds held f.0 bytes) all contents
-  are_bytes : AllByRecursion AreBytes contents
-  are_fetched : AreFetched all fetched contents
+pub record Contents (held : Option Stored) (all : List (List ℕ × ℕ)) (fetched : List Fetched) : Type 0 where
+  pub contents : List (List ℕ)
+  pub are_held : AllZip (λ (f : List ℕ × ℕ) (bytes : List ℕ). Holds held f.0 bytes) all contents
+  pub are_bytes : AllByRecursion AreBytes contents
+  pub are_fetched : AreFetched all fetched contents
 
-contents_of : (held : Option Stored) (all : List (List ℕ × ℕ)) (fetched : List Fetched) → HoldAll held all fetched → Contents held all fetched
+pub contents_of : (held : Option Stored) (all : List (List ℕ × ℕ)) (fetched : List Fetched) → HoldAll held all fetched → Contents held all fetched
 contents_of held [] [] h = record { contents = []; are_held = tt; are_bytes = tt; are_fetched = tt }
 contents_of held (f ∷ all) (x ∷ fetched) h =
     let one = h.0 in
@@ -43,11 +43,11 @@ said_result held c old new rose result s = result_said old new s.text s.meant re
 
 -- each whole line that says `equivalent` is true
 answer_lines : (held : Option Stored) (c : Command (List ℕ)) (contents : List (List ℕ)) (text : List ℕ) (s : Status) → AllZip (λ (f : List ℕ × ℕ) (bytes : List ℕ). Holds held f.0 bytes) (fetches c) contents → AllByRecursion AreBytes contents → IsAnswer c contents text s → IsTrueOf held (first_of c) (second_of c) text
-answer_lines held (Validate a b rounds budget) (x ∷ y ∷ []) text s h bytes is = judged_line held (record { rounds = rounds; budget = budget }) a b x y text s (record { first_held = h.0; second_held = h.1.0; first_bytes = bytes.0; second_bytes = bytes.1.0 }) is
+answer_lines held (Validate a b rounds budget cert) (x ∷ y ∷ []) text s h bytes is = judged_line held (record { rounds = rounds; budget = budget }) a b x y text s (record { first_held = h.0; second_held = h.1.0; first_bytes = bytes.0; second_bytes = bytes.1.0 }) is
 answer_lines held (Check a b c) (x ∷ y ∷ z ∷ []) text s h bytes is = ruled_line held a b x y z text s (record { first_held = h.0; second_held = h.1.0; first_bytes = bytes.0; second_bytes = bytes.1.0 }) is
 answer_lines held _ _ text s h bytes is = absurd is
 
-pub answered_equivalent : (held : Option Stored) (c : Command (List ℕ)) (old new : Option (List ℕ)) (read_rose write_rose : Type 0) (result : Status) → Answered held (Some c) old new read_rose write_rose result → EachEquivalent held (first_of c) (second_of c) old new
-answered_equivalent held c old new read_rose write_rose result =
-    each_equivalent held c (first_of c) (second_of c) old new read_rose write_rose result
+pub answered_equivalent : (held : Option Stored) (c : Command (List ℕ)) (old new : Option (List ℕ)) (files_rose write_rose : Type 0) (result : Status) → Answered held (Some c) old new files_rose write_rose result → EachEquivalent held (first_of c) (second_of c) old new
+answered_equivalent held c old new files_rose write_rose result =
+    each_equivalent held c (first_of c) (second_of c) old new files_rose write_rose result
     (λ s. said_lines held (first_of c) (second_of c) old new s.text s.meant result write_rose s.says (answer_lines held c s.contents s.text s.meant s.are_held s.are_bytes s.answer))

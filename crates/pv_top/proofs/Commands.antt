@@ -1,40 +1,100 @@
 -- The words of a command.
-use Rattle.std.proofs.Common.{◌≡◌, ◌≤◌, ◌<◌, ℕ, true, List, [], ◌∷◌, length, get_or, Option, Some, None, refl, sym, ap, ◌∙◌, arith}
+use Rattle.std.proofs.Common.{◌≡◌, ◌⊎◌, ◌<◌, ◌^◌, ℕ, true, List, [], ◌∷◌, length, Option, Some, None, Result, inl, inr, refl, sym, ap, subst, ◌∙◌, arith}
+use Rattle.std.specs.Prelude.{codes, map, option_map, slice_index_or, IfOk}
 use Rattle.std.specs.Borrow.{Bor}
 use Rattle.std.specs.Str.{bytes_eq}
 use Rattle.std.proofs.lemmas.Slice.Eq.{bytes_eq-Decides}
+use Rattle.pv_value.specs.declared.memory.Memory.{Memory}
+use Rattle.pv_words.specs.Answers.{texts}
+use Rattle.pv_words.specs.Words.{Give}
+use Rattle.pv_words.proofs.Cited.{is_one, one_number}
+use Rattle.pv_top.specs.declared.words.TheConstants.{DEFAULT_ROUNDS, MOST_ROUNDS, DEFAULT_BUDGET, MOST_BUDGET}
 use Rattle.pv_top.specs.declared.words.Command.{Command}
 use Rattle.pv_top.specs.declared.words.Command.TheVariants.{Validate, Check}
-use Rattle.pv_top.specs.Words.{HasDefaults, IsCommand, texts, words_of}
-
--- ---- words that were read
-
-pub three_words : (ws : List (Bor (List ℕ))) (d : Bor (List ℕ)) → 3 ≤ length ws → length ws < 4 → texts ws ≡ (get_or ws 0 d).now ∷ (get_or ws 1 d).now ∷ (get_or ws 2 d).now ∷ []
-three_words (x ∷ y ∷ z ∷ []) d lo hi = refl
-three_words _ d lo hi = absurd (omega arith)
-
-pub four_words : (ws : List (Bor (List ℕ))) (d : Bor (List ℕ)) → 4 ≤ length ws → length ws < 5 → texts ws ≡ (get_or ws 0 d).now ∷ (get_or ws 1 d).now ∷ (get_or ws 2 d).now ∷ (get_or ws 3 d).now ∷ []
-four_words (x ∷ y ∷ z ∷ w ∷ []) d lo hi = refl
-four_words _ d lo hi = absurd (omega arith)
-
--- the first of them is the name of a command
-pub called : (words rest : List (List ℕ)) (word name : List ℕ) → words ≡ word ∷ rest → bytes_eq word name ≡ true → words ≡ name ∷ rest
-called words rest word name are is = are ∙ ap (λ (w : List ℕ). w ∷ rest) ((bytes_eq-Decides word name).0 is)
+use Rattle.pv_top.specs.Commands.{named}
+use Rattle.pv_top.specs.Words.{AreOf, IsCommand, IsLimit, check_words, validate_words}
 
 -- ---- the words are one command at most
 
-words_once : (c d : Command (List ℕ)) → words_of c ≡ words_of d → HasDefaults c → HasDefaults d → c ≡ d
-words_once (Validate a b r k) (Validate x y s l) e h j =
-    let p : a ≡ x = cc e in
-    let q : b ≡ y = cc e in
-    let rounds : r ≡ s = h.0 ∙ sym j.0 in
-    let budget : k ≡ l = h.1 ∙ sym j.1 in
-    cc (p, q, rounds, budget)
-words_once (Check a b c) (Check x y z) e h j = let p : a ≡ x = cc e in let q : b ≡ y = cc e in let r : c ≡ z = cc e in cc (p, q, r)
-words_once _ _ e h j = absurd (cc e)
+limit_once : (least most default : ℕ) (given : Option (List ℕ)) (m n : ℕ) → most < 2 ^ 32 → IsLimit least most default given m → IsLimit least most default given n → m ≡ n
+limit_once least most default None m n lt p q = p ∙ sym q
+limit_once least most default (Some text) m n lt p q = one_number least most text m n lt p q
+
+words_once : (words : List (List ℕ)) (c d : Command (List ℕ)) → AreOf words c → AreOf words d → c ≡ d
+words_once words (Validate a b r k cert) (Validate x y s l file) (rest, is, p) (more, are, q) =
+    let same : rest ≡ more = let e = sym is ∙ are in cc e in
+    let one = is_one validate_words refl more _ _ _ _ (subst (λ (w : List (List ℕ)). Give validate_words w (p.rounds_word ∷ p.budget_word ∷ cert ∷ []) (a ∷ b ∷ [])) same p.given) q.given in
+    let words : p.rounds_word ≡ q.rounds_word = let e = one.0 in cc e in
+    let text : p.budget_word ≡ q.budget_word = let e = one.0 in cc e in
+    let third : cert ≡ file = let e = one.0 in cc e in
+    let first : a ≡ x = let e = one.1 in cc e in
+    let second : b ≡ y = let e = one.1 in cc e in
+    let rounds : r ≡ s = limit_once 0 MOST_ROUNDS DEFAULT_ROUNDS q.rounds_word r s (omega arith) (subst (λ (o : Option (List ℕ)). IsLimit 0 MOST_ROUNDS DEFAULT_ROUNDS o r) words p.rounds_are) q.rounds_are in
+    let budget : k ≡ l = limit_once 1 MOST_BUDGET DEFAULT_BUDGET q.budget_word k l (omega arith) (subst (λ (o : Option (List ℕ)). IsLimit 1 MOST_BUDGET DEFAULT_BUDGET o k) text p.budget_is) q.budget_is in
+    cc (first, second, rounds, budget, third)
+words_once words (Check a b c) (Check x y z) (rest, is, p) (more, are, q) =
+    let same : rest ≡ more = let e = sym is ∙ are in cc e in
+    let one = is_one check_words refl more _ _ _ _ (subst (λ (w : List (List ℕ)). Give check_words w [] (a ∷ b ∷ c ∷ [])) same p) q in
+    let first : a ≡ x = let e = one.1 in cc e in
+    let second : b ≡ y = let e = one.1 in cc e in
+    let third : c ≡ z = let e = one.1 in cc e in
+    cc (first, second, third)
+words_once words (Validate a b r k cert) (Check x y z) (rest, is, p) (more, are, q) = absurd (let e = sym is ∙ are in cc e)
+words_once words (Check x y z) (Validate a b r k cert) (rest, is, p) (more, are, q) = absurd (let e = sym is ∙ are in cc e)
 
 pub one_command : (words : List (List ℕ)) (c d : Option (Command (List ℕ))) → IsCommand words c → IsCommand words d → c ≡ d
 one_command words None None p q = refl
 one_command words None (Some d) p q = absurd (p d q)
 one_command words (Some c) None p q = absurd (q c p)
-one_command words (Some c) (Some d) p q = let same = words_once c d (sym p.spelled ∙ q.spelled) p.limits q.limits in ap (λ (x : Command (List ℕ)). Some x) same
+one_command words (Some c) (Some d) p q = ap (λ (x : Command (List ℕ)). Some x) (words_once words c d p q)
+
+-- ---- words that were read
+
+-- the first word is the name of a command
+pub called : (ws rest : List (Bor (List ℕ))) (w : Bor (List ℕ)) (name : List ℕ) → ws ≡ w ∷ rest → bytes_eq w.now name ≡ true → texts ws ≡ name ∷ texts rest
+called ws rest w name are is = ap texts are ∙ ap (λ (x : List ℕ). x ∷ texts rest) ((bytes_eq-Decides w.now name).0 is)
+
+pub whole_words : (whole words : List (List ℕ)) (r : Result (Option (Command (Bor (List ℕ)))) Memory) → whole ≡ words → IfOk r (λ c. IsCommand words (option_map named c)) → IfOk r (λ c. IsCommand whole (option_map named c))
+whole_words whole words r e h = subst (λ (ws : List (List ℕ)). IfOk r (λ c. IsCommand ws (option_map named c))) (sym e) h
+
+-- words that give `check` nothing are no command
+pub no_check : (rest : List (List ℕ)) → ((o : List (Option (List ℕ))) (a : List (List ℕ)) → Give check_words rest o a → ⊥) → (c : Command (List ℕ)) → AreOf (codes "check" ∷ rest) c → ⊥
+no_check rest none (Check a b cert) (more, e, g) = none [] (a ∷ b ∷ cert ∷ []) (subst (λ (w : List (List ℕ)). Give check_words w [] (a ∷ b ∷ cert ∷ [])) (let same : more ≡ rest = cc (sym e) in same) g)
+no_check rest none (Validate a b rounds budget cert) (more, e, g) = absurd (cc e)
+
+-- nor are words that give `validate` nothing
+pub no_validate : (rest : List (List ℕ)) → ((o : List (Option (List ℕ))) (a : List (List ℕ)) → Give validate_words rest o a → ⊥) → (c : Command (List ℕ)) → AreOf (codes "validate" ∷ rest) c → ⊥
+no_validate rest none (Validate a b rounds budget cert) (more, e, g) =
+    none (g.rounds_word ∷ g.budget_word ∷ cert ∷ []) (a ∷ b ∷ []) (subst (λ (w : List (List ℕ)). Give validate_words w (g.rounds_word ∷ g.budget_word ∷ cert ∷ []) (a ∷ b ∷ [])) (let same : more ≡ rest = cc (sym e) in same) g.given)
+no_validate rest none (Check a b cert) (more, e, g) = absurd (cc e)
+
+-- nor those of which a limit is no number within its bounds
+pub no_limit : (rest : List (List ℕ)) (r k cert : Option (List ℕ)) (a : List (List ℕ)) → Give validate_words rest (r ∷ k ∷ cert ∷ []) a → (((n : ℕ) → IsLimit 0 MOST_ROUNDS DEFAULT_ROUNDS r n → ⊥) ⊎ ((n : ℕ) → IsLimit 1 MOST_BUDGET DEFAULT_BUDGET k n → ⊥))
+    → (c : Command (List ℕ)) → AreOf (codes "validate" ∷ rest) c → ⊥
+no_limit rest r k cert a given none (Check x y z) (more, e, g) = absurd (cc e)
+no_limit rest r k cert a given none (Validate x y rounds budget file) (more, e, g) =
+    let same : more ≡ rest = cc (sym e) in
+    let one = is_one validate_words refl rest _ _ _ _ given (subst (λ (w : List (List ℕ)). Give validate_words w (g.rounds_word ∷ g.budget_word ∷ file ∷ []) (x ∷ y ∷ [])) same g.given) in
+    let words : r ≡ g.rounds_word = let f = one.0 in cc f in
+    let text : k ≡ g.budget_word = let f = one.0 in cc f in
+    elim none [
+      | inl n ↦ n rounds (subst (λ (o : Option (List ℕ)). IsLimit 0 MOST_ROUNDS DEFAULT_ROUNDS o rounds) (sym words) g.rounds_are)
+      | inr n ↦ n budget (subst (λ (o : Option (List ℕ)). IsLimit 1 MOST_BUDGET DEFAULT_BUDGET o budget) (sym text) g.budget_is)
+    ]
+
+-- the same, by what was read
+abbrev pub text_of : Option (Bor (List ℕ)) → Option (List ℕ)
+text_of o = option_map (λ s. s.now) o
+
+module _ (rest : List (List ℕ)) where
+  pub no_limit_at : (options : List (Option (Bor (List ℕ)))) (arguments : List (Bor (List ℕ))) → Give validate_words rest (map text_of options) (texts arguments) → length options ≡ 3
+      → (((n : ℕ) → IsLimit 0 MOST_ROUNDS DEFAULT_ROUNDS (text_of (slice_index_or options 0 None)) n → ⊥) ⊎ ((n : ℕ) → IsLimit 1 MOST_BUDGET DEFAULT_BUDGET (text_of (slice_index_or options 1 None)) n → ⊥))
+      → (c : Command (List ℕ)) → AreOf (codes "validate" ∷ rest) c → ⊥
+  no_limit_at (r ∷ k ∷ cert ∷ []) arguments given long none = no_limit rest (text_of r) (text_of k) (text_of cert) (texts arguments) given none
+  no_limit_at _ arguments given long none = absurd (omega (arith, long))
+
+  pub is_validate : (options : List (Option (Bor (List ℕ)))) (arguments : List (Bor (List ℕ))) (d : Bor (List ℕ)) (rounds budget : ℕ) → Give validate_words rest (map text_of options) (texts arguments) → length options ≡ 3 → length arguments ≡ 2
+      → IsLimit 0 MOST_ROUNDS DEFAULT_ROUNDS (text_of (slice_index_or options 0 None)) rounds → IsLimit 1 MOST_BUDGET DEFAULT_BUDGET (text_of (slice_index_or options 1 None)) budget
+      → AreOf (codes "validate" ∷ rest) (Validate (slice_index_or arguments 0 d).now (slice_index_or arguments 1 d).now rounds budget (text_of (slice_index_or options 2 None)))
+  is_validate (r ∷ k ∷ cert ∷ []) (a ∷ b ∷ []) d rounds budget given long two p q = (rest, refl, record { rounds_word = text_of r; budget_word = text_of k; given = given; rounds_are = p; budget_is = q })
+  is_validate _ _ d rounds budget given long two p q = absurd (omega (arith, long, two))

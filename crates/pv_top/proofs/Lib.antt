@@ -4,5 +4,6 @@ pub mod Saying
 pub mod Files
 pub mod TrueLines
 pub mod Answering
+pub mod Replying
 pub mod Commands
 pub mod Cited

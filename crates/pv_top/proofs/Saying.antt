@@ -18,7 +18,7 @@ use Rattle.pv_top.proofs.Asking.{more_nothing}
 use Rattle.pv_top.proofs.WholeLines.{no_line_of_nothing, line_of_front}
 
 -- what is said was put, or had nothing in it
-as_put : (old new : Option (List ℕ)) (text : List ℕ) (meant result : Status) (rose : Type 0) → Says old new text meant result rose → Puts old new text meant result rose
+pub as_put : (old new : Option (List ℕ)) (text : List ℕ) (meant result : Status) (rose : Type 0) → Says old new text meant result rose → Puts old new text meant result rose
 as_put old new [] meant result rose says = inl (says.0, says.1 ∙ more_nothing old)
 as_put old new (b ∷ text) meant result rose says = says
 
@@ -45,7 +45,7 @@ ruled_said a b cert text status.BadCert h = refl
 ruled_said a b cert text _ (fs, r, is) = absurd is
 
 pub answer_said : (c : Command (List ℕ)) (contents : List (List ℕ)) (text : List ℕ) (s : Status) → IsAnswer c contents text s → is_said s ≡ true
-answer_said (Validate a b rounds budget) (x ∷ y ∷ []) text s h = judged_said (record { rounds = rounds; budget = budget }) x y text s h
+answer_said (Validate a b rounds budget cert) (x ∷ y ∷ []) text s h = judged_said (record { rounds = rounds; budget = budget }) x y text s h
 answer_said (Check a b c) (x ∷ y ∷ z ∷ []) text s h = ruled_said x y z text s h
 answer_said _ _ text s h = absurd h
 
@@ -59,16 +59,17 @@ result_said old new text meant result rose is says =
 pub no_read_fault : (s : Status) → is_said s ≡ true → s ≢ status.ReadFault
 no_read_fault s is e = let no : is_said s ≡ false = ap is_said e in cc (is, no)
 
-pub answered_said : (held : Option Stored) (c : Command (List ℕ)) (old new : Option (List ℕ)) (read_rose write_rose : Type 0) (result : Status) → is_said result ≡ true → SaidOf held c old new write_rose result → Answered held (Some c) old new read_rose write_rose result
-answered_said held c old new read_rose write_rose status.ReadFault is it = absurd (cc is)
-answered_said held c old new read_rose write_rose status.Memory is it = absurd (cc is)
-answered_said held c old new read_rose write_rose _ is it = it
+pub answered_said : (held : Option Stored) (c : Command (List ℕ)) (old new : Option (List ℕ)) (files_rose write_rose : Type 0) (result : Status) → is_said result ≡ true → SaidOf held c old new write_rose result → Answered held (Some c) old new files_rose write_rose result
+answered_said held c old new files_rose write_rose status.ReadFault is it = absurd (cc is)
+answered_said held c old new files_rose write_rose status.Memory is it = absurd (cc is)
+answered_said held c old new files_rose write_rose status.WriteFault is it = inr it
+answered_said held c old new files_rose write_rose _ is it = it
 
 -- a fetch failed, and nothing was said
-pub answered_failed : (held : Option Stored) (c : Command (List ℕ)) (old new : Option (List ℕ)) (read_rose write_rose : Type 0) (s : Status) → ReadFailed s read_rose → new ≡ old → Answered held (Some c) old new read_rose write_rose s
-answered_failed held c old new read_rose write_rose status.ReadFault failed same = (failed, same)
-answered_failed held c old new read_rose write_rose status.Memory failed same = same
-answered_failed held c old new read_rose write_rose _ failed same = absurd failed
+pub answered_failed : (held : Option Stored) (c : Command (List ℕ)) (old new : Option (List ℕ)) (files_rose write_rose : Type 0) (s : Status) → ReadFailed s files_rose → new ≡ old → Answered held (Some c) old new files_rose write_rose s
+answered_failed held c old new files_rose write_rose status.ReadFault failed same = (failed, same)
+answered_failed held c old new files_rose write_rose status.Memory failed same = same
+answered_failed held c old new files_rose write_rose _ failed same = absurd failed
 
 -- ---- each whole line that says `equivalent`
 
@@ -104,8 +105,10 @@ pub silent : (held : Option Stored) (a b : List ℕ) (old new : Option (List ℕ
 silent held a b old new e before taken line p q l ends = absurd (no_line_of_nothing line (subst (λ (t : List ℕ). IsLineOf t line) (nothing_taken old new before taken e p q) l))
 
 -- so it is under every answer, if it is where something was said
-pub each_equivalent : (held : Option Stored) (c : Command (List ℕ)) (a b : List ℕ) (old new : Option (List ℕ)) (read_rose write_rose : Type 0) (result : Status) → (SaidOf held c old new write_rose result → EachEquivalent held a b old new)
-    → Answered held (Some c) old new read_rose write_rose result → EachEquivalent held a b old new
-each_equivalent held c a b old new read_rose write_rose status.ReadFault by h = silent held a b old new h.1
-each_equivalent held c a b old new read_rose write_rose status.Memory by h = silent held a b old new h
-each_equivalent held c a b old new read_rose write_rose _ by h = by h
+pub each_equivalent : (held : Option Stored) (c : Command (List ℕ)) (a b : List ℕ) (old new : Option (List ℕ)) (files_rose write_rose : Type 0) (result : Status) → (SaidOf held c old new write_rose result → EachEquivalent held a b old new)
+    → Answered held (Some c) old new files_rose write_rose result → EachEquivalent held a b old new
+each_equivalent held c a b old new files_rose write_rose status.ReadFault by h = silent held a b old new h.1
+each_equivalent held c a b old new files_rose write_rose status.Memory by h = silent held a b old new h
+each_equivalent held c a b old new files_rose write_rose status.WriteFault by (inl failed) = silent held a b old new failed.2
+each_equivalent held c a b old new files_rose write_rose status.WriteFault by (inr said) = by said
+each_equivalent held c a b old new files_rose write_rose _ by h = by h

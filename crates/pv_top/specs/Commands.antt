@@ -1,15 +1,27 @@
 -- The command that was read from words.
-use Rattle.std.specs.Prelude.{ℕ, List, Option, Some, None}
+use Rattle.std.specs.Prelude.{ℕ, List, ◌∷◌, Option, Some, None, codes, option_map}
 use Rattle.std.specs.Borrow.{Bor}
+use Rattle.pv_words.specs.Answers.{texts}
 use Rattle.pv_top.specs.declared.words.Command.{Command}
 use Rattle.pv_top.specs.declared.words.Command.TheVariants.{Validate, Check}
-use Rattle.pv_top.specs.Words.{IsCommand, texts}
+use Rattle.pv_top.specs.Words.{IsCommand, IsLimit}
 
 -- a command by its names
 abbrev pub named : Command (Bor (List ℕ)) → Command (List ℕ)
-named (Validate a b rounds budget) = Validate a.now b.now rounds budget
+named (Validate a b rounds budget cert) = Validate a.now b.now rounds budget (option_map (λ name. name.now) cert)
 named (Check a b cert) = Check a.now b.now cert.now
 
 abbrev pub IsRead : List (Bor (List ℕ)) → Option (Command (Bor (List ℕ))) → Type 0
-IsRead words None = IsCommand (texts words) None
-IsRead words (Some c) = IsCommand (texts words) (Some (named c))
+IsRead words command = IsCommand (texts words) (option_map named command)
+
+-- .. of the words after the name of a command
+abbrev pub IsReadValidate : List (Bor (List ℕ)) → Option (Command (Bor (List ℕ))) → Type 0
+IsReadValidate words command = IsCommand (codes "validate" ∷ texts words) (option_map named command)
+
+abbrev pub IsReadCheck : List (Bor (List ℕ)) → Option (Command (Bor (List ℕ))) → Type 0
+IsReadCheck words command = IsCommand (codes "check" ∷ texts words) (option_map named command)
+
+-- the limit that an option gives, None where its text is none
+abbrev pub ReadsLimit : (least most default : ℕ) → Option (Bor (List ℕ)) → Option ℕ → Type 0
+ReadsLimit least most default given (Some n) = IsLimit least most default (option_map (λ text. text.now) given) n
+ReadsLimit least most default given None = (n : ℕ) → IsLimit least most default (option_map (λ text. text.now) given) n → ⊥

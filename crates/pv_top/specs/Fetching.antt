@@ -1,18 +1,26 @@
--- What the fetches of a command give.
-use Rattle.std.specs.Prelude.{◌≡◌, ◌⊎◌, ℕ, List, [], ◌∷◌, Option, Result, Ok, Err, map}
-use Rattle.std.specs.List.{AllZip}
+-- What the fetches of a command give, and what its reply places and says.
+use Rattle.std.specs.Prelude.{◌≡◌, ◌≢◌, ◌⊎◌, ℕ, ◌<◌, ◌≤◌, List, [], ◌∷◌, Option, Some, None, Result, Ok, Err, length, map, suc, take, option_map}
+use Rattle.std.specs.FinMap.{insert}
+use Rattle.std.specs.Global.{Vec}
+use Rattle.std.specs.List.{AllByRecursion, AllZip}
 use Rattle.pv_base.specs.Stored.{Stored, AreBytes}
-use Rattle.pv_base.specs.Outside.{more}
+use Rattle.pv_base.specs.Outside.{OnlyAt, more}
 use Rattle.pv_base.specs.declared.outside.Asked.{Asked}
+use Rattle.pv_base.specs.declared.outside.Asked.TheVariants.{Fetch, Place}
+use Rattle.pv_prove.specs.declared.outcome.Limits.{Limits}
 use Rattle.pv_report.specs.declared.pair.Fetched.{Fetched}
 use Rattle.pv_report.specs.declared.status.Status.{Status}
 use Rattle.pv_report.specs.declared.status.Status.TheVariants as status
-use Rattle.pv_report.specs.Judging.{IsFetchedWithin}
+use Rattle.pv_report.specs.Judging.{IsFetched, IsFetchedWithin}
+use Rattle.pv_sections.specs.Certified.{IsCertificateFor}
 use Rattle.pv_top.specs.declared.words.Command.{Command}
 use Rattle.pv_top.specs.declared.top.Wanted.{Wanted}
+use Rattle.pv_top.specs.declared.top.Placed.{Placed}
 use Rattle.pv_top.specs.Promise.{Holds}
-use Rattle.pv_top.specs.Words.{fetches}
-use Rattle.pv_top.specs.Run.{AskedFor, GrewBy, IsAnswer}
+use Rattle.pv_top.specs.Words.{fetches, placed_name}
+use Rattle.pv_top.specs.Run.{IsAnswer, IsPlaced, IsThere, GrewBy, Says}
+
+-- ---- fetches
 
 -- bytes that the store has under the name were fetched, within the limit
 abbrev pub HoldsFetched : Option Stored → List ℕ × ℕ → Fetched → Type 0
@@ -34,21 +42,88 @@ AreFetched [] [] [] = Unit {0}
 AreFetched (f ∷ all) (x ∷ fetched) (bytes ∷ contents) = IsFetchedWithin f.1 x bytes × AreFetched all fetched contents
 AreFetched all fetched contents = ⊥
 
--- what a command answers to what was fetched
-abbrev pub AnswersFetched : Command (List ℕ) → List Fetched → List ℕ → Status → Type 0
-AnswersFetched c fetched text s = (contents : List (List ℕ)) → AreFetched (fetches c) fetched contents → IsAnswer c contents text s
-
 abbrev pub ReadFailed : Status → Type 0 → Type 0
 ReadFailed status.ReadFault rose = rose
 ReadFailed status.Memory rose = Unit {0}
 ReadFailed s rose = ⊥
 
--- a fetch is in the record; one for which memory runs out may not be
+-- a call is in the record; one for which memory runs out may not be
 abbrev pub Asks : {T : Type 0} → Option (List Asked) → Option (List Asked) → Asked → Result T Status → Type 0
 Asks old new call (Err status.Memory) = (new ≡ old) ⊎ (new ≡ more old (call ∷ []))
 Asks old new call result = new ≡ more old (call ∷ [])
 
--- fetches of these names are in the record; where one of them is not answered, as at the end of a command
+-- fetches of these names are in the record; where one of them fails, those up to this one, and the names before it are there; where memory
+-- runs out, the first n of them
+abbrev pub FetchesOf : Option Stored → Option (List Asked) → Option (List Asked) → List (List ℕ) → Status → Type 0
+FetchesOf held old new names status.Memory = (n : ℕ) × (n ≤ length names) × GrewBy old new (map Fetch (take n names))
+FetchesOf held old new names status.ReadFault = (n : ℕ) × (n < length names) × AllByRecursion (IsThere held) (take n names) × GrewBy old new (map Fetch (take (suc n) names))
+FetchesOf held old new names s = GrewBy old new (map Fetch names)
+
 abbrev pub AsksAll : {T : Type 0} → Option Stored → Option (List Asked) → Option (List Asked) → List (List ℕ) → Result T Status → Type 0
-AsksAll held old new names (Ok x) = GrewBy old new names
-AsksAll held old new names (Err s) = AskedFor held old new names s
+AsksAll held old new names (Ok x) = GrewBy old new (map Fetch names)
+AsksAll held old new names (Err s) = FetchesOf held old new names s
+
+-- ---- the reply
+
+-- what a command answers to what was fetched
+abbrev pub AnswersFetched : Command (List ℕ) → List Fetched → List ℕ → Status → Type 0
+AnswersFetched c fetched text s = (contents : List (List ℕ)) → AreFetched (fetches c) fetched contents → IsAnswer c contents text s
+
+-- a name and bytes
+abbrev pub placed_of : Placed → List ℕ × List ℕ
+placed_of p = (p.name.now, p.bytes.items)
+
+abbrev pub content_of : Option Placed → Option (List ℕ × List ℕ)
+content_of placed = option_map placed_of placed
+
+-- bytes, if any, under this name
+abbrev pub named_as : List ℕ → Option (Vec ℕ) → Option (List ℕ × List ℕ)
+named_as name bytes = option_map (λ v. (name, v.items)) bytes
+
+-- what a command places, by the bytes of its files and the status of its answer; nothing, where it has no name for it or one of its
+-- files has no reading
+abbrev pub Places : Command (List ℕ) → List (List ℕ) → Status → Option (List ℕ × List ℕ) → Type 0
+Places c contents s (Some p) = (placed_name c ≡ Some p.0) × IsPlaced c contents p.1 × (s ≢ status.BadClass)
+Places c contents s None = (placed_name c ≡ None) ⊎ (s ≡ status.BadClass)
+
+-- .. by what was fetched
+abbrev pub PlacesFetched : Command (List ℕ) → List Fetched → Status → Option (List ℕ × List ℕ) → Type 0
+PlacesFetched c fetched s placed = (contents : List (List ℕ)) → AreFetched (fetches c) fetched contents → Places c contents s placed
+
+-- the certificate for two files that were fetched, under this name; nothing, where one of them has no reading
+abbrev pub ShowsIn : Limits → List ℕ → Fetched → Fetched → Status → Option (List ℕ × List ℕ) → Type 0
+ShowsIn limits name first second s (Some p) = (p.0 ≡ name) × ((a b : List ℕ) → IsFetched first a → IsFetched second b → IsCertificateFor limits a b p.1) × (s ≢ status.BadClass)
+ShowsIn limits name first second s None = s ≡ status.BadClass
+
+-- ---- how it is given
+
+-- a place failed
+abbrev pub PlaceFailed : Status → Type 0 → Type 0
+PlaceFailed status.WriteFault rose = rose
+PlaceFailed status.Memory rose = Unit {0}
+PlaceFailed s rose = ⊥
+
+-- the store, where what it holds is known, has these bytes under the name, and nothing else changed
+abbrev pub PlacesIn : Option Stored → Option Stored → List ℕ → List ℕ → Type 0
+PlacesIn None None name bytes = Unit {0}
+PlacesIn (Some old) (Some new) name bytes = new ≡ insert old name bytes
+PlacesIn _ _ name bytes = ⊥
+
+-- only what it has under the name may have changed
+abbrev pub ChangesAt : Option Stored → Option Stored → List ℕ → Type 0
+ChangesAt None None name = Unit {0}
+ChangesAt (Some old) (Some new) name = OnlyAt name old new
+ChangesAt _ _ name = ⊥
+
+-- the text is said, once what there is to place is placed; where that fails, nothing is
+abbrev pub SaysAfter : Option (List ℕ × List ℕ) → Option (List ℕ) → Option (List ℕ) → List ℕ → Status → Status → Type 0 → Type 0 → Type 0
+SaysAfter None old new text meant result files_rose write_rose = Says old new text meant result write_rose
+SaysAfter (Some p) old new text meant result files_rose write_rose = Says old new text meant result write_rose ⊎ (PlaceFailed result files_rose × (new ≡ old))
+
+abbrev pub LeavesPlaced : Option (List ℕ × List ℕ) → Option Stored → Option Stored → Status → Type 0 → Type 0
+LeavesPlaced None old new result files_rose = new ≡ old
+LeavesPlaced (Some p) old new result files_rose = PlacesIn old new p.0 p.1 ⊎ (PlaceFailed result files_rose × ChangesAt old new p.0)
+
+abbrev pub AsksPlaced : Option (List ℕ × List ℕ) → Option (List Asked) → Option (List Asked) → Status → Type 0
+AsksPlaced None old new result = new ≡ old
+AsksPlaced (Some p) old new result = (new ≡ more old (Place p.0 ∷ [])) ⊎ ((result ≡ status.Memory) × (new ≡ old))

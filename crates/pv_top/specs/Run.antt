@@ -1,18 +1,22 @@
--- What the top call says and asks, by the command that its words are.
-use Rattle.std.specs.Prelude.{◌≡◌, ◌⊎◌, ℕ, suc, ◌<◌, ◌≤◌, List, [], ◌∷◌, length, map, take, Option, Some, None}
+-- What the top call says, asks and leaves, by the command that its words are.
+use Rattle.std.specs.Prelude.{◌≡◌, ◌⊎◌, ℕ, suc, ◌<◌, List, [], ◌∷◌, ◌++◌, length, map, take, Option, Some, None}
 use Rattle.std.specs.List.{AllByRecursion, AllZip}
+use Rattle.std.specs.FinMap.{insert}
 use Rattle.pv_base.specs.Stored.{Stored, AreBytes}
-use Rattle.pv_base.specs.Outside.{more}
+use Rattle.pv_base.specs.Outside.{OnlyAt, more}
 use Rattle.pv_base.specs.declared.outside.Asked.{Asked}
-use Rattle.pv_base.specs.declared.outside.Asked.TheVariants.{Fetch}
+use Rattle.pv_base.specs.declared.outside.Asked.TheVariants.{Fetch, Place}
 use Rattle.pv_report.specs.declared.status.Status.{Status}
 use Rattle.pv_report.specs.declared.status.Status.TheVariants as status
 use Rattle.pv_report.specs.Report.{Judged}
+use Rattle.pv_sections.specs.Certified.{IsCertificateFor}
 use Rattle.pv_sections.specs.Ruled.{Ruled}
 use Rattle.pv_top.specs.declared.words.Command.{Command}
 use Rattle.pv_top.specs.declared.words.Command.TheVariants.{Validate, Check}
-use Rattle.pv_top.specs.Words.{fetches, names_of, bad_words}
+use Rattle.pv_top.specs.Words.{fetches, names_of, placed_name, bad_words}
 use Rattle.pv_top.specs.Promise.{Holds}
+
+-- ---- what is said
 
 -- the text was taken, and the status goes with it; or the sink failed, and took a front of the text
 abbrev pub Puts : Option (List ℕ) → Option (List ℕ) → List ℕ → Status → Status → Type 0 → Type 0
@@ -25,42 +29,109 @@ Says old new (b ∷ text) meant result rose = Puts old new (b ∷ text) meant re
 
 -- the text that a command answers to the bytes of its files, and the status that goes with it
 abbrev pub IsAnswer : Command (List ℕ) → List (List ℕ) → List ℕ → Status → Type 0
-IsAnswer (Validate a b rounds budget) (x ∷ y ∷ []) text s = Judged (record { rounds = rounds; budget = budget }) x y text s
+IsAnswer (Validate a b rounds budget cert) (x ∷ y ∷ []) text s = Judged (record { rounds = rounds; budget = budget }) x y text s
 IsAnswer (Check a b cert) (x ∷ y ∷ z ∷ []) text s = Ruled x y z text s
 IsAnswer c contents text s = ⊥
 
--- what the command answers to the bytes that the store had under its names was said
+-- the bytes that the store had under the names of a command's files
+abbrev pub AreContents : Option Stored → Command (List ℕ) → List (List ℕ) → Type 0
+AreContents held c contents = AllZip (λ (f : List ℕ × ℕ) (bytes : List ℕ). Holds held f.0 bytes) (fetches c) contents
+
+-- what the command answers to them was said
 pub record SaidOf (held : Option Stored) (c : Command (List ℕ)) (old new : Option (List ℕ)) (write_rose : Type 0) (result : Status) : Type 0 where
   pub contents : List (List ℕ)
-  pub are_held : AllZip (λ (f : List ℕ × ℕ) (bytes : List ℕ). Holds held f.0 bytes) (fetches c) contents
+  pub are_held : AreContents held c contents
   pub are_bytes : AllByRecursion AreBytes contents
   pub text : List ℕ
   pub meant : Status
   pub answer : IsAnswer c contents text meant
   pub says : Says old new text meant result write_rose
 
--- What is said: that the words are no command; or that of a command, where no fetch failed and memory didn't run out, else nothing.
+-- the command places something, and this failed before anything was said
+abbrev pub FailsToPlace : Command (List ℕ) → Option (List ℕ) → Option (List ℕ) → Type 0 → Type 0
+FailsToPlace c old new files_rose = ((name : List ℕ) × (placed_name c ≡ Some name)) × files_rose × (new ≡ old)
+
+-- What is said: that the words are no command; or that of a command, where no call of the files failed and memory didn't run out, else
+-- nothing.
 abbrev pub Answered : Option Stored → Option (Command (List ℕ)) → Option (List ℕ) → Option (List ℕ) → Type 0 → Type 0 → Status → Type 0
-Answered held None old new read_rose write_rose result = Says old new bad_words status.BadWords result write_rose
-Answered held (Some c) old new read_rose write_rose status.ReadFault = read_rose × (new ≡ old)
-Answered held (Some c) old new read_rose write_rose status.Memory = new ≡ old
-Answered held (Some c) old new read_rose write_rose result = SaidOf held c old new write_rose result
+Answered held c old new files_rose write_rose status.Memory = new ≡ old
+Answered held None old new files_rose write_rose result = Says old new bad_words status.BadWords result write_rose
+Answered held (Some c) old new files_rose write_rose status.ReadFault = files_rose × (new ≡ old)
+Answered held (Some c) old new files_rose write_rose status.WriteFault = FailsToPlace c old new files_rose ⊎ SaidOf held c old new write_rose status.WriteFault
+Answered held (Some c) old new files_rose write_rose result = SaidOf held c old new write_rose result
+
+-- ---- what is asked
+
+-- the fetches of a command, in their order
+abbrev pub fetch_calls : Command (List ℕ) → List Asked
+fetch_calls c = map Fetch (names_of c)
+
+abbrev pub place_calls : Option (List ℕ) → List Asked
+place_calls None = []
+place_calls (Some name) = Place name ∷ []
+
+-- and then what it places
+abbrev pub all_calls : Command (List ℕ) → List Asked
+all_calls c = fetch_calls c ++ place_calls (placed_name c)
 
 -- some bytes stand under the name
 abbrev pub IsThere : Option Stored → List ℕ → Type 0
 IsThere held name = (bytes : List ℕ) × Holds held name bytes
 
--- the record of calls grew by fetches of these names
-abbrev pub GrewBy : Option (List Asked) → Option (List Asked) → List (List ℕ) → Type 0
-GrewBy old new names = new ≡ more old (map Fetch names)
+-- the record of calls grew by these
+abbrev pub GrewBy : Option (List Asked) → Option (List Asked) → List Asked → Type 0
+GrewBy old new calls = new ≡ more old calls
 
--- The record of calls grows by fetches of all names of the command, in their order. Where a fetch fails, it grows by those up to this one, and the names before it are there; where memory runs out, by the first n of them, for some n.
-abbrev pub AskedFor : Option Stored → Option (List Asked) → Option (List Asked) → List (List ℕ) → Status → Type 0
-AskedFor held old new names status.Memory = (n : ℕ) × (n ≤ length names) × GrewBy old new (take n names)
-AskedFor held old new names status.ReadFault = (n : ℕ) × (n < length names) × AllByRecursion (IsThere held) (take n names) × GrewBy old new (take (suc n) names)
-AskedFor held old new names result = GrewBy old new names
+-- The record of calls grows by all calls of the command; by its fetches alone, where a file of it has no reading. Where a fetch fails, it
+-- grows by those up to this one, and the names before it are there; where memory runs out, by the first n calls, for some n.
+abbrev pub AskedFor : Option Stored → Command (List ℕ) → Option (List Asked) → Option (List Asked) → Type 0 → Status → Type 0
+AskedFor held c old new write_rose status.Memory = (n : ℕ) × GrewBy old new (take n (all_calls c))
+AskedFor held c old new write_rose status.ReadFault = (n : ℕ) × (n < length (names_of c)) × AllByRecursion (IsThere held) (take n (names_of c)) × GrewBy old new (map Fetch (take (suc n) (names_of c)))
+AskedFor held c old new write_rose status.AllEquivalent = GrewBy old new (all_calls c)
+AskedFor held c old new write_rose status.Others = GrewBy old new (all_calls c)
+AskedFor held c old new write_rose status.WriteFault = GrewBy old new (all_calls c) ⊎ (write_rose × GrewBy old new (fetch_calls c))
+AskedFor held c old new write_rose result = GrewBy old new (fetch_calls c)
 
 -- Words that are no command ask nothing.
-abbrev pub CallsFor : Option Stored → Option (Command (List ℕ)) → Option (List Asked) → Option (List Asked) → Status → Type 0
-CallsFor held None old new result = new ≡ old
-CallsFor held (Some c) old new result = AskedFor held old new (names_of c) result
+abbrev pub CallsFor : Option Stored → Option (Command (List ℕ)) → Option (List Asked) → Option (List Asked) → Type 0 → Status → Type 0
+CallsFor held None old new write_rose result = new ≡ old
+CallsFor held (Some c) old new write_rose result = AskedFor held c old new write_rose result
+
+-- ---- what is left
+
+-- the bytes that a command places, by the bytes of its files
+abbrev pub IsPlaced : Command (List ℕ) → List (List ℕ) → List ℕ → Type 0
+IsPlaced (Validate a b rounds budget cert) (x ∷ y ∷ []) bytes = IsCertificateFor (record { rounds = rounds; budget = budget }) x y bytes
+IsPlaced c contents bytes = ⊥
+
+-- the name holds what the command places for what the store had under the names of its files, and nothing else changed
+pub record HoldsPlaced (old new : Stored) (c : Command (List ℕ)) (name : List ℕ) : Type 0 where
+  pub contents : List (List ℕ)
+  pub are_held : AreContents (Some old) c contents
+  pub bytes : List ℕ
+  pub placed : IsPlaced c contents bytes
+  pub new_is : new ≡ insert old name bytes
+
+-- A report leaves what the command places under its name. A fault of a place or of the sink, and want of memory, may leave anything
+-- there. Else nothing changes.
+abbrev pub LeavesAt : List ℕ → Command (List ℕ) → Stored → Stored → Status → Type 0
+LeavesAt name c old new status.AllEquivalent = HoldsPlaced old new c name
+LeavesAt name c old new status.Others = HoldsPlaced old new c name
+LeavesAt name c old new status.WriteFault = OnlyAt name old new
+LeavesAt name c old new status.Memory = OnlyAt name old new
+LeavesAt name c old new result = new ≡ old
+
+-- the same, where what the store holds is known, as it is afterwards too
+abbrev pub LeavesNamed : List ℕ → Command (List ℕ) → Option Stored → Option Stored → Status → Type 0
+LeavesNamed name c None None result = Unit {0}
+LeavesNamed name c (Some old) (Some new) result = LeavesAt name c old new result
+LeavesNamed name c old new result = ⊥
+
+abbrev pub LeavesBy : Option (List ℕ) → Command (List ℕ) → Option Stored → Option Stored → Status → Type 0
+LeavesBy None c old new result = new ≡ old
+LeavesBy (Some name) c old new result = LeavesNamed name c old new result
+
+-- what the store holds after the call: a command that places nothing, and words that are no command, change nothing
+abbrev pub Leaves : Option (Command (List ℕ)) → Option Stored → Option Stored → Status → Type 0
+Leaves None old new result = new ≡ old
+Leaves (Some c) old new result = LeavesBy (placed_name c) c old new result

@@ -1,23 +1,25 @@
 //! The top call.
 
-ghost use Rattle.std.specs.Prelude.{◌≡◌, ◌≤◌, ◌∷◌, ◌++◌, [], IfOk, IfErr, OnOk, List, ℕ, Option, Some, length};
+ghost use Rattle.std.specs.Prelude.{◌≡◌, ◌≤◌, ◌∷◌, ◌++◌, [], IfOk, IfErr, OnOk, OnErr, List, ℕ, Option, Some, None, length};
 ghost use Rattle.std.specs.List.{AllZip};
 ghost use Rattle.pv_base.specs.Outside.{Rose};
 ghost use Rattle.pv_base.specs.Stored.{AreBytes};
-ghost use Rattle.pv_base.specs.declared.outside.Asked.TheVariants.{Fetch};
-ghost use Rattle.pv_top.specs.Words.{IsCommand, fetches, first_of, names_of, second_of, texts};
+ghost use Rattle.pv_base.specs.declared.outside.Asked.TheVariants.{Fetch, Place};
+ghost use Rattle.pv_words.specs.Answers.{texts};
+ghost use Rattle.pv_report.specs.Judging.{JudgesFetched};
+ghost use Rattle.pv_top.specs.Words.{IsCommand, fetches, first_of, names_of, second_of};
 ghost use Rattle.pv_top.specs.Commands.{named};
-ghost use Rattle.pv_top.specs.Run.{Answered, CallsFor, Says};
+ghost use Rattle.pv_top.specs.Run.{Answered, CallsFor, Leaves, Says};
 ghost use Rattle.pv_top.specs.Promise.{EachEquivalent};
-ghost use Rattle.pv_top.specs.Fetching.{AnswersFetched, Asks, AsksAll, HoldAll, HoldsFetched, HoldsWanted, ReadFailed, wanted_names};
+ghost use Rattle.pv_top.specs.Fetching.{AnswersFetched, Asks, AsksAll, AsksPlaced, ChangesAt, HoldAll, HoldsFetched, HoldsWanted, LeavesPlaced, PlaceFailed, PlacesFetched, PlacesIn, ReadFailed, SaysAfter, ShowsIn, content_of, named_as, wanted_names};
 ghost use Rattle.pv_top.specs.declared.words.Command as commands;
 
-use crate::words::{Command, read_words};
+use crate::words::{Command, command_of};
 use pv_base::{FileFault, Files, Gate, Sink};
 use pv_class::LONGEST_FILE;
 use pv_prove::Limits;
-use pv_report::{Answer, Fetched, Status, judge};
-use pv_sections::{LONGEST_CERT, rule};
+use pv_report::{Answer, Detail, Fetched, Status, judge};
+use pv_sections::{LONGEST_CERT, Shown, rule, show};
 use pv_value::Memory;
 use std::alloc::Global;
 use std::thread::Threads;
@@ -29,10 +31,25 @@ pub(crate) struct Wanted<'a> {
     limit: usize,
 }
 
+/// What a command answers: what it places, under which name, and what it says after that.
+#[derive(Drop)]
+pub(crate) struct Reply<'a> {
+    placed: Option<Placed<'a>>,
+    answer: Answer,
+}
+
+/// Bytes, and the name under which they are placed.
+#[derive(Drop)]
+pub(crate) struct Placed<'a> {
+    name: &'a str,
+    bytes: Vec<u8>,
+}
+
 /// Does what the words of a command line say, and answers how that went.
 ///
-/// `words` are the words after the program's name. `validate A B` fetches the class files A and B
-/// and says, in a line for each method of A, whether a search shows that its partner in B has the same meaning.
+/// `words` are the words after the program's name. `validate [--rounds N] [--budget N] [--cert FILE] A B` fetches the class files A
+/// and B and says, in a line for each method of A, whether a search shows that its partner in B has the same meaning; with `--cert`
+/// it places under FILE, before that, the certificate of what is equivalent.
 /// `check A B CERT` fetches a certificate too, and says, in a line for each of its sections, whether
 /// the steps of the section show this of the two methods that it names. The gate is passed before each step, and by a search
 /// before each node at which the left side of an axiom may start.
@@ -51,16 +68,17 @@ pub fn run<R: Threads + Sync, F: Files, K: Sink, G: Gate>(
     ensures answered { (c : Option (commands.Command (List ℕ))) → IsCommand (texts words.now) c → Answered (F.held files.old) c (K.sent out.old) (K.sent out.new) (Rose (F.failures files.old) (F.failures files.new)) (Rose (K.failures out.old) (K.failures out.new)) result }
 
     // What is asked of the files, and what they hold afterwards.
-    ensures asked { (c : Option (commands.Command (List ℕ))) → IsCommand (texts words.now) c → CallsFor (F.held files.old) c (F.asked files.old) (F.asked files.new) result }
-    ensures held { F.held files.new ≡ F.held files.old }
+    ensures asked { (c : Option (commands.Command (List ℕ))) → IsCommand (texts words.now) c → CallsFor (F.held files.old) c (F.asked files.old) (F.asked files.new) (Rose (K.failures out.old) (K.failures out.new)) result }
+    ensures held { (c : Option (commands.Command (List ℕ))) → IsCommand (texts words.now) c → Leaves c (F.held files.old) (F.held files.new) result }
 {
-    match read_words(words) {
-        Some(command) => execute(alloc, gate, command, files, out),
-        None => say(out, b"bad words\n", Status::BadWords),
+    match command_of(alloc, words) {
+        Ok(Some(command)) => execute(alloc, gate, command, files, out),
+        Ok(None) => say(out, b"bad words\n", Status::BadWords),
+        Err(_) => Status::Memory,
     }
 }
 
-// Fetches the files of a command, and says what it answers.
+// Fetches the files of a command, and gives its reply to them.
 fn execute<F: Files, K: Sink, G: Gate>(
     alloc: Global,
     gate: &G,
@@ -69,42 +87,129 @@ fn execute<F: Files, K: Sink, G: Gate>(
     out: &mut K,
 ) -> Status
     ensures answered { Answered (F.held files.old) (Some (named command.entry)) (K.sent out.old) (K.sent out.new) (Rose (F.failures files.old) (F.failures files.new)) (Rose (K.failures out.old) (K.failures out.new)) result }
-    ensures asked { CallsFor (F.held files.old) (Some (named command.entry)) (F.asked files.old) (F.asked files.new) result }
-    ensures held { F.held files.new ≡ F.held files.old }
+    ensures asked { CallsFor (F.held files.old) (Some (named command.entry)) (F.asked files.old) (F.asked files.new) (Rose (K.failures out.old) (K.failures out.new)) result }
+    ensures held { Leaves (Some (named command.entry)) (F.held files.old) (F.held files.new) result }
 {
     let fetched = match fetch_files(alloc, command, files) {
         Ok(fetched) => fetched,
         Err(status) => return status,
     };
-    match answer(alloc, gate, command, &fetched) {
-        Ok(answer) => say(out, &answer.text, answer.status),
+    match reply_to(alloc, gate, command, &fetched) {
+        Ok(reply) => give(alloc, &reply, files, out),
         Err(_) => Status::Memory,
     }
 }
 
-// What a command answers to the files that were fetched for it.
-fn answer<G: Gate>(
+// The reply of a command to the files that were fetched for it.
+fn reply_to<'a, G: Gate>(
     alloc: Global,
     gate: &G,
-    command: Command<&str>,
+    command: Command<&'a str>,
     fetched: &[Fetched],
-) -> Result<Answer, Memory>
+) -> Result<Reply<'a>, Memory>
     requires { length fetched.now ≡ length (fetches (named command)) }
-    ensures { IfOk result (λ answer. AnswersFetched (named command.entry) fetched.now answer.text.items answer.status) }
+    ensures answer { IfOk result (λ reply. AnswersFetched (named command.entry) fetched.now reply.answer.text.items reply.answer.status) }
+    ensures placed { IfOk result (λ reply. PlacesFetched (named command.entry) fetched.now reply.answer.status (content_of reply.placed)) }
 {
     match command {
-        Command::Validate { rounds, budget, .. } => {
+        Command::Validate {
+            rounds,
+            budget,
+            cert,
+            ..
+        } => {
             let [first, second] = fetched else {
                 unreachable!();
             };
-            judge(alloc, gate, Limits { rounds, budget }, first, second)
+            let limits = Limits { rounds, budget };
+            match cert {
+                Some(name) => show_in(alloc, gate, limits, name, first, second),
+                None => {
+                    let report = judge(alloc, gate, limits, Detail::Verdict, first, second)?;
+                    Ok(said(report.answer))
+                }
+            }
         }
         Command::Check { .. } => {
             let [first, second, cert] = fetched else {
                 unreachable!();
             };
-            rule(alloc, gate, first, second, cert)
+            let answer = rule(alloc, gate, first, second, cert)?;
+            Ok(said(answer))
         }
+    }
+}
+
+// A reply that places nothing.
+fn said<'a>(answer: Answer) -> Reply<'a>
+    ensures answer { result.answer ≡ answer }
+    ensures placed { result.placed ≡ None }
+{
+    Reply {
+        placed: None,
+        answer,
+    }
+}
+
+// What is said of two class files, with the certificate that shows it under a name.
+fn show_in<'a, G: Gate>(
+    alloc: Global,
+    gate: &G,
+    limits: Limits,
+    name: &'a str,
+    first: &Fetched,
+    second: &Fetched,
+) -> Result<Reply<'a>, Memory>
+    ensures answer { IfOk result (λ reply. JudgesFetched limits first.now second.now reply.answer.text.items reply.answer.status) }
+    ensures placed { IfOk result (λ reply. ShowsIn limits name.entry.now first.now second.now reply.answer.status (content_of reply.placed)) }
+{
+    let Shown {
+        answer,
+        certificate,
+    } = show(alloc, gate, limits, first, second)?;
+    Ok(Reply {
+        placed: placed_as(name, certificate),
+        answer,
+    })
+}
+
+// A certificate, if any, under its name.
+fn placed_as<'a>(name: &'a str, certificate: Option<Vec<u8>>) -> Option<Placed<'a>>
+    ensures { content_of result ≡ named_as name.entry.now certificate }
+{
+    match certificate {
+        Some(bytes) => Some(Placed { name, bytes }),
+        None => None,
+    }
+}
+
+// Places what a reply has to place, and says what it says.
+fn give<F: Files, K: Sink>(alloc: Global, reply: &Reply, files: &mut F, out: &mut K) -> Status
+    ensures said { SaysAfter (content_of reply.now.placed) (K.sent out.old) (K.sent out.new) reply.now.answer.text.items reply.now.answer.status result (Rose (F.failures files.old) (F.failures files.new)) (Rose (K.failures out.old) (K.failures out.new)) }
+    ensures held { LeavesPlaced (content_of reply.now.placed) (F.held files.old) (F.held files.new) result (Rose (F.failures files.old) (F.failures files.new)) }
+    ensures asked { AsksPlaced (content_of reply.now.placed) (F.asked files.old) (F.asked files.new) result }
+    ensures later { F.failures files.old ≤ F.failures files.new }
+{
+    if let Some(placed) = &reply.placed {
+        if let Err(status) = place(alloc, placed, files) {
+            return status;
+        }
+    }
+    say(out, &reply.answer.text, reply.answer.status)
+}
+
+// Places bytes under their name.
+fn place<F: Files>(alloc: Global, placed: &Placed, files: &mut F) -> Result<(), Status>
+    ensures ok { OnOk result (PlacesIn (F.held files.old) (F.held files.new) placed.now.name.now placed.now.bytes.items) }
+    ensures err { OnErr result (ChangesAt (F.held files.old) (F.held files.new) placed.now.name.now) }
+    ensures failure { IfErr result (λ status. PlaceFailed status (Rose (F.failures files.old) (F.failures files.new))) }
+    ensures asked { Asks (F.asked files.old) (F.asked files.new) (Place placed.now.name.now) result }
+    ensures later { F.failures files.old ≤ F.failures files.new }
+{
+    match files.place(alloc, placed.name, &placed.bytes) {
+        Ok(()) => Ok(()),
+        Err(FileFault::Memory) => Err(Status::Memory),
+        Err(_) => Err(Status::WriteFault),
     }
 }
 
@@ -117,6 +222,7 @@ fn fetch_files<F: Files>(
     ensures content { IfOk result (λ fetched. HoldAll (F.held files.old) (fetches (named command.entry)) fetched.items) }
     ensures failure { IfErr result (λ status. ReadFailed status (Rose (F.failures files.old) (F.failures files.new))) }
     ensures asked { AsksAll (F.held files.old) (F.asked files.old) (F.asked files.new) (names_of (named command.entry)) result }
+    ensures later { F.failures files.old ≤ F.failures files.new }
     ensures held { F.held files.new ≡ F.held files.old }
 {
     match command {
@@ -162,6 +268,7 @@ fn fetch_all<F: Files>(alloc: Global, all: &[Wanted], files: &mut F) -> Result<V
     ensures content { IfOk result (λ fetched. AllZip (HoldsWanted (F.held files.old)) all.now fetched.items) }
     ensures failure { IfErr result (λ status. ReadFailed status (Rose (F.failures files.old) (F.failures files.new))) }
     ensures asked { AsksAll (F.held files.old) (F.asked files.old) (F.asked files.new) (wanted_names all.now) result }
+    ensures later { F.failures files.old ≤ F.failures files.new }
     ensures held { F.held files.new ≡ F.held files.old }
 {
     let mut fetched = Vec::new(alloc);

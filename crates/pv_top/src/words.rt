@@ -1,24 +1,35 @@
 //! The words of the command line.
 
-ghost use Rattle.std.specs.Prelude.{◌≡◌, ◌↔◌, IsTrue};
-ghost use Rattle.pv_top.specs.Words.{IsFileName};
-ghost use Rattle.pv_top.specs.Commands.{IsRead};
+ghost use Rattle.std.specs.Prelude.{IfOk};
+ghost use Rattle.pv_top.specs.Commands.{IsRead, IsReadCheck, IsReadValidate, ReadsLimit};
+
+use pv_value::Memory;
+use pv_words::{Shape, number_in, read_words};
+use std::alloc::Global;
 
 /// The rounds that a search may make, where the words don't say.
 pub const DEFAULT_ROUNDS: u32 = 6;
 
+/// The most rounds that the words may allow. The least is 0.
+pub const MOST_ROUNDS: u32 = 16;
+
 /// The matches that a round may have, where the words don't say.
 pub const DEFAULT_BUDGET: u32 = 200_000;
+
+/// The most matches that the words may allow. The least is 1.
+pub const MOST_BUDGET: u32 = 500_000;
 
 /// A command, by the names of its files.
 #[derive(Clone, Copy, Debug)]
 pub enum Command<N> {
-    /// Compare two class files, by searches of at most `rounds` rounds, each of at most `budget` matches.
+    /// Compare two class files, by searches of at most `rounds` rounds, each of at most `budget` matches, and place the
+    /// certificate of what is equivalent, where it has a name.
     Validate {
         first: N,
         second: N,
         rounds: u32,
         budget: u32,
+        cert: Option<N>,
     },
     /// Check a certificate for two class files.
     Check {
@@ -28,51 +39,85 @@ pub enum Command<N> {
     },
 }
 
-/// The command that the words are, None where they are none.
-pub(crate) fn read_words<'a>(words: &[&'a str]) -> Option<Command<&'a str>>
-    ensures { IsRead words.now result }
+/// The command that the words are, None where they are none. Out of memory is the one error.
+pub(crate) fn command_of<'a>(
+    alloc: Global,
+    words: &'a [&'a str],
+) -> Result<Option<Command<&'a str>>, Memory>
+    ensures { IfOk result (λ command. IsRead words.now command) }
 {
-    match words {
-        [command, first, second] => {
-            let (command, first, second): (&str, &str, &str) = (*command, *first, *second);
-            if command == "validate" && is_file_name(first) && is_file_name(second) {
-                Some(Command::Validate {
-                    first,
-                    second,
-                    rounds: DEFAULT_ROUNDS,
-                    budget: DEFAULT_BUDGET,
-                })
-            } else {
-                None
-            }
-        }
-        [command, first, second, cert] => {
-            let (command, first): (&str, &str) = (*command, *first);
-            let (second, cert): (&str, &str) = (*second, *cert);
-            if command == "check"
-                && is_file_name(first)
-                && is_file_name(second)
-                && is_file_name(cert)
-            {
-                Some(Command::Check {
-                    first,
-                    second,
-                    cert,
-                })
-            } else {
-                None
-            }
-        }
-        _ => None,
+    let Some((name, rest)) = words.split_first() else {
+        return Ok(None);
+    };
+    let name: &str = *name;
+    if name == "validate" {
+        validate_of(alloc, rest)
+    } else if name == "check" {
+        check_of(alloc, rest)
+    } else {
+        Ok(None)
     }
 }
 
-// Whether a word is the name of a file: it isn't empty and doesn't begin with `-`.
-fn is_file_name(word: &str) -> bool
-    ensures { IsTrue result ↔ IsFileName word.now }
+// The command `validate` with these words after its name.
+fn validate_of<'a>(alloc: Global, words: &'a [&'a str]) -> Result<Option<Command<&'a str>>, Memory>
+    ensures { IfOk result (λ command. IsReadValidate words.now command) }
 {
-    match word.as_bytes() {
-        [] => false,
-        [first, ..] => *first != b'-',
+    let shape = Shape {
+        options: &["rounds", "budget", "cert"],
+        arguments: 2,
+    };
+    let Some(given) = read_words(alloc, &shape, words)? else {
+        return Ok(None);
+    };
+    let ([rounds, budget, cert], [first, second]) = (
+        given.options.as_slice(),
+        given.arguments.as_slice(),
+    ) else {
+        unreachable!();
+    };
+    let Some(rounds) = limit(*rounds, 0, MOST_ROUNDS, DEFAULT_ROUNDS) else {
+        return Ok(None);
+    };
+    let Some(budget) = limit(*budget, 1, MOST_BUDGET, DEFAULT_BUDGET) else {
+        return Ok(None);
+    };
+    Ok(Some(Command::Validate {
+        first: *first,
+        second: *second,
+        rounds,
+        budget,
+        cert: *cert,
+    }))
+}
+
+// The command `check` with these words after its name.
+fn check_of<'a>(alloc: Global, words: &'a [&'a str]) -> Result<Option<Command<&'a str>>, Memory>
+    ensures { IfOk result (λ command. IsReadCheck words.now command) }
+{
+    let shape = Shape {
+        options: &[],
+        arguments: 3,
+    };
+    let Some(given) = read_words(alloc, &shape, words)? else {
+        return Ok(None);
+    };
+    let [first, second, cert] = given.arguments.as_slice() else {
+        unreachable!();
+    };
+    Ok(Some(Command::Check {
+        first: *first,
+        second: *second,
+        cert: *cert,
+    }))
+}
+
+// The limit that an option gives: its number within its bounds, or the default; None, where its text is no such number.
+fn limit(given: Option<&str>, least: u32, most: u32, default: u32) -> Option<u32>
+    ensures { ReadsLimit least most default given.entry result }
+{
+    match given {
+        Some(text) => number_in(text, least, most),
+        None => Some(default),
     }
 }

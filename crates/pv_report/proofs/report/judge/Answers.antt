@@ -1,17 +1,26 @@
 use Rattle.pv_report.specs.Verdicts.{IsVerdict}
-use Rattle.pv_report.proofs.Judgements.{bad_file, judges}
+use Rattle.pv_report.proofs.Judgements.{bad_file, judges, report_status, shows}
 use Rattle.pv_report.proofs.Lists.{zip_length}
 use Rattle.pv_report.proofs.report.judge.Goals as goal
 
-pub returns-in-Err : goal.returns-in-Err
-returns-in-Err g c =
-    let said = c.in_ok-bad_class-in-Err.field-0 in
-    bad_file c.args.limits c.args.first.now c.args.second.now c.in-Err.bad said.text.items said.status (rw c.in-Err.is at c.in_ok-pair.ensures.reads) c.in_ok-bad_class-in-Err.ensures.text c.in_ok-bad_class-in-Err.ensures.status
+pub returns-in-Err-clause-answer : goal.returns-in-Err-clause-answer
+returns-in-Err-clause-answer g c =
+    let said = c.in_ok-answer-in-Err.answer in
+    bad_file c.args.limits c.args.first.now c.args.second.now c.in-Err.bad said.text.items said.status (rw c.in-Err.is at c.in_ok-pair.ensures.reads) c.in_ok-answer-in-Err.ensures.text c.in_ok-answer-in-Err.ensures.status
 
-pub lines-requires : goal.lines-requires
-lines-requires g c = rw (c.deref-2.ensures.value, c.as_slice.ensures) (zip_length (IsVerdict c.args.limits c.in-Ok.pair.first c.in-Ok.pair.second) c.in-Ok.pair.first.methods c.in_ok-verdicts.verdicts.items c.in_ok-verdicts.ensures)
+pub answer_of-requires : goal.answer_of-requires
+answer_of-requires g c = rw (c.deref-2.ensures.value, c.as_slice.ensures) (zip_length (IsVerdict c.args.limits c.in-Ok.pair.first c.in-Ok.pair.second) c.in-Ok.pair.first.methods c.in_ok-judgements.judgements.verdicts.items c.in_ok-judgements.ensures.verdicts)
 
-pub returns : goal.returns
-returns g c =
-    judges c.args.limits c.args.first.now c.args.second.now c.in-Ok.pair c.in_ok-verdicts.verdicts.items c.in_ok-text.text.items c.status_of-status.result (rw c.in-Ok.is at c.in_ok-pair.ensures.reads) c.in_ok-verdicts.ensures
-    (rw (c.deref-2.ensures.value, c.as_slice.ensures) at c.in_ok-text.ensures) (rw c.deref-3.ensures.value at c.status_of-status.ensures)
+pub returns-clause-answer : goal.returns-clause-answer
+returns-clause-answer g c =
+    judges c.args.limits c.args.first.now c.args.second.now c.in-Ok.pair c.in_ok-judgements.judgements.verdicts.items c.in_ok-answer.answer.text.items c.in_ok-answer.answer.status (rw c.in-Ok.is at c.in_ok-pair.ensures.reads) c.in_ok-judgements.ensures.verdicts
+    (rw (c.deref-2.ensures.value, c.as_slice.ensures) at c.in_ok-answer.ensures.text) (rw c.deref-2.ensures.value at c.in_ok-answer.ensures.status)
+
+pub returns-clause-sections : goal.returns-clause-sections
+returns-clause-sections g c wanted =
+    rw c.from.ensures
+    (shows c.args.limits c.args.first.now c.args.second.now c.in-Ok.pair c.in_ok-judgements.judgements.verdicts.items c.in_ok-judgements.judgements.sections.items (rw c.in-Ok.is at c.in_ok-pair.ensures.reads) c.in_ok-judgements.ensures.verdicts
+    (c.in_ok-judgements.ensures.sections wanted))
+
+pub returns-clause-none : goal.returns-clause-none
+returns-clause-none g c = (λ none. absurd (cc none), λ bad. absurd (report_status c.in_ok-judgements.judgements.verdicts.items c.in_ok-answer.answer.status (rw c.deref-2.ensures.value at c.in_ok-answer.ensures.status) bad))

@@ -1,35 +1,75 @@
 use Rattle.pv_base.specs.Outside.{Rose}
 use Rattle.pv_top.specs.Commands.{named}
-use Rattle.pv_top.specs.Fetching.{AnswersFetched}
-use Rattle.pv_top.specs.Run.{Says}
-use Rattle.pv_top.specs.Words.{names_of}
-use Rattle.pv_top.proofs.Answering.{said_of, said_result}
-use Rattle.pv_top.proofs.Asking.{asked_all}
-use Rattle.pv_top.proofs.Saying.{answered_said, no_read_fault}
+use Rattle.pv_top.specs.Fetching.{content_of}
+use Rattle.pv_top.proofs.Replying.{IsReply, fetches_asked, reply_answered, reply_asked, leaves_since, reply_left, says_since}
 use Rattle.pv_top.proofs.top.execute.Goals as goal
 
-pub returns-in-Ok-answer-clause-answered : goal.returns-in-Ok-answer-clause-answered
-returns-in-Ok-answer-clause-answered g c =
-    let held = g.F.Files.held c.args.files.now in
-    let command = named c.args.command in
-    let old = g.K.Sink.sent c.args.out.now in
-    let new = g.K.Sink.sent c.say.new.out in
-    let rose = Rose (g.K.Sink.failures c.args.out.now) (g.K.Sink.failures c.say.new.out) in
-    let text = c.in-Ok-answer.answer.text.items in
-    let answers : AnswersFetched command c.in-Ok.fetched.items text c.in-Ok-answer.answer.status = rw c.deref.ensures.value at c.in-Ok-answer.ensures in
-    let says : Says old new text c.in-Ok-answer.answer.status c.say.result rose = rw c.deref-in-Ok-answer.ensures.value at c.say.ensures in
-    let said = said_of held command c.in-Ok.fetched.items old new rose text c.in-Ok-answer.answer.status c.say.result c.in-Ok.ensures.content answers says in
-    answered_said held command old new _ rose c.say.result (said_result held command old new rose c.say.result said) said
+pub returns-in-Err-clause-asked : goal.returns-in-Err-clause-asked
+returns-in-Err-clause-asked g c = fetches_asked (g.F.Files.held c.args.files.now) (named c.args.command) (g.F.Files.asked c.args.files.now) (g.F.Files.asked c.fetch_files.new.files) _ c.in-Err.status _ c.in-Err.ensures.asked c.in-Err.ensures.failure
 
-pub returns-in-Ok-answer-clause-asked : goal.returns-in-Ok-answer-clause-asked
-returns-in-Ok-answer-clause-asked g c =
+pub returns-in-Ok-reply_to-clause-answered : goal.returns-in-Ok-reply_to-clause-answered
+returns-in-Ok-reply_to-clause-answered g c =
     let held = g.F.Files.held c.args.files.now in
     let command = named c.args.command in
+    let fetched = c.in-Ok.fetched.items in
+    let reply = c.in-Ok-reply_to.reply in
+    let placed = content_of reply.placed in
+    let text = reply.answer.text.items in
     let old = g.K.Sink.sent c.args.out.now in
-    let new = g.K.Sink.sent c.say.new.out in
-    let rose = Rose (g.K.Sink.failures c.args.out.now) (g.K.Sink.failures c.say.new.out) in
-    let text = c.in-Ok-answer.answer.text.items in
-    let answers : AnswersFetched command c.in-Ok.fetched.items text c.in-Ok-answer.answer.status = rw c.deref.ensures.value at c.in-Ok-answer.ensures in
-    let says : Says old new text c.in-Ok-answer.answer.status c.say.result rose = rw c.deref-in-Ok-answer.ensures.value at c.say.ensures in
-    let said = said_of held command c.in-Ok.fetched.items old new rose text c.in-Ok-answer.answer.status c.say.result c.in-Ok.ensures.content answers says in
-    asked_all held (g.F.Files.asked c.args.files.now) (g.F.Files.asked c.fetch_files.new.files) (names_of command) c.say.result (no_read_fault c.say.result (said_result held command old new rose c.say.result said)) c.in-Ok.ensures.asked
+    let new = g.K.Sink.sent c.give.new.out in
+    let failures = g.F.Files.failures c.args.files.now in
+    let mid = g.F.Files.failures c.fetch_files.new.files in
+    let later = g.F.Files.failures c.give.new.files in
+    let rose = Rose (g.K.Sink.failures c.args.out.now) (g.K.Sink.failures c.give.new.out) in
+    let is : IsReply held command fetched placed text reply.answer.status = record {
+      holds = c.in-Ok.ensures.content;
+      answers = rw c.deref.ensures.value at c.in-Ok-reply_to.ensures.answer;
+      places = rw c.deref.ensures.value at c.in-Ok-reply_to.ensures.placed;
+    } in
+    let says = says_since placed old new text reply.answer.status c.give.result rose failures mid later c.in-Ok.ensures.later c.give.ensures.said in
+    reply_answered held command fetched text reply.answer.status c.give.result old new (Rose failures later) rose placed is says
+
+pub returns-in-Ok-reply_to-clause-asked : goal.returns-in-Ok-reply_to-clause-asked
+returns-in-Ok-reply_to-clause-asked g c =
+    let held = g.F.Files.held c.args.files.now in
+    let command = named c.args.command in
+    let fetched = c.in-Ok.fetched.items in
+    let reply = c.in-Ok-reply_to.reply in
+    let placed = content_of reply.placed in
+    let text = reply.answer.text.items in
+    let old = g.K.Sink.sent c.args.out.now in
+    let new = g.K.Sink.sent c.give.new.out in
+    let failures = g.F.Files.failures c.args.files.now in
+    let mid = g.F.Files.failures c.fetch_files.new.files in
+    let later = g.F.Files.failures c.give.new.files in
+    let rose = Rose (g.K.Sink.failures c.args.out.now) (g.K.Sink.failures c.give.new.out) in
+    let is : IsReply held command fetched placed text reply.answer.status = record {
+      holds = c.in-Ok.ensures.content;
+      answers = rw c.deref.ensures.value at c.in-Ok-reply_to.ensures.answer;
+      places = rw c.deref.ensures.value at c.in-Ok-reply_to.ensures.placed;
+    } in
+    let says = says_since placed old new text reply.answer.status c.give.result rose failures mid later c.in-Ok.ensures.later c.give.ensures.said in
+    reply_asked held command fetched placed text reply.answer.status c.give.result old new (Rose failures later) rose (g.F.Files.asked c.args.files.now) (g.F.Files.asked c.fetch_files.new.files) (g.F.Files.asked c.give.new.files) is says c.in-Ok.ensures.asked c.give.ensures.asked
+
+pub returns-in-Ok-reply_to-clause-held : goal.returns-in-Ok-reply_to-clause-held
+returns-in-Ok-reply_to-clause-held g c =
+    let held = g.F.Files.held c.args.files.now in
+    let command = named c.args.command in
+    let fetched = c.in-Ok.fetched.items in
+    let reply = c.in-Ok-reply_to.reply in
+    let placed = content_of reply.placed in
+    let text = reply.answer.text.items in
+    let old = g.K.Sink.sent c.args.out.now in
+    let new = g.K.Sink.sent c.give.new.out in
+    let failures = g.F.Files.failures c.args.files.now in
+    let mid = g.F.Files.failures c.fetch_files.new.files in
+    let later = g.F.Files.failures c.give.new.files in
+    let rose = Rose (g.K.Sink.failures c.args.out.now) (g.K.Sink.failures c.give.new.out) in
+    let is : IsReply held command fetched placed text reply.answer.status = record {
+      holds = c.in-Ok.ensures.content;
+      answers = rw c.deref.ensures.value at c.in-Ok-reply_to.ensures.answer;
+      places = rw c.deref.ensures.value at c.in-Ok-reply_to.ensures.placed;
+    } in
+    let says = says_since placed old new text reply.answer.status c.give.result rose failures mid later c.in-Ok.ensures.later c.give.ensures.said in
+    let left = leaves_since placed held (g.F.Files.held c.give.new.files) c.give.result failures mid later c.in-Ok.ensures.later (rw c.in-Ok.ensures.held at c.give.ensures.held) in
+    reply_left held (g.F.Files.held c.give.new.files) command fetched placed text reply.answer.status c.give.result old new (Rose failures later) rose is says left

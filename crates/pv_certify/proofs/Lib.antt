@@ -1,0 +1,2 @@
+-- 1. What a search made is what joins are explained from.
+pub mod Explaining

@@ -1,0 +1,2 @@
+-- what contracts say
+pub mod Met

@@ -1,0 +1,15 @@
+pub mod Rules
+pub mod Rows
+pub mod Once
+pub mod Looks
+pub mod Turns
+pub mod Settling
+pub mod Sound
+pub mod Complete
+pub mod Exact
+pub mod Building
+pub mod Lists
+pub mod Answering
+pub mod Examples
+pub mod Numbers
+pub mod Cited

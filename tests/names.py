@@ -24,7 +24,7 @@ TOPS = ("crates/", "docs/", "tests/", "tools/", "examples/")
 # Words of Java, of class files and of other programs.
 OTHERS = set(
     """
-    byteorder indexmap thiserror sha2 hex itoa percent_encoding antt rattle rt javac jar javap unzip jimage java mvn proguard sh diff
+    byteorder indexmap thiserror clap sha2 hex itoa percent_encoding antt rattle rt javac jar javap unzip jimage java mvn proguard sh diff
     META-INF META-INF/versions META-INF/versions/N lib/modules module-info.class package-info.class A$B.class
     ACC_STATIC ACC_SYNCHRONIZED Code StackMapTable LineNumberTable null this max_stack max_locals code_length
     true false BigEndian Option Result Debug Vec String match requires ensures unwrap to_be_bytes TheConstants

@@ -48,6 +48,12 @@ expect 'an empty word' 4 'bad words
 ' validate "" "$work/B"
 expect 'an option' 4 'bad words
 ' validate --help
+expect 'a certificate' 0 "$line" validate --rounds=3 --cert "$work/cert" "$work/A" "$work/B"
+expect 'the certificate is checked' 0 "$line" check "$work/A" "$work/B" "$work/cert"
+expect 'a certificate in no folder' 6 '' validate --cert "$work/absent/cert" "$work/A" "$work/B"
+cp "$work/A" "$work/C"
+expect 'a certificate in the place of a file' 0 "$line" validate "$work/C" "$work/B" --cert "$work/C"
+expect 'the certificate in its place' 0 "$line" check "$work/A" "$work/B" "$work/C"
 expect 'a word that is not UTF-8' 4 'bad words
 ' validate "$(printf '\377')" "$work/B"
 expect 'an absent file' 5 '' validate "$work/absent" "$work/B"

@@ -6,14 +6,16 @@ variable PUNTHIZHA names. Each JAR is optimised with names kept, as docs/USING.m
 have is one run of the program. It prints how many lines say what, without places, the slowest pairs, and the greatest memory.
 It needs proguard (Debian: proguard-cli) and a JDK 17, as examples/make.sh does; ProGuard reads no class file later than those of Java 13.
 
-    tests/pairs.py JAR..
+With --cert each run places a certificate, which a second run of the program checks: it must say `equivalent` of the same methods in the
+same order. The steps of its sections are counted. With --same the pairs are each class and itself, without ProGuard.
+
+    tests/pairs.py [--cert] [--same] JAR..
 """
 
 import os
 import subprocess
 import sys
 import tempfile
-import time
 import zipfile
 from collections import Counter
 from concurrent.futures import ThreadPoolExecutor
@@ -63,45 +65,85 @@ def unpacked(jar, into):
     return set(names)
 
 
-def run(pair):
-    """What the program says of two files, without places; with the seconds and the bytes that it took."""
-    name, one, other = pair
-    begin = time.monotonic()
-    child = subprocess.Popen([PROGRAM, "validate", one, other], stdout=subprocess.PIPE, stderr=subprocess.PIPE)
-    out = child.stdout.read()
+def called(*words):
+    """What a run of the program prints, its status, and the seconds and the kilobytes that it took."""
+    child = subprocess.Popen([PROGRAM, *words], stdout=subprocess.PIPE, stderr=subprocess.PIPE)
+    out = child.stdout.read().decode()
     _, status, used = os.wait4(child.pid, 0)
-    took = time.monotonic() - begin
-    words = Counter(" ".join(line.split(" ")[2:]).split(" at ")[0] for line in out.decode().splitlines())
-    return name, os.waitstatus_to_exitcode(status), took, used.ru_utime + used.ru_stime, used.ru_maxrss, words
+    return out, os.waitstatus_to_exitcode(status), used.ru_utime + used.ru_stime, used.ru_maxrss
+
+
+def lengths(text):
+    """The number of steps of each section of a certificate."""
+    found = []
+    for line in text.split("\n")[3:]:
+        if line.startswith("method "):
+            found.append(0)
+        elif line not in ("end", ""):
+            found[-1] += 1
+    return found
+
+
+def check(one, other, cert, out):
+    """What is wrong with a certificate for a report, or None; and the steps of its sections."""
+    if not os.path.isfile(cert):
+        return "no certificate", []
+    said, status, *_ = called("check", one, other, cert)
+    wanted = "".join(line + "\n" for line in out.splitlines() if line.endswith(" equivalent"))
+    with open(cert, encoding="ascii") as file:
+        steps = lengths(file.read())
+    os.remove(cert)
+    return (None if said == wanted and status == 0 else "other lines"), steps
+
+
+def run(pair, certified):
+    """What the program says of two files, without places; with the seconds and the kilobytes that it took, and with the certificate."""
+    name, one, other = pair
+    cert = other + ".cert"
+    out, status, used, memory = called("validate", *(["--cert", cert] if certified else []), one, other)
+    words = Counter(" ".join(line.split(" ")[2:]).split(" at ")[0] for line in out.splitlines())
+    fault, steps = check(one, other, cert, out) if certified and status in (0, 1) else (None, [])
+    return name, fault or status, used, memory, words, steps
+
+
+def pairs_of(jars, work, same):
+    """The pairs of class files, each with its name."""
+    library, pairs = None if same else java8(work), []
+    for number, jar in enumerate(jars):
+        place = os.path.join(work, str(number))
+        os.mkdir(place)
+        after = jar if same else optimised(os.path.realpath(jar), place, library)
+        if not after:
+            print("ProGuard doesn't take", os.path.basename(jar))
+            continue
+        one, other = os.path.join(place, "before"), os.path.join(place, "after")
+        both = unpacked(jar, one) & unpacked(after, other)
+        pairs += [(f"{os.path.basename(jar)}: {it}", os.path.join(one, it), os.path.join(other, it)) for it in sorted(both)]
+    return pairs
 
 
 def main():
     if not os.access(PROGRAM, os.X_OK):
         sys.exit("no program: run 'cd crates/punthizha && rt run' first")
-    answers = []
+    options = [it for it in sys.argv[1:] if it.startswith("--")]
+    jars = [it for it in sys.argv[1:] if not it.startswith("--")]
     with tempfile.TemporaryDirectory() as work:
-        library, pairs = java8(work), []
-        for number, jar in enumerate(sys.argv[1:]):
-            place = os.path.join(work, str(number))
-            os.mkdir(place)
-            after = optimised(os.path.realpath(jar), place, library)
-            if not after:
-                print("ProGuard doesn't take", os.path.basename(jar))
-                continue
-            one, other = os.path.join(place, "before"), os.path.join(place, "after")
-            both = unpacked(jar, one) & unpacked(after, other)
-            pairs += [(f"{os.path.basename(jar)}: {it}", os.path.join(one, it), os.path.join(other, it)) for it in sorted(both)]
+        pairs = pairs_of(jars, work, "--same" in options)
         with ThreadPoolExecutor(2) as pool:
-            answers = list(pool.map(run, pairs))
+            answers = list(pool.map(lambda pair: run(pair, "--cert" in options), pairs))
     wrong = [it for it in answers if it[1] not in (0, 1)]
     for name, status, *_ in wrong[:20]:
         print("FAILED ", status, name)
-    times = sorted(it[3] for it in answers)
+    times = sorted(it[2] for it in answers)
     print(f"{len(answers)} pairs, {sum(times):.1f} s of processor time, the median {times[len(times) // 2]:.3f} s")
-    for name, _, took, used, memory, _ in sorted(answers, key=lambda it: -it[3])[:5]:
+    for name, _, used, memory, *_ in sorted(answers, key=lambda it: -it[2])[:5]:
         print(f"{used:8.2f} s {memory // 1024:6} MB {name}")
-    print(f"the greatest memory {max(it[4] for it in answers) // 1024} MB")
-    for word, count in sum((it[5] for it in answers), Counter()).most_common():
+    print(f"the greatest memory {max(it[3] for it in answers) // 1024} MB")
+    steps = sorted(n for it in answers for n in it[5])
+    if steps:
+        some = [n for n in steps if n]
+        print(f"{len(steps)} sections, {len(some)} with steps, of these the median {some[len(some) // 2] if some else 0}, the longest {steps[-1]}")
+    for word, count in sum((it[4] for it in answers), Counter()).most_common():
         print(f"{count:8} {word}")
     sys.exit(1 if wrong else 0)
 

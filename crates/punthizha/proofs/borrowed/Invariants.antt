@@ -1,5 +1,5 @@
 use Rattle.std.proofs.Common.{take, ◌≡◌}
-use Rattle.pv_top.specs.Words.{texts}
+use Rattle.pv_words.specs.Answers.{texts}
 use Rattle.punthizha.specs.CommandLine.{bytes_of}
 use Rattle.punthizha.proofs.borrowed.Given as goal
 

@@ -25,7 +25,7 @@ use pv_value::Memory;
 use pv_writer::Writer;
 use std::alloc::Global;
 
-// States once more, by the last step, that two nodes are equal.
+// States by the last step that two nodes are equal: once more, where an earlier step did.
 fn state_last(writer: &mut Writer, a: NodeId, b: NodeId, why: Reason) -> Result<(), Memory>
     requires why { Gives writer.old.before (inside writer.old) [] why a b }
     requires apart { a ≢ b }
@@ -33,6 +33,7 @@ fn state_last(writer: &mut Writer, a: NodeId, b: NodeId, why: Reason) -> Result<
     ensures goes { OnOk result (GoesOn writer.old writer.new) }
 {
     match why {
+        Reason::By(fact) if fact.step as usize == writer.count() => Ok(()),
         Reason::By(fact) => {
             let back = writer.flip(b, a, fact)?;
             let _last = writer.flip(a, b, back)?;

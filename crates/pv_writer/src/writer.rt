@@ -141,6 +141,13 @@ impl<'a> Writer<'a> {
         &self.graph
     }
 
+    /// How many steps there are: the number of the last one.
+    pub fn count(&self) -> usize
+        ensures { result ≡ length self.now.before }
+    {
+        self.steps.len()
+    }
+
     /// Takes a right step that adds no node, and gives its number, which counts from 1. Where memory runs out nothing changes.
     pub fn push(&mut self, step: Step) -> Result<u32, Memory>
         requires right { RightOver Instance self.old.graph self.old.before step }

@@ -87,10 +87,11 @@ fn steps_for_kids(alloc: Global, least: &Least, searches: &Searches) -> Result<L
     ensures { IfOk result (λ steps. Derives Instance least.now.graph least.now.first least.now.second steps) }
 {
     let roots = root_pair(least);
+    let ending = searches.ending();
     let both = BothSearches {
         plain: made_by(&searches.plain),
-        ending: made_by(&searches.ending),
-        ends: &searches.ending.endings,
+        ending: made_by(ending),
+        ends: &ending.endings,
     };
     ending_section(alloc, least.graph(), &both, &roots)
 }

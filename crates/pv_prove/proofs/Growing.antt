@@ -1,5 +1,5 @@
 -- A search, seen from the least graph; one that is saturated; and the grounds of joins in a round.
-use Rattle.std.proofs.Common.{◌≡◌, ℕ, suc, List, Vec, Global, Result, Ok, Err, OnOk, refl, sym, ◌∙◌, subst}
+use Rattle.std.proofs.Common.{◌≡◌, ℕ, suc, List, Vec, Global, Option, Some, None, Result, Ok, Err, OnOk, refl, sym, ◌∙◌, subst}
 use Rattle.pv_graph.specs.Graphs.{Graph, form_at}
 use Rattle.pv_steps.specs.Facts.{View}
 use Rattle.pv_axioms.specs.Entries.{axioms}
@@ -13,7 +13,8 @@ use Rattle.pv_rounds.specs.Searching.{IsSearch, IsBegun, IsOver, IsSaturatedNow,
 use Rattle.pv_grounds.specs.Rounds.{AreGrounded}
 use Rattle.pv_grounds.proofs.Cited.{round_grounded}
 use Rattle.pv_prove.specs.declared.searches.Searches.{Searches}
-use Rattle.pv_prove.specs.Looking.{KeepsGrounds, GoOn}
+use Rattle.pv_prove.specs.Finding.{or_plain}
+use Rattle.pv_prove.specs.Looking.{ForOther, KeepsGrounds, GoesFurther, OtherGoes, GoOn}
 
 module _ (g : Graph) (k : ℕ) (s : Search) (is : IsSearch g k s) where
   view_is : base_view s.graph ≡ form_at g.nodes
@@ -70,12 +71,22 @@ round_keeps : (old new : Search) → IsBegun old → GoesOn old new → MakesRou
 round_keeps old new begun on made before =
     subst (λ (es : List ℕ). AreGrounded new.graph es new.classes) (sym on.endings_) (round_grounded old.graph new.graph old.endings.items old.classes new.classes begun.2.graph_ made before)
 
-pub grow_keeps : {E : Type 0} (r : Result (Unit {0}) E) (old new : Search) → IsBegun old → OnOk r (GoesOn old new) → OnOk r (MakesRound old.graph new.graph old.endings.items old.classes new.classes) → OnOk r (KeepsGrounds old new)
-grow_keeps (Ok u) old new begun on made = round_keeps old new begun on made
-grow_keeps (Err e) old new begun on made = tt
+pub grows : {E : Type 0} (r : Result (Unit {0}) E) (old new : Search) → IsBegun old → OnOk r (GoesOn old new) → OnOk r (MakesRound old.graph new.graph old.endings.items old.classes new.classes) → OnOk r (GoesFurther old new)
+grows (Ok u) old new begun on made = record { goes = on; grounds = round_keeps old new begun on made }
+grows (Err e) old new begun on made = tt
+
+-- where there is no other search, what holds of the plain one holds of the search with endings
+other_goes : (plain next : Search) (old new : Option Search) → GoesFurther plain next → OtherGoes old new → GoesFurther (or_plain plain old) (or_plain next new)
+other_goes plain next (Some old) (Some new) goes h = h
+other_goes plain next None None goes h = goes
+other_goes plain next (Some old) None goes h = absurd h
+other_goes plain next None (Some new) goes h = absurd h
+
+pub of_other : (Is : Search → Type 0) (plain : Search) (other : Option Search) → Is (or_plain plain other) → ForOther Is other
+of_other Is plain (Some s) h = h
+of_other Is plain None h = tt
 
 -- two searches, of which the plain one has gone on
-pub both_go : {E : Type 0} (r : Result (Unit {0}) E) (old new : Searches) → GoesOn old.plain new.plain → KeepsGrounds old.plain new.plain
-    → OnOk r (GoesOn old.ending new.ending) → OnOk r (KeepsGrounds old.ending new.ending) → OnOk r (GoOn old new)
-both_go (Ok u) old new on keeps goes grounds = record { plain_ = on; ending_ = goes; plain_grounds = keeps; ending_grounds = grounds }
-both_go (Err e) old new on keeps goes grounds = tt
+pub both_go : {E : Type 0} (r : Result (Unit {0}) E) (old new : Searches) → GoesFurther old.plain new.plain → OnOk r (OtherGoes old.other new.other) → OnOk r (GoOn old new)
+both_go (Ok u) old new plain other = record { plain_ = plain; ending_ = other_goes old.plain new.plain old.other new.other plain other }
+both_go (Err e) old new plain other = tt

@@ -1,10 +1,11 @@
 -- What is seen of two searches, as the verdict asks.
-use Rattle.std.proofs.Common.{◌≡◌, ℕ, zero, suc, ◌≤◌, List, [], Some, None, inl, inr, refl, sym, ◌∙◌, subst}
+use Rattle.std.proofs.Common.{◌≡◌, ℕ, zero, suc, ◌≤◌, List, [], Option, Some, None, inl, inr, refl, sym, ◌∙◌, subst}
 use Rattle.pv_alike.specs.Least.{Rooted}
 use Rattle.pv_axioms.specs.Entries.{axioms}
 use Rattle.pv_endings.specs.Endings.{AreEndingsOf}
 use Rattle.pv_heights.specs.Searches.{Reached, TwoSearches, SeesMeet, SeesOver, SeesSaturated, SeesNothing, UndecidedBefore, first, next, Answers, met, over, saturated, ended}
 use Rattle.pv_heights.specs.Verdicts.{Question}
+use Rattle.pv_rounds.specs.declared.search.Search.{Search}
 use Rattle.pv_rounds.specs.declared.search.Looked.{Looked}
 use Rattle.pv_rounds.specs.declared.search.Looked.TheVariants as looked
 use Rattle.pv_rounds.specs.Searching.{IsOver, Looks}
@@ -15,26 +16,38 @@ use Rattle.pv_prove.specs.declared.outcome.Outcome.TheVariants.{Met, Budget, Apa
 use Rattle.pv_prove.specs.declared.searches.Searches.{Searches}
 use Rattle.pv_prove.specs.declared.searches.Seen.{Seen}
 use Rattle.pv_prove.specs.declared.searches.Seen.TheVariants.{Decided, Open}
-use Rattle.pv_prove.specs.Finding.{question, verdict_of, HaveMade, MeetIn}
-use Rattle.pv_prove.specs.Looking.{AreOver, AreSaturated, seen_of, Decide, AreOpen, Sees, GoOn, StandAt, Ends}
+use Rattle.pv_prove.specs.Finding.{question, verdict_of, or_plain, ending_of, HaveMade, MeetIn}
+use Rattle.pv_prove.specs.Looking.{LooksOther, AreOver, AreSaturated, seen_of, Decide, AreOpen, Sees, GoOn, StandAt, Ends}
 use Rattle.pv_prove.proofs.Meets.{some_way, no_way}
 use Rattle.pv_prove.proofs.Growing.{many_there, many_back, saturated_there, saturated_back}
 
 -- ---- what both looks come to
 
+-- where there is no other search, the look at the plain one is one at the search with endings
+ending_look : (plain : Search) (other : Option Search) (p : Looked) (x : Option Looked) → Looks plain p → LooksOther other x → Looks (or_plain plain other) (or_plain p x)
+ending_look plain (Some e) p (Some x) a o = o
+ending_look plain None p None a o = a
+ending_look plain (Some e) p None a o = absurd o
+ending_look plain None p (Some x) a o = absurd o
+
 module _ (l : Rooted) (k : ℕ) (s : Searches) (none : MeetIn l s None) where
-  few : (IsOver s.plain → ⊥) → (IsOver s.ending → ⊥) → AreOver s → ⊥
+  few : (IsOver s.plain → ⊥) → (IsOver (ending_of s) → ⊥) → AreOver s → ⊥
   few p e (inl h) = p h
   few p e (inr h) = e h
 
-  pub seen : (p e : Looked) → Looks s.plain p → Looks s.ending e → Sees l k s (seen_of k p e)
-  seen (looked.Over n) e a b = (refl, none, inl a.1)
-  seen looked.Saturated (looked.Over n) a b = (refl, none, inr b.1)
-  seen (looked.Open xs) (looked.Over n) a b = (refl, none, inr b.1)
-  seen looked.Saturated looked.Saturated a b = (none, few a.0 b.0, (a.1, b.1))
-  seen looked.Saturated (looked.Open ys) a b = record { not_met = none; not_over = few a.0 b.0; not_saturated = λ h. b.1 h.1; plain_ = a; ending_ = b }
-  seen (looked.Open xs) looked.Saturated a b = record { not_met = none; not_over = few a.0 b.0; not_saturated = λ h. a.1 h.0; plain_ = a; ending_ = b }
-  seen (looked.Open xs) (looked.Open ys) a b = record { not_met = none; not_over = few a.0 b.0; not_saturated = λ h. a.1 h.0; plain_ = a; ending_ = b }
+  seen_by : (p : Looked) (x : Option Looked) → Looks s.plain p → LooksOther s.other x → Looks (ending_of s) (or_plain p x) → Sees l k s (seen_of k p x)
+  seen_by (looked.Over n) x a o b = (refl, none, inl a.1)
+  seen_by looked.Saturated None a o b = (none, few a.0 b.0, (a.1, b.1))
+  seen_by (looked.Open xs) None a o b = record { not_met = none; not_over = few a.0 b.0; not_saturated = λ h. a.1 h.0; plain_ = a; other_ = o }
+  seen_by looked.Saturated (Some (looked.Over n)) a o b = (refl, none, inr b.1)
+  seen_by (looked.Open xs) (Some (looked.Over n)) a o b = (refl, none, inr b.1)
+  seen_by looked.Saturated (Some looked.Saturated) a o b = (none, few a.0 b.0, (a.1, b.1))
+  seen_by looked.Saturated (Some (looked.Open ys)) a o b = record { not_met = none; not_over = few a.0 b.0; not_saturated = λ h. b.1 h.1; plain_ = a; other_ = o }
+  seen_by (looked.Open xs) (Some looked.Saturated) a o b = record { not_met = none; not_over = few a.0 b.0; not_saturated = λ h. a.1 h.0; plain_ = a; other_ = o }
+  seen_by (looked.Open xs) (Some (looked.Open ys)) a o b = record { not_met = none; not_over = few a.0 b.0; not_saturated = λ h. a.1 h.0; plain_ = a; other_ = o }
+
+  pub seen : (p : Looked) (x : Option Looked) → Looks s.plain p → LooksOther s.other x → Sees l k s (seen_of k p x)
+  seen p x a o = seen_by p x a o (ending_look s.plain s.other p x a o)
 
 -- ---- as the verdict asks
 
@@ -43,7 +56,7 @@ module _ (l : Rooted) (limits : Limits) (k : ℕ) (s : Searches) (at : StandAt l
   Q = question l limits
 
   abbrev ends : List ℕ
-  ends = s.ending.endings.items
+  ends = (ending_of s).endings.items
 
   -- both searches, as the verdict sees them
   two : TwoSearches Q ends k
@@ -53,34 +66,34 @@ module _ (l : Rooted) (limits : Limits) (k : ℕ) (s : Searches) (at : StandAt l
       numbers = s.plain.classes.numbers;
       reached = subst (λ (es : List ℕ). Reached l.graph es axioms k s.plain.graph s.plain.classes.numbers) at.made.none at.made.plain_.reached;
     };
-    ending = record { graph = s.ending.graph; numbers = s.ending.classes.numbers; reached = at.made.ending_.reached };
+    ending = record { graph = (ending_of s).graph; numbers = (ending_of s).classes.numbers; reached = at.made.ending_.reached };
   }
 
   met_there : (m : Meeting) → MeetIn l s (Some m) → SeesMeet Q ends k two
   unfolding two
-  met_there m h = some_way Q s.plain.classes.numbers s.ending.classes.numbers m h
+  met_there m h = some_way Q s.plain.classes.numbers (ending_of s).classes.numbers m h
 
   met_back : MeetIn l s None → SeesMeet Q ends k two → ⊥
   unfolding two
-  met_back none h = no_way Q s.plain.classes.numbers s.ending.classes.numbers none h
+  met_back none h = no_way Q s.plain.classes.numbers (ending_of s).classes.numbers none h
 
   over_there : AreOver s → SeesOver Q ends k two
   unfolding two
   over_there (inl h) = inl (many_there l.graph k s.plain at.made.plain_ [] at.made.none limits.budget at.made.plain_budget h)
-  over_there (inr h) = inr (many_there l.graph k s.ending at.made.ending_ ends refl limits.budget at.made.ending_budget h)
+  over_there (inr h) = inr (many_there l.graph k (ending_of s) at.made.ending_ ends refl limits.budget at.made.ending_budget h)
 
   over_back : SeesOver Q ends k two → AreOver s
   unfolding two
   over_back (inl h) = inl (many_back l.graph k s.plain at.made.plain_ [] at.made.none limits.budget at.made.plain_budget h)
-  over_back (inr h) = inr (many_back l.graph k s.ending at.made.ending_ ends refl limits.budget at.made.ending_budget h)
+  over_back (inr h) = inr (many_back l.graph k (ending_of s) at.made.ending_ ends refl limits.budget at.made.ending_budget h)
 
   saturated_seen : AreSaturated s → SeesSaturated Q ends k two
   unfolding two
-  saturated_seen h = (saturated_there l.graph k s.plain at.made.plain_ [] at.made.none h.0, saturated_there l.graph k s.ending at.made.ending_ ends refl h.1)
+  saturated_seen h = (saturated_there l.graph k s.plain at.made.plain_ [] at.made.none h.0, saturated_there l.graph k (ending_of s) at.made.ending_ ends refl h.1)
 
   saturated_is : SeesSaturated Q ends k two → AreSaturated s
   unfolding two
-  saturated_is h = (saturated_back l.graph k s.plain at.made.plain_ [] at.made.none h.0, saturated_back l.graph k s.ending at.made.ending_ ends refl h.1)
+  saturated_is h = (saturated_back l.graph k s.plain at.made.plain_ [] at.made.none h.0, saturated_back l.graph k (ending_of s) at.made.ending_ ends refl h.1)
 
   -- what they decide
   answer : (outcome : Outcome) → k ≤ limits.rounds → Decide l k s outcome → Answers Q ends (verdict_of outcome)
@@ -96,7 +109,7 @@ module _ (l : Rooted) (limits : Limits) (k : ℕ) (s : Searches) (at : StandAt l
     shown = λ m e. (k, at.made, subst (Decide l k s) e d);
   }
 
-  module _ (p e : Looked) (open_ : AreOpen l s p e) where
+  module _ (p : Looked) (x : Option Looked) (open_ : AreOpen l s p x) where
     nothing : SeesNothing Q ends k two
     nothing = record {
       not_met = met_back open_.not_met;
@@ -108,24 +121,24 @@ module _ (l : Rooted) (limits : Limits) (k : ℕ) (s : Searches) (at : StandAt l
     pub gone_on : (t : Searches) → GoOn s t → StandAt l limits (suc k) t
     gone_on t on = record {
       made = record {
-        plain_ = on.plain_.next l.graph k at.made.plain_;
-        ending_ = on.ending_.next l.graph k at.made.ending_;
-        none = on.plain_.endings_ ∙ at.made.none;
-        ends = subst (AreEndingsOf l.graph l.first) (sym on.ending_.endings_) at.made.ends;
-        plain_budget = on.plain_.budget_ ∙ at.made.plain_budget;
-        ending_budget = on.ending_.budget_ ∙ at.made.ending_budget;
-        plain_grounds = on.plain_grounds at.made.plain_grounds;
-        ending_grounds = on.ending_grounds at.made.ending_grounds;
+        plain_ = on.plain_.goes.next l.graph k at.made.plain_;
+        ending_ = on.ending_.goes.next l.graph k at.made.ending_;
+        none = on.plain_.goes.endings_ ∙ at.made.none;
+        ends = subst (AreEndingsOf l.graph l.first) (sym on.ending_.goes.endings_) at.made.ends;
+        plain_budget = on.plain_.goes.budget_ ∙ at.made.plain_budget;
+        ending_budget = on.ending_.goes.budget_ ∙ at.made.ending_budget;
+        plain_grounds = on.plain_.grounds at.made.plain_grounds;
+        ending_grounds = on.ending_.grounds at.made.ending_grounds;
       };
-      undecided = subst (λ (es : List ℕ). (b : TwoSearches Q es (suc k)) → UndecidedBefore Q es (suc k) b) (sym on.ending_.endings_) (λ b. next k two b (at.undecided two) nothing);
+      undecided = subst (λ (es : List ℕ). (b : TwoSearches Q es (suc k)) → UndecidedBefore Q es (suc k) b) (sym on.ending_.goes.endings_) (λ b. next k two b (at.undecided two) nothing);
     }
 
 -- nothing was decided, and the rounds are at an end
 pub at_end : (l : Rooted) (limits : Limits) (s : Searches) → StandAt l limits limits.rounds s → (x : Seen) → Sees l limits.rounds s x → ((o : Outcome) → x ≡ Decided o → ⊥) → Ends l limits s (Rounds limits.rounds)
 at_end l limits s at (Decided o) sees none = absurd (none o refl)
-at_end l limits s at (Open p e) open_ none = record {
+at_end l limits s at (Open p x) open_ none = record {
   ends = at.made.ends;
-  answers = ended (two l limits limits.rounds s at) (at.undecided (two l limits limits.rounds s at)) (nothing l limits limits.rounds s at p e open_);
+  answers = ended (two l limits limits.rounds s at) (at.undecided (two l limits limits.rounds s at)) (nothing l limits limits.rounds s at p x open_);
   shown = λ m same_. absurd (cc);
 }
 

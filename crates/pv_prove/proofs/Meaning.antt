@@ -30,7 +30,7 @@ use Rattle.pv_prove.specs.declared.outcome.Limits.{Limits}
 use Rattle.pv_prove.specs.declared.outcome.Outcome.{Outcome}
 use Rattle.pv_prove.specs.declared.searches.Searches.{Searches}
 use Rattle.pv_prove.specs.Meetings.{AreMetKids}
-use Rattle.pv_prove.specs.Finding.{HaveMade, MeetIn, IsShown, MetAreSame}
+use Rattle.pv_prove.specs.Finding.{ending_of, HaveMade, MeetIn, IsShown, MetAreSame}
 
 -- ---- roots over kids
 
@@ -79,22 +79,22 @@ module _ (law : ClassesSame) (l : Rooted) (most k : ℕ) (s : Searches) (made : 
   kid_low p r is n there = base_is_node l.graph n (graph_whole l.graph made.plain_.least.made.graph p n op.Root (kids_of r) (root_form l.graph p r is) there)
 
   -- roots whose kids meet, at an index
-  module _ (left right : RootParts) (is_left : IsRootOver l.graph l.first left) (is_right : IsRootOver l.graph l.second right) (met : AreMetKids left right s.plain.classes.numbers s.ending.classes.numbers)
+  module _ (left right : RootParts) (is_left : IsRootOver l.graph l.first left) (is_right : IsRootOver l.graph l.second right) (met : AreMetKids left right s.plain.classes.numbers (ending_of s).classes.numbers)
       (w : World) (x : Input) (world : IsWorld w) (input : IsInput x) (i : Index) where
     tokens : SameAt view w x i left.token right.token
     tokens = plain_same left.token right.token (kid_low l.first left is_left left.token (inl refl)) (kid_low l.second right is_right right.token (inl refl)) met.0 w x world input i
 
     module _ (o : Value view w x left.token i val.Unit) where
       -- where the first token has a value, so has each node that counts as ending, at every index
-      ends_have : HaveValues view w x s.ending.endings.items
+      ends_have : HaveValues view w x (ending_of s).endings.items
       ends_have n j there =
           let e = (made.ends.are n).0 there in
           let spine = subst (λ (t : ℕ). Spine view t n) (one_token l.graph l.first left e.0 is_left) e.1.spine in
           let u = spine_has view w x left.token n i spine val.Unit o in
           (u.0, closed_value view w x n i j u.0 e.1.closed u.1)
 
-      ended : (a b : ℕ) → In (kids_of left) a → In (kids_of right) b → OneClass s.ending.classes.numbers a b → SameAt view w x i a b
-      ended a b m n one = law l.graph k s.ending a b made.ending_ made.ending_grounds (kid_low l.first left is_left a m) (kid_low l.second right is_right b n) one w x world input ends_have i
+      ended : (a b : ℕ) → In (kids_of left) a → In (kids_of right) b → OneClass (ending_of s).classes.numbers a b → SameAt view w x i a b
+      ended a b m n one = law l.graph k (ending_of s) a b made.ending_ made.ending_grounds (kid_low l.first left is_left a m) (kid_low l.second right is_right b n) one w x world input ends_have i
 
       all_kids : AllZip (SameAt view w x i) (kids_of left) (kids_of right)
       all_kids =

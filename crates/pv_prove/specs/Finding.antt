@@ -1,10 +1,11 @@
 -- The question that two searches answer, and what they end with.
-use Rattle.std.specs.Prelude.{◌≡◌, ℕ, [], Option, Some}
+use Rattle.std.specs.Prelude.{◌≡◌, ℕ, [], Option, Some, None}
 use Rattle.pv_alike.specs.Least.{Rooted}
 use Rattle.pv_axioms.specs.Entries.{axioms}
 use Rattle.pv_denote.specs.Meaning.{Same}
 use Rattle.pv_endings.specs.Endings.{AreEndingsOf}
 use Rattle.pv_heights.specs.Verdicts.{Question, Verdict, equivalent, apart, rounds, budget}
+use Rattle.pv_rounds.specs.declared.search.Search.{Search}
 use Rattle.pv_rounds.specs.Searching.{IsSearch}
 use Rattle.pv_grounds.specs.Same.{IsGroundedSearch}
 use Rattle.pv_prove.specs.declared.meeting.Meeting.{Meeting}
@@ -25,21 +26,30 @@ verdict_of (Budget k) = budget k
 verdict_of Apart = apart
 verdict_of (Rounds n) = rounds n
 
+-- what is of the search with endings: where that is none of its own, the plain one's
+abbrev pub or_plain : {X : Type 0} → X → Option X → X
+or_plain plain (Some other) = other
+or_plain plain None = plain
+
+-- the search with endings
+abbrev pub ending_of : Searches → Search
+ending_of s = or_plain s.plain s.other
+
 -- both searches began with the least graph and have made k rounds, under this budget; no nodes count as ending in the plain one, and
 -- the nodes that the first root waits for in the other; all their joins have their grounds
 pub record HaveMade (l : Rooted) (most : ℕ) (k : ℕ) (s : Searches) : Type 0 where
   pub plain_ : IsSearch l.graph k s.plain
-  pub ending_ : IsSearch l.graph k s.ending
+  pub ending_ : IsSearch l.graph k (ending_of s)
   pub none : s.plain.endings.items ≡ []
-  pub ends : AreEndingsOf l.graph l.first s.ending.endings.items
+  pub ends : AreEndingsOf l.graph l.first (ending_of s).endings.items
   pub plain_budget : s.plain.budget ≡ most
-  pub ending_budget : s.ending.budget ≡ most
+  pub ending_budget : (ending_of s).budget ≡ most
   pub plain_grounds : IsGroundedSearch s.plain
-  pub ending_grounds : IsGroundedSearch s.ending
+  pub ending_grounds : IsGroundedSearch (ending_of s)
 
 -- how the roots meet in them
 abbrev pub MeetIn : Rooted → Searches → Option Meeting → Type 0
-MeetIn l s m = IsMeeting l.graph l.first l.second s.plain.classes.numbers s.ending.classes.numbers m
+MeetIn l s m = IsMeeting l.graph l.first l.second s.plain.classes.numbers (ending_of s).classes.numbers m
 
 -- where the roots met, they meet so in these searches, which have made some rounds
 abbrev pub IsShown : Rooted → Limits → Searches → Outcome → Type 0

@@ -37,7 +37,7 @@ fn hunt<G: Gate>(
     for k in 0..limits.rounds {
         match searches.look(alloc, gate, least, k)? {
             Seen::Decided(outcome) => return Ok(outcome),
-            Seen::Open { plain, ending } => searches.go_on(alloc, &plain, &ending)?,
+            Seen::Open { plain, other } => searches.go_on(alloc, &plain, &other)?,
         }
     }
     if let Seen::Decided(outcome) = searches.look(alloc, gate, least, limits.rounds)? {

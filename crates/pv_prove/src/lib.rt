@@ -1,7 +1,7 @@
 //! The verdict of a search on two roots.
 //!
 //! Two searches go on side by side from the least graph of the roots: a plain one, and one in which the nodes that the first root
-//! waits for count as ending. At each height they are looked at: the roots meet; or a search has more matches than the budget; or no
+//! waits for count as ending; where it waits for none, the plain one is both. At each height they are looked at: the roots meet; or a search has more matches than the budget; or no
 //! match of either joins more. The first height at which one of these holds decides, and where none does within the rounds, that is the
 //! outcome.
 //!

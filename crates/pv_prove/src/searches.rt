@@ -4,43 +4,84 @@ ghost use Rattle.std.specs.Prelude.{◌≡◌, ℕ, zero, IfOk, OnOk, map};
 ghost use Rattle.pv_alike.specs.Least.{Rooted};
 ghost use Rattle.pv_axioms.specs.Entries.{axioms};
 ghost use Rattle.pv_pattern.specs.Seen.{axiom_seen};
-ghost use Rattle.pv_rounds.specs.Searching.{GoesOn, IsBegun, IsLeastGraph, IsOver, Looks};
-ghost use Rattle.pv_prove.specs.Finding.{HaveMade};
-ghost use Rattle.pv_prove.specs.Looking.{AreBegun, AreOpen, GoOn, KeepsGrounds, Sees, seen_of};
+ghost use Rattle.pv_rounds.specs.Searching.{IsBegun, IsLeastGraph, IsOver, Looks};
+ghost use Rattle.pv_prove.specs.Finding.{HaveMade, ending_of};
+ghost use Rattle.pv_prove.specs.Looking.{AreBegun, AreOpen, BeginsOther, ForOther, GoOn, GoesFurther, LooksOther, OtherGoes, Sees, seen_of};
 
 use crate::meeting::how_met;
 use crate::outcome::Outcome;
 use pv_alike::Least;
 use pv_base::Gate;
 use pv_endings::endings;
+use pv_graph::{Graph, NodeId};
 use pv_pattern::Axiom;
 use pv_rounds::{Looked, Search};
 use pv_value::Memory;
 use std::alloc::Global;
 
 /// Two searches over one least graph: a plain one, in which no nodes count as ending, and one in which the nodes that the first
-/// root waits for do.
+/// root waits for do. Where it waits for none, that is the plain one, and there is no other.
 #[derive(Drop)]
 pub struct Searches<'a> {
     pub plain: Search<'a>,
-    pub ending: Search<'a>,
+    pub other: Option<Search<'a>>,
 }
 
 // What two searches show after some rounds: they decide, or else this is to do.
 #[derive(Drop)]
 pub(crate) enum Seen {
     Decided(Outcome),
-    Open { plain: Looked, ending: Looked },
+    Open {
+        plain: Looked,
+        other: Option<Looked>,
+    },
 }
 
 // What is seen after k rounds, where the roots don't meet.
-fn seen_of(k: u32, plain: Looked, ending: Looked) -> Seen
-    ensures { result ≡ seen_of k plain ending }
+fn seen_of(k: u32, plain: Looked, other: Option<Looked>) -> Seen
+    ensures { result ≡ seen_of k plain other }
 {
-    match (plain, ending) {
-        (Looked::Over(_), _) | (_, Looked::Over(_)) => Seen::Decided(Outcome::Budget(k)),
-        (Looked::Saturated, Looked::Saturated) => Seen::Decided(Outcome::Apart),
-        (plain, ending) => Seen::Open { plain, ending },
+    match (plain, other) {
+        (Looked::Over(_), _) | (_, Some(Looked::Over(_))) => Seen::Decided(Outcome::Budget(k)),
+        (Looked::Saturated, None | Some(Looked::Saturated)) => Seen::Decided(Outcome::Apart),
+        (plain, other) => Seen::Open { plain, other },
+    }
+}
+
+// The search in which these nodes count as ending, if there are any.
+fn other_search<'a>(
+    alloc: Global,
+    graph: &Graph,
+    table: &'a [Axiom],
+    nodes: Vec<NodeId>,
+    budget: u32,
+) -> Result<Option<Search<'a>>, Memory>
+    requires least { IsLeastGraph graph.now }
+    requires table { map axiom_seen table.now ≡ axioms }
+    ensures { IfOk result (λ other. BeginsOther graph.now nodes.items budget other) }
+{
+    if nodes.is_empty() {
+        return Ok(None);
+    }
+    let search = Search::new(alloc, graph, table, nodes, budget)?;
+    Ok(Some(search))
+}
+
+// What a look at a search shows, if there is one.
+fn look_at<G: Gate>(
+    alloc: Global,
+    gate: &G,
+    search: &Option<Search>,
+) -> Result<Option<Looked>, Memory>
+    requires { ForOther IsBegun search.now }
+    ensures { IfOk result (λ looked. LooksOther search.now looked) }
+{
+    match search {
+        Some(search) => {
+            let looked = search.look(alloc, gate)?;
+            Ok(Some(looked))
+        }
+        None => Ok(None),
     }
 }
 
@@ -49,11 +90,27 @@ fn go_on(alloc: Global, search: &mut Search, looked: &Looked) -> Result<(), Memo
     requires begun { IsBegun search.old }
     requires looked { Looks search.old looked.now }
     requires few { IsOver search.old → ⊥ }
-    ensures goes { OnOk result (GoesOn search.old search.new) }
-    ensures grounds { OnOk result (KeepsGrounds search.old search.new) }
+    ensures { OnOk result (GoesFurther search.old search.new) }
 {
     match looked {
         Looked::Open(list) => search.grow(alloc, list),
+        _ => Ok(()),
+    }
+}
+
+// The same of a search with endings, if it is one of its own.
+fn go_on_other(
+    alloc: Global,
+    search: &mut Option<Search>,
+    looked: &Option<Looked>,
+) -> Result<(), Memory>
+    requires begun { ForOther IsBegun search.old }
+    requires looked { LooksOther search.old looked.now }
+    requires few { ForOther (λ s. IsOver s → ⊥) search.old }
+    ensures { OnOk result (OtherGoes search.old search.new) }
+{
+    match (search, looked) {
+        (Some(search), Some(looked)) => go_on(alloc, search, looked),
         _ => Ok(()),
     }
 }
@@ -72,8 +129,18 @@ impl<'a> Searches<'a> {
     {
         let nodes = endings(alloc, least.graph(), least.first())?;
         let plain = Search::new(alloc, least.graph(), table, Vec::new(alloc), budget)?;
-        let ending = Search::new(alloc, least.graph(), table, nodes, budget)?;
-        Ok(Searches { plain, ending })
+        let other = other_search(alloc, least.graph(), table, nodes, budget)?;
+        Ok(Searches { plain, other })
+    }
+
+    /// The search with endings.
+    pub fn ending(&self) -> &Search<'a>
+        ensures { result.now ≡ ending_of self.now }
+    {
+        match &self.other {
+            Some(other) => other,
+            None => &self.plain,
+        }
     }
 
     // What is seen of the roots and of both searches, which have made k rounds.
@@ -87,12 +154,12 @@ impl<'a> Searches<'a> {
         requires { AreBegun self.now }
         ensures { IfOk result (λ seen. Sees least.now k self.now seen) }
     {
-        if let Some(meeting) = how_met(least, &self.plain.classes, &self.ending.classes) {
+        if let Some(meeting) = how_met(least, &self.plain.classes, &self.ending().classes) {
             return Ok(Seen::Decided(Outcome::Met(meeting)));
         }
         let plain = self.plain.look(alloc, gate)?;
-        let ending = self.ending.look(alloc, gate)?;
-        Ok(seen_of(k, plain, ending))
+        let other = look_at(alloc, gate, &self.other)?;
+        Ok(seen_of(k, plain, other))
     }
 
     // Takes both one round further on, by what was seen of them.
@@ -100,13 +167,13 @@ impl<'a> Searches<'a> {
         &mut self,
         alloc: Global,
         plain: &Looked,
-        ending: &Looked,
+        other: &Option<Looked>,
     ) -> Result<(), Memory>
         requires begun { AreBegun self.old }
-        requires open { (l : Rooted) × AreOpen l self.old plain.now ending.now }
+        requires open { (l : Rooted) × AreOpen l self.old plain.now other.now }
         ensures { OnOk result (GoOn self.old self.new) }
     {
         go_on(alloc, &mut self.plain, plain)?;
-        go_on(alloc, &mut self.ending, ending)
+        go_on_other(alloc, &mut self.other, other)
     }
 }

@@ -20,7 +20,7 @@ loop-k-preserved g c =
     let s = c.loop-k.searches in
     let next : suc k ≡ k + 1 = omega arith in
     subst (λ (n : ℕ). StandAt l c.args.limits n c.go_on.new.self) next
-    (gone_on l c.args.limits k s c.loop-k.invariant c.in-Open.plain c.in-Open.ending (subst (Sees l k s) c.in-Open.is c.in_ok-outcome.ensures) c.go_on.new.self c.in_ok-go_on-in-Open.ensures)
+    (gone_on l c.args.limits k s c.loop-k.invariant c.in-Open.plain c.in-Open.other (subst (Sees l k s) c.in-Open.is c.in_ok-outcome.ensures) c.go_on.new.self c.in_ok-go_on-in-Open.ensures)
 
 pub returns-in-Decided-2 : goal.returns-in-Decided-2
 returns-in-Decided-2 g c =

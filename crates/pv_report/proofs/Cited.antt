@@ -5,3 +5,6 @@ pub use Rattle.pv_report.proofs.Lists.{lines_at, take_next, zip_length, zip_next
 pub use Rattle.pv_report.proofs.SameMeanings.{least_meaning}
 pub use Rattle.pv_report.proofs.ReadClasses.{code_there}
 pub use Rattle.pv_report.proofs.Judgements.{bad_pair}
+pub use Rattle.pv_report.proofs.SameRoots.{one_rooted}
+pub use Rattle.pv_report.proofs.VerdictOnce.{no_lack, partner_once}
+pub use Rattle.pv_report.proofs.ReportOnce.{classes_not_bad, file_once}

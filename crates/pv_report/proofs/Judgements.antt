@@ -1,5 +1,5 @@
 -- What is said of two files that were fetched.
-use Rattle.std.proofs.Common.{◌≡◌, ℕ, List, Some, Ok, Err, inl, inr, subst, sym}
+use Rattle.std.proofs.Common.{◌≡◌, ℕ, List, Option, Some, None, Ok, Err, inl, inr, refl, subst, sym}
 use Rattle.std.specs.List.{AllZip, flat_map}
 use Rattle.pv_cert.specs.declared.cert.Section.{Section}
 use Rattle.pv_class.specs.declared.fault.ClassFault.{ClassFault}
@@ -9,6 +9,8 @@ use Rattle.pv_report.specs.declared.pair.Pair.{Pair}
 use Rattle.pv_report.specs.declared.pair.BadClass.{BadClass}
 use Rattle.pv_report.specs.declared.status.Status.{Status}
 use Rattle.pv_report.specs.declared.status.Status.TheVariants as status
+use Rattle.pv_report.specs.declared.verdict.Detail.{Detail}
+use Rattle.pv_report.specs.declared.verdict.Detail.TheVariants as detail
 use Rattle.pv_report.specs.declared.verdict.Side.{Side}
 use Rattle.pv_report.specs.declared.verdict.Side.TheVariants as side
 use Rattle.pv_report.specs.declared.verdict.Verdict.{Verdict}
@@ -49,3 +51,9 @@ pub shows : (limits : Limits) (first second : Fetched) (pair : Pair) (verdicts :
 shows limits first second pair verdicts sections read each are a b p q =
     let both = read a b p q in
     record { first = pair.first; second = pair.second; first_is = both.0; second_is = both.1; verdicts = verdicts; each = each; sections_are = are }
+
+-- .. where they are wanted
+pub wanted_show : (w : Detail) (limits : Limits) (first second : Fetched) (sections : List Section) (given : Option (List Section)) → (w ≡ detail.Steps → given ≡ Some sections) → (w ≡ detail.Verdict → given ≡ None)
+    → (w ≡ detail.Steps → ShowsFetched limits first second (Some sections)) → ShowsFetched limits first second given
+wanted_show detail.Steps limits first second sections given some none h = subst (ShowsFetched limits first second) (sym (some refl)) (h refl)
+wanted_show detail.Verdict limits first second sections given some none h = subst (ShowsFetched limits first second) (sym (none refl)) tt

@@ -24,7 +24,7 @@ use Rattle.pv_report.proofs.VerdictOnce.{line_once}
 
 -- ---- one reading of a file
 
-file_once : (bytes : List ℕ) (f g : ClassFile) → IsBytes bytes → IsClass bytes f → IsClass bytes g → f ≡ g
+pub file_once : (bytes : List ℕ) (f g : ClassFile) → IsBytes bytes → IsClass bytes f → IsClass bytes g → f ≡ g
 file_once bytes f g fits p q =
     let same : ◌≡◌ {A = Result ClassFile ClassFault} (Ok f) (Ok g) = answer_once bytes (Ok f) (Ok g) fits p q in
     cc same
@@ -92,6 +92,11 @@ status_once vs s t is is_too =
           ]
     ]
 
+-- two class files are no pair of which one has no reading
+pub classes_not_bad : (a b text : List ℕ) (f g : ClassFile) → IsBytes a → IsBytes b → IsClass a f → IsClass b g → IsBadPair a b text → ⊥
+classes_not_bad a b text f g p q first second (inl k) = not_both a f k.0 p first k.1
+classes_not_bad a b text f g p q first second (inr k) = not_both b g k.1.0 q second k.1.1
+
 one_bad : (s : Side) (bytes t u : List ℕ) → IsBytes bytes → IsBadText s bytes t → IsBadText s bytes u → t ≡ u
 one_bad s bytes t u fits h k = h.2 ∙ ap (bad_class s) (bad_once bytes h.0 k.0 fits h.1 k.1) ∙ sym k.2
 
@@ -102,8 +107,7 @@ bad_twice a b t u p q (inr h) (inl k) = absurd (not_both a h.0.0 k.0 p h.0.1 k.1
 bad_twice a b t u p q (inr h) (inr k) = one_bad side.Second b t u q h.1 k.1
 
 not_bad : (limits : Limits) (a b t u : List ℕ) (vs : List Verdict) → IsBytes a → IsBytes b → IsReport limits a b vs t → IsBadPair a b u → ⊥
-not_bad limits a b t u vs p q r (inl k) = not_both a r.first k.0 p r.first_is k.1
-not_bad limits a b t u vs p q r (inr k) = not_both b r.second k.1.0 q r.second_is k.1.1
+not_bad limits a b t u vs p q r k = classes_not_bad a b u r.first r.second p q r.first_is r.second_is k
 
 of_bytes : (limits : Limits) (a b t u : List ℕ) (r s : Status) → IsBytes a → IsBytes b → Judged limits a b t r → Judged limits a b u s → (t ≡ u) × (r ≡ s)
 of_bytes limits a b t u r s m n h k = go (reading_of limits a b t r h) (reading_of limits a b u s k)

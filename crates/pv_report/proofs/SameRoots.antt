@@ -29,7 +29,8 @@ use Rattle.pv_runs.specs.Methods.{flow_of}
 use Rattle.pv_build.specs.Unfolded.{IsUnfolded}
 use Rattle.pv_build.specs.Conversion.{Form, IsRootOf}
 use Rattle.pv_alike.specs.Least.{Rooted, IsLeast, IsLeastOf}
-use Rattle.pv_alike.proofs.Cited.{same_least_nodes}
+use Rattle.pv_alike.specs.Laws.{IsSameRooted}
+use Rattle.pv_alike.proofs.Cited.{same_least, same_least_nodes}
 use Rattle.pv_report.specs.Roots.{HaveLeast, IsWhole}
 use Rattle.pv_report.proofs.SameFlows.{same_flow, alike_flows}
 use Rattle.pv_report.proofs.SameMeanings.{solved}
@@ -115,6 +116,14 @@ least_kept g h a b l s is = record {
 pub answer_kept : (g h : Graph) (a b : ℕ) (r : Result Rooted Memory) → Sealed g h → IfOk r (λ l. IsLeastOf h a b l) → IfOk r (λ l. IsLeastOf g a b l)
 answer_kept g h a b (Ok l) s is = least_kept g h a b l s is
 answer_kept g h a b (Err e) s is = is
+
+-- two of the same methods differ at most in being prepared
+pub one_rooted : (f : ClassFile) (m : Method) (g : ClassFile) (p : Method) (l k : Rooted) → HasBytes m → HasBytes p → HaveLeast f m g p l → HaveLeast f m g p k → IsSameRooted l k
+one_rooted f m g p l k fm fp h j =
+    let a = h.roots in
+    let b = j.roots in
+    (same_least a.graph b.graph a.root a.other b.root b.other l k h.least j.least).1
+    (record { first = one_root a.graph b.graph a.root b.root f m fm a.one b.one; second = one_root a.graph b.graph a.other b.other g p fp a.two b.two })
 
 -- two of the same methods have the same nodes, and their roots the same numbers
 pub one_least : (f : ClassFile) (m : Method) (g : ClassFile) (p : Method) (l k : Rooted) → HasBytes m → HasBytes p → HaveLeast f m g p l → HaveLeast f m g p k → (l.graph.nodes ≡ k.graph.nodes) × (l.first ≡ k.first) × (l.second ≡ k.second)

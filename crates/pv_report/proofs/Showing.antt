@@ -29,29 +29,28 @@ use Rattle.pv_report.proofs.Places.{contains_here, slice_once}
 
 -- what is so of the steps may be said in other words
 has_steps : (w : Detail) (Is To : List Step → Type 0) → ((steps : List Step) → Is steps → To steps) → (v : Verdict) (steps : Option (List Step)) → HasSteps w Is v steps → HasSteps w To v steps
-has_steps detail.Verdict Is To go v steps h = tt
 has_steps detail.Steps Is To go verdict.Equivalent (Some steps) h = go steps h
 has_steps detail.Steps Is To go verdict.Equivalent None h = h
-has_steps detail.Steps Is To go _ steps h = h
+has_steps _ Is To go _ steps h = h
 
 -- a verdict that isn't `equivalent` has none
 pub bare_steps : (w : Detail) (Is : List Step → Type 0) (v : Verdict) (steps : Option (List Step)) → (v ≡ verdict.Equivalent → ⊥) → steps ≡ None → HasSteps w Is v steps
-bare_steps detail.Verdict Is v steps other none = tt
 bare_steps detail.Steps Is verdict.Equivalent steps other none = absurd (other refl)
-bare_steps detail.Steps Is _ steps other none = none
+bare_steps _ Is _ steps other none = none
 
 -- roots that are one node need none
-pub no_steps : (w : Detail) (l : Rooted) → l.first ≡ l.second → HasSteps w (AreStepsFor l) verdict.Equivalent (Some [])
-no_steps detail.Verdict l one = tt
-no_steps detail.Steps l one = record { derives = (tt, (refl, inl one)); lean = λ j low up. absurd (omega (arith, up)); spelled = tt }
+pub no_steps : (w : Detail) (l : Rooted) (steps : Option (List Step)) → l.first ≡ l.second → HasSteps w (λ x. x ≡ []) verdict.Equivalent steps → HasSteps w (AreStepsFor l) verdict.Equivalent steps
+no_steps w l steps one h = has_steps w (λ x. x ≡ []) (AreStepsFor l) (λ x e. subst (AreStepsFor l) (sym e) none) verdict.Equivalent steps h
+  where
+    none : AreStepsFor l []
+    none = record { derives = (tt, (refl, inl one)); lean = λ j low up. absurd (omega (arith, up)); spelled = tt }
 
 -- what a search found
 pub found_steps : (w : Detail) (l : Rooted) (outcome : Outcome) (steps : Option (List Step)) → IsStepsOf w l outcome steps → HasSteps w (AreStepsFor l) (said_of (verdict_of outcome)) steps
 found_steps w l (outcome.Met m) steps h = h
-found_steps detail.Verdict l _ steps h = tt
-found_steps detail.Steps l (outcome.Budget k) steps h = h
-found_steps detail.Steps l outcome.Apart steps h = h
-found_steps detail.Steps l (outcome.Rounds n) steps h = h
+found_steps w l (outcome.Budget k) steps h = bare_steps w (AreStepsFor l) (said_of (verdict_of (outcome.Budget k))) steps (λ e. cc e) h
+found_steps w l outcome.Apart steps h = bare_steps w (AreStepsFor l) (said_of (verdict_of outcome.Apart)) steps (λ e. cc e) h
+found_steps w l (outcome.Rounds n) steps h = bare_steps w (AreStepsFor l) (said_of (verdict_of (outcome.Rounds n))) steps (λ e. cc e) h
 
 pub steps_by : (w : Detail) (l : Rooted) (outcome : Outcome) (v : Verdict) (steps : Option (List Step)) → v ≡ said_of (verdict_of outcome) → IsStepsOf w l outcome steps → HasSteps w (AreStepsFor l) v steps
 steps_by w l outcome v steps e h = subst (λ (x : Verdict). HasSteps w (AreStepsFor l) x steps) (sym e) (found_steps w l outcome steps h)

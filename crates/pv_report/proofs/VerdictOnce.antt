@@ -23,7 +23,7 @@ use Rattle.pv_prove.specs.declared.outcome.Limits.{Limits}
 use Rattle.pv_prove.proofs.Cited.{verdict_by_nodes}
 use Rattle.pv_report.specs.Roots.{HaveLeast}
 use Rattle.pv_report.specs.Judging.{said_of}
-use Rattle.pv_report.specs.Verdicts.{HasCode, Finds, IsVerdict, IsVerdictOn}
+use Rattle.pv_report.specs.Verdicts.{HasCode, Finds, IsVerdict, IsVerdictOn, LackRoots}
 use Rattle.pv_report.specs.Partners.{IsPartner}
 use Rattle.pv_report.proofs.Places.{all_at, here_again}
 use Rattle.pv_report.proofs.SameRoots.{one_least}
@@ -123,6 +123,14 @@ said_once limits f m g p v w x y (searched _ one r h is e) (searched _ two q l o
 verdict_once : (limits : Limits) (f : ClassFile) (m : Method) (g : ClassFile) (p : Method) (v w : Verdict) → HasBytes m → HasBytes p → IsVerdictOn limits f m g p v → IsVerdictOn limits f m g p w → v ≡ w
 verdict_once limits f m g p v w x y h k = said_once limits f m g p v w x y (said_by limits f m g p v h) (said_by limits f m g p w k)
 
+-- two methods with a least graph lack no root
+pub no_lack : (f : ClassFile) (m : Method) (g : ClassFile) (p : Method) (v : Verdict) (l : Rooted) → HasBytes m → HasBytes p → HaveLeast f m g p l → LackRoots f m g p v → ⊥
+no_lack f m g p (verdict.NoCode side.First) l x y h lack = no_code m lack (form_code f m h.roots.one.form)
+no_lack f m g p (verdict.NoCode side.Second) l x y h lack = no_code p lack.1 (form_code g p h.roots.two.form)
+no_lack f m g p (verdict.Refused side.First cause) l x y h lack = not_refused f m cause x lack.1 h.roots.one.form
+no_lack f m g p (verdict.Refused side.Second cause) l x y h lack = not_refused g p cause y lack.1 h.roots.two.form
+no_lack f m g p _ l x y h lack = absurd lack
+
 -- ---- one verdict on a method
 
 placed : (others : List Method) (i : ℕ) (p : Method) → i < length others → get_or others i p ≡ p → slice_get others i ≡ Some p
@@ -131,7 +139,7 @@ placed others i p lt is = here_again others i p lt (sym is)
 same_some : (p q : Method) → ◌≡◌ {A = Option Method} (Some p) (Some q) → p ≡ q
 same_some p q e = cc e
 
-partner_once : (m : Method) (others : List Method) (p q : Method) → AreDistinct others → IsPartner m others p → IsPartner m others q → p ≡ q
+pub partner_once : (m : Method) (others : List Method) (p q : Method) → AreDistinct others → IsPartner m others p → IsPartner m others q → p ≡ q
 partner_once m others p q distinct a b =
     let first = placed others a.among.0 p a.among.1 a.among.2 in
     let second = placed others b.among.0 q b.among.1 b.among.2 in

@@ -29,12 +29,11 @@ pub record AreStepsFor (l : Rooted) (steps : List Step) : Type 0 where
   pub lean : IsLean steps
   pub spelled : AllByRecursion StepFits steps
 
--- where steps are wanted, there are some exactly where the verdict is `equivalent`, and of these this is so
+-- where steps are wanted and the verdict is `equivalent` there are some, and of these this is so; else there are none
 abbrev pub HasSteps : Detail → (List Step → Type 0) → Verdict → Option (List Step) → Type 0
-HasSteps detail.Verdict Is v steps = Unit {0}
 HasSteps detail.Steps Is Equivalent (Some steps) = Is steps
 HasSteps detail.Steps Is Equivalent None = ⊥
-HasSteps detail.Steps Is v steps = steps ≡ None
+HasSteps w Is v steps = steps ≡ None
 
 -- of the roots of a least graph, by what a search found
 abbrev pub IsStepsOf : Detail → Rooted → Outcome → Option (List Step) → Type 0

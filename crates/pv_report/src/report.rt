@@ -1,6 +1,6 @@
 //! What is said of two files.
 
-ghost use Rattle.std.specs.Prelude.{◌≡◌, ◌↔◌, ◌++◌, ◌∷◌, [], None, length, map, IfOk, OnOk, IsTrue};
+ghost use Rattle.std.specs.Prelude.{◌≡◌, ◌↔◌, ◌++◌, ◌∷◌, [], None, Some, length, map, IfOk, OnOk, IsTrue};
 ghost use Rattle.std.specs.List.{AllZip, flat_map};
 ghost use Rattle.pv_axioms.specs.Entries.{axioms};
 ghost use Rattle.pv_cert.specs.Lines.{title_text};
@@ -33,7 +33,7 @@ pub struct Answer {
     pub status: Status,
 }
 
-/// What is said of two files, and, where both are class files, the sections that show it.
+/// What is said of two files, and, where they are wanted and both are class files, the sections that show it.
 #[derive(Drop)]
 pub struct Report {
     pub answer: Answer,
@@ -41,8 +41,8 @@ pub struct Report {
 }
 
 /// What is said of two files: a line for each method of the first, in its order, or one line on the first of the two that
-/// is no class file. Where steps are wanted, there is a section for each method that is equivalent to its partner, in the order of
-/// the lines. The limit of the fetches is `LONGEST_FILE`. The gate is passed as `find` does, and changes no answer. Out of
+/// is no class file. Where steps are wanted and both are class files, there is a section for each method that is equivalent to its
+/// partner, in the order of the lines; else there are no sections. The limit of the fetches is `LONGEST_FILE`. The gate is passed as `find` does, and changes no answer. Out of
 /// memory is the one error.
 pub fn judge<G: Gate>(
     alloc: Global,
@@ -53,8 +53,9 @@ pub fn judge<G: Gate>(
     second: &Fetched,
 ) -> Result<Report, Memory>
     ensures answer { IfOk result (λ report. JudgesFetched limits first.now second.now report.answer.text.items report.answer.status) }
-    ensures sections { IfOk result (λ report. detail ≡ Detail.Steps → ShowsFetched limits first.now second.now report.sections) }
-    ensures none { IfOk result (λ report. (report.sections ≡ None) ↔ (report.answer.status ≡ Status.BadClass)) }
+    ensures sections { IfOk result (λ report. ShowsFetched limits first.now second.now report.sections) }
+    ensures wanted { IfOk result (λ report. detail ≡ Detail.Steps → (report.sections ≡ None) ↔ (report.answer.status ≡ Status.BadClass)) }
+    ensures unwanted { IfOk result (λ report. detail ≡ Detail.Verdict → report.sections ≡ None) }
 {
     let pair = match read_pair(alloc, first, second)? {
         Ok(pair) => pair,
@@ -76,8 +77,19 @@ pub fn judge<G: Gate>(
     let answer = answer_of(alloc, pair.first.methods.as_slice(), &judgements.verdicts)?;
     Ok(Report {
         answer,
-        sections: Some(Listed::from(judgements.sections)),
+        sections: wanted_sections(detail, judgements.sections),
     })
+}
+
+// Sections, where steps are wanted.
+fn wanted_sections(detail: Detail, sections: Vec<Section>) -> Option<Listed<Section>>
+    ensures wanted { detail ≡ Detail.Steps → result ≡ Some sections.items }
+    ensures unwanted { detail ≡ Detail.Verdict → result ≡ None }
+{
+    match detail {
+        Detail::Verdict => None,
+        Detail::Steps => Some(Listed::from(sections)),
+    }
 }
 
 // The lines of methods, each with its verdict, and the status.

@@ -1,6 +1,6 @@
 //! What is said of a method.
 
-ghost use Rattle.std.specs.Prelude.{◌≡◌, ◌↔◌, ◌<◌, length, map, slice_get, true, Some, None, IfOk, IsTrue};
+ghost use Rattle.std.specs.Prelude.{◌≡◌, ◌↔◌, ◌<◌, [], length, map, slice_get, true, Some, None, IfOk, IsTrue};
 ghost use Rattle.pv_class.specs.declared.file.Method.{Method};
 ghost use Rattle.pv_alike.specs.Least.{IsLeastOf};
 ghost use Rattle.pv_axioms.specs.Entries.{axioms};
@@ -9,7 +9,7 @@ ghost use Rattle.pv_prove.specs.Finding.{IsShown, verdict_of};
 ghost use Rattle.pv_report.specs.Roots.{IsWhole};
 ghost use Rattle.pv_report.specs.Verdicts.{HasCode};
 ghost use Rattle.pv_report.specs.Judging.{IsRead, IsReadPair, IsLeastOfSome, IsLeastOnPlaces, IsVerdictAt, IsVerdictBy, IsVerdictOnPlaces, said_of};
-ghost use Rattle.pv_report.specs.Proving.{IsProvedAt, IsProvedBy, IsProvedOnPlaces, IsStepsOf};
+ghost use Rattle.pv_report.specs.Proving.{HasSteps, IsProvedAt, IsProvedBy, IsProvedOnPlaces, IsStepsOf};
 
 use crate::pair::Pair;
 use crate::partners::partner_of;
@@ -161,7 +161,7 @@ fn judgement_by<G: Gate>(
         let _endings = endings(alloc, roots.graph(), roots.first())?;
         return Ok(Judgement {
             verdict: Verdict::Equivalent,
-            steps: Some(Listed::from(Vec::new(alloc))),
+            steps: no_steps(alloc, means.detail),
         });
     }
     let found = find(alloc, gate, roots, means.table, means.limits)?;
@@ -170,6 +170,16 @@ fn judgement_by<G: Gate>(
         verdict: said_of(found.outcome),
         steps,
     })
+}
+
+// The steps that show that a node has its own values, where they are wanted: no step is needed.
+fn no_steps(alloc: Global, detail: Detail) -> Option<Listed<Step>>
+    ensures { HasSteps detail (λ steps. steps ≡ []) Verdict.Equivalent result }
+{
+    match detail {
+        Detail::Verdict => None,
+        Detail::Steps => Some(Listed::from(Vec::new(alloc))),
+    }
 }
 
 // The steps that show what a search found, where they are wanted and the roots met.

@@ -1,5 +1,5 @@
 use Rattle.pv_report.specs.Verdicts.{IsVerdict}
-use Rattle.pv_report.proofs.Judgements.{bad_file, judges, report_status, shows}
+use Rattle.pv_report.proofs.Judgements.{bad_file, judges, report_status, shows, wanted_show}
 use Rattle.pv_report.proofs.Lists.{zip_length}
 use Rattle.pv_report.proofs.report.judge.Goals as goal
 
@@ -17,10 +17,10 @@ returns-clause-answer g c =
     (rw (c.deref-2.ensures.value, c.as_slice.ensures) at c.in_ok-answer.ensures.text) (rw c.deref-2.ensures.value at c.in_ok-answer.ensures.status)
 
 pub returns-clause-sections : goal.returns-clause-sections
-returns-clause-sections g c wanted =
-    rw c.from.ensures
-    (shows c.args.limits c.args.first.now c.args.second.now c.in-Ok.pair c.in_ok-judgements.judgements.verdicts.items c.in_ok-judgements.judgements.sections.items (rw c.in-Ok.is at c.in_ok-pair.ensures.reads) c.in_ok-judgements.ensures.verdicts
+returns-clause-sections g c =
+    wanted_show c.args.detail c.args.limits c.args.first.now c.args.second.now c.in_ok-judgements.judgements.sections.items c.wanted_sections.result c.wanted_sections.ensures.wanted c.wanted_sections.ensures.unwanted
+    (λ wanted. shows c.args.limits c.args.first.now c.args.second.now c.in-Ok.pair c.in_ok-judgements.judgements.verdicts.items c.in_ok-judgements.judgements.sections.items (rw c.in-Ok.is at c.in_ok-pair.ensures.reads) c.in_ok-judgements.ensures.verdicts
     (c.in_ok-judgements.ensures.sections wanted))
 
-pub returns-clause-none : goal.returns-clause-none
-returns-clause-none g c = (λ none. absurd (cc none), λ bad. absurd (report_status c.in_ok-judgements.judgements.verdicts.items c.in_ok-answer.answer.status (rw c.deref-2.ensures.value at c.in_ok-answer.ensures.status) bad))
+pub returns-clause-wanted : goal.returns-clause-wanted
+returns-clause-wanted g c wanted = (λ none. absurd (let some = c.wanted_sections.ensures.wanted wanted in cc (none, some)), λ bad. absurd (report_status c.in_ok-judgements.judgements.verdicts.items c.in_ok-answer.answer.status (rw c.deref-2.ensures.value at c.in_ok-answer.ensures.status) bad))

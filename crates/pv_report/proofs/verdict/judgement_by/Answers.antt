@@ -28,8 +28,7 @@ returns-then-first-second-clause-verdict g c =
 
 pub returns-then-first-second-clause-steps : goal.returns-then-first-second-clause-steps
 returns-then-first-second-clause-steps g c =
-    let none = no_steps c.args.means.detail c.args.roots.now (sym c.first.ensures ∙ c.if-first-second.true ∙ c.second.ensures) in
-    rw (c.from.ensures, c.new.ensures.items) none
+    no_steps c.args.means.detail c.args.roots.now c.no_steps.result (sym c.first.ensures ∙ c.if-first-second.true ∙ c.second.ensures) c.no_steps.ensures
 
 pub returns-clause-verdict : goal.returns-clause-verdict
 returns-clause-verdict g c =

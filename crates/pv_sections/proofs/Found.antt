@@ -19,7 +19,7 @@ use Rattle.pv_sections.specs.Findings.{AreOf, AreMissing, IsFindingOn, IsFinding
 use Rattle.pv_sections.specs.Reading.{IsFindingOnPlaces}
 
 -- the method of a class with a name and a descriptor is the one at this place
-named_once : (file : ClassFile) (name desc : List ℕ) (m x : Method) (k : ℕ) → IsRead file → IsNamed name desc file.methods m → slice_get file.methods k ≡ Some x → x.name ≡ name → x.desc ≡ desc → m ≡ x
+pub named_once : (file : ClassFile) (name desc : List ℕ) (m x : Method) (k : ℕ) → IsRead file → IsNamed name desc file.methods m → slice_get file.methods k ≡ Some x → x.name ≡ name → x.desc ≡ desc → m ≡ x
 named_once file name desc m x k (bytes, is) named at p q =
     let place = place_of file.methods m named.among in
     let same : place.0 ≡ k = is.describes.distinct place.0 k m x place.1 at (named.name_is ∙ sym p) (named.desc_is ∙ sym q) in

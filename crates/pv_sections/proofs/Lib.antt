@@ -3,4 +3,7 @@ pub mod Found
 pub mod SectionWords
 pub mod Rulings
 pub mod Certifying
+pub mod Prepared
+pub mod SectionOnce
+pub mod Accepting
 pub mod Cited

@@ -5,3 +5,4 @@ pub mod Lines
 pub mod Ruled
 pub mod Reading
 pub mod Certified
+pub mod Laws

@@ -6,15 +6,18 @@
 //! gate that `pv_check` passes, and on those below them. `specs/` says why a certificate is not one for two files (`Flaws`), what is said of a section (`Findings`), what
 //! the lines are (`Lines`), and what the report is (`Ruled`).
 //!
-//! The layer above uses the clause of `rule`: the text and the status are those of the bytes that were fetched
-//! (`RulesFetched` of `specs/Reading`), whatever the gate; and, of `proofs/Cited`, that a method and its partner have the
-//! same meaning where a section on them is accepted (`accepted_meaning`). The rest of `Reading` is private to this crate.
+//! The layer above uses the clause of `rule`: the text and the status are those of the bytes that were fetched (`RulesFetched` of
+//! `specs/Reading`), whatever the gate; those of `show`: the answer is that of `judge`, and the certificate, if any, shows it
+//! (`CertifiesFetched` of `specs/Certified`); and, of `proofs/Cited`, that a method and its partner have the same meaning where a
+//! section on them is accepted (`accepted_meaning`). That `rule` accepts what `show` makes is a law (`law_certified`). The rest of
+//! `Reading` is private to this crate.
 #![tactic(auto)]
 
 mod certificate;
 mod digest;
 mod finding;
 mod flaw;
+pub mod laws;
 mod line;
 mod report;
 mod shown;

@@ -59,7 +59,7 @@ fn run_words<R: AllocGlobal + Threads + Sync, F: Files, K: Sink>(
     ensures equivalent { (c : commands.Command (List ℕ)) → IsCommand (after_name words.now) (Some c) → EachEquivalent (F.held files.old) (first_of c) (second_of c) (K.sent out.old) (K.sent out.new) }
     ensures answered { (c : Option (commands.Command (List ℕ))) → IsCommand (after_name words.now) c → Answered (F.held files.old) c (K.sent out.old) (K.sent out.new) (Rose (F.failures files.old) (F.failures files.new)) (Rose (K.failures out.old) (K.failures out.new)) result }
     ensures asked { (c : Option (commands.Command (List ℕ))) → IsCommand (after_name words.now) c → CallsFor (F.held files.old) c (F.asked files.old) (F.asked files.new) (Rose (K.failures out.old) (K.failures out.new)) result }
-    ensures held { (c : Option (commands.Command (List ℕ))) → IsCommand (after_name words.now) c → Leaves c (F.held files.old) (F.held files.new) result }
+    ensures held { (c : Option (commands.Command (List ℕ))) → IsCommand (after_name words.now) c → Leaves c (F.held files.old) (F.held files.new) (Rose (F.failures files.old) (F.failures files.new)) (Rose (K.failures out.old) (K.failures out.new)) result }
 {
     let Ok(borrowed) = borrowed(rt.alloc(), words) else {
         return Status::Memory;

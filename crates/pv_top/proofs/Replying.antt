@@ -18,7 +18,7 @@ use Rattle.pv_report.specs.Report.{Judged}
 use Rattle.pv_top.specs.declared.words.Command.{Command}
 use Rattle.pv_top.specs.declared.words.Command.TheVariants.{Validate}
 use Rattle.pv_top.specs.Words.{fetches, names_of, placed_name}
-use Rattle.pv_top.specs.Run.{Says, Answered, IsAnswer, all_calls, fetch_calls, place_calls, GrewBy, AskedFor, CallsFor, HoldsPlaced, LeavesAt, LeavesNamed, LeavesBy, Leaves}
+use Rattle.pv_top.specs.Run.{Says, Answered, IsAnswer, all_calls, fetch_calls, place_calls, GrewBy, HasBadFile, AskedFor, CallsFor, HoldsPlaced, LeavesAt, LeavesNamed, LeavesBy, Leaves}
 use Rattle.pv_top.specs.Fetching.{HoldAll, AnswersFetched, AsksPlaced, FetchesOf, LeavesPlaced, PlaceFailed, Places, PlacesFetched, ReadFailed, SaysAfter}
 use Rattle.pv_top.proofs.Answering.{Contents, contents_of, said_of, said_result}
 use Rattle.pv_top.proofs.Asking.{grew_more, more_nothing}
@@ -123,16 +123,30 @@ module _ (held : Option Stored) (c : Command (List ℕ)) (fetched : List Fetched
           | inr e ↦ subst (λ (s : Status). is_whole s ≡ true) (sym e.0) refl
         ]
 
+    -- .. and which fault, where it is one of a device
+    fault_of : (p : List ℕ × List ℕ) → IsReply held c fetched (Some p) text meant → SaysAfter (Some p) old new text meant result files_rose write_rose → result ≡ status.WriteFault → files_rose ⊎ write_rose
+    fault_of p r (inr failed) e = inl (subst (λ (s : Status). PlaceFailed s files_rose) e failed.0)
+    fault_of p r (inl says) e =
+        let g = got r.holds in
+        let report = placed_report c g.contents p text meant (r.answers g.contents g.are_fetched) (r.places g.contents g.are_fetched) in
+        elim (said_status old new text meant result write_rose says) [
+          | inl same ↦ absurd (let none : is_report status.WriteFault ≡ true = subst (λ (s : Status). is_report s ≡ true) (sym same ∙ e) report in cc none)
+          | inr failed ↦ inr failed.1
+        ]
+
     -- .. and where nothing is: the command has no name for it, or a file is no class file
-    bare_result : IsReply held c fetched None text meant → Says old new text meant result write_rose → (placed_name c ≡ None) ⊎ ((result ≡ status.BadClass) ⊎ ((result ≡ status.WriteFault) × write_rose))
+    bare_result : IsReply held c fetched None text meant → Says old new text meant result write_rose → (placed_name c ≡ None) ⊎ (HasBadFile held c × ((result ≡ status.BadClass) ⊎ ((result ≡ status.WriteFault) × write_rose)))
     bare_result r says =
         let g = got r.holds in
         elim (r.places g.contents g.are_fetched) [
           | inl none ↦ inl none
-          | inr bad ↦ inr (elim (said_status old new text meant result write_rose says) [
-            | inl e ↦ inl (e ∙ bad)
-            | inr e ↦ inr e
-          ])
+          | inr bad ↦ inr (
+            record { contents = g.contents; are_held = g.are_held; text = text; answer = subst (IsAnswer c g.contents text) bad (r.answers g.contents g.are_fetched) },
+            elim (said_status old new text meant result write_rose says) [
+              | inl e ↦ inl (e ∙ bad)
+              | inr e ↦ inr e
+            ],
+          )
         ]
 
 -- ---- what is asked
@@ -177,9 +191,9 @@ module _ (held : Option Stored) (c : Command (List ℕ)) (old new : Option (List
   unnamed_asked status.ReadFault other none grew = absurd (other refl)
   unnamed_asked _ other none grew = grew
 
-  bad_asked : (s : Status) → (s ≡ status.BadClass) ⊎ ((s ≡ status.WriteFault) × write_rose) → GrewBy old new (fetch_calls c) → AskedFor held c old new write_rose s
-  bad_asked s (inl is) grew = subst (λ (t : Status). AskedFor held c old new write_rose t) (sym is) grew
-  bad_asked s (inr is) grew = subst (λ (t : Status). AskedFor held c old new write_rose t) (sym is.0) (inr (is.1, grew))
+  bad_asked : (s : Status) → HasBadFile held c → (s ≡ status.BadClass) ⊎ ((s ≡ status.WriteFault) × write_rose) → GrewBy old new (fetch_calls c) → AskedFor held c old new write_rose s
+  bad_asked s bad (inl is) grew = subst (λ (t : Status). AskedFor held c old new write_rose t) (sym is) grew
+  bad_asked s bad (inr is) grew = subst (λ (t : Status). AskedFor held c old new write_rose t) (sym is.0) (inr (is.1, bad, grew))
 
 -- what a reply asks
 pub reply_asked : (held : Option Stored) (c : Command (List ℕ)) (fetched : List Fetched) (placed : Option (List ℕ × List ℕ)) (text : List ℕ) (meant result : Status) (sent_old sent_new : Option (List ℕ)) (files_rose write_rose : Type 0) (old mid new : Option (List Asked))
@@ -189,7 +203,7 @@ reply_asked held c fetched None text meant result sent_old sent_new files_rose w
     let said = said_of held c fetched sent_old sent_new write_rose text meant result r.holds r.answers says in
     elim (bare_result held c fetched text meant result sent_old sent_new files_rose write_rose r says) [
       | inl none ↦ unnamed_asked held c old new write_rose result (no_read_fault result (said_result held c sent_old sent_new write_rose result said)) none now
-      | inr bad ↦ bad_asked held c old new write_rose result bad now
+      | inr bad ↦ bad_asked held c old new write_rose result bad.0 bad.1 now
     ]
 reply_asked held c fetched (Some p) text meant result sent_old sent_new files_rose write_rose old mid new r says grew (inl placed) =
     let g = contents_of held (fetches c) fetched r.holds in
@@ -208,65 +222,77 @@ insert_only m name bytes other apart = get-insert nat_list_cmp_total m name byte
     by true e = absurd (apart (same_text other name e))
     by false e = refl
 
-module _ (c : Command (List ℕ)) (name : List ℕ) where
+module _ (c : Command (List ℕ)) (name : List ℕ) (files_rose write_rose : Type 0) where
   -- the store is as it was, where the status is that of a fault or of a file without a reading
-  same_left : (held : Option Stored) (s : Status) → is_report s ≡ false → LeavesNamed name c held held s
-  same_left None s is = tt
-  same_left (Some m) status.AllEquivalent is = absurd (cc is)
-  same_left (Some m) status.Others is = absurd (cc is)
-  same_left (Some m) status.WriteFault is = λ other apart. refl
-  same_left (Some m) status.Memory is = λ other apart. refl
-  same_left (Some m) _ is = refl
+  same_left : (held : Option Stored) (s : Status) → is_report s ≡ false → (s ≡ status.WriteFault → write_rose × HasBadFile held c) → LeavesNamed name c held held files_rose write_rose s
+  same_left None s is fault = tt
+  same_left (Some m) status.AllEquivalent is fault = absurd (cc is)
+  same_left (Some m) status.Others is fault = absurd (cc is)
+  same_left (Some m) status.WriteFault is fault = let bad = fault refl in inr (bad.0, inr (bad.1, refl))
+  same_left (Some m) status.Memory is fault = λ other apart. refl
+  same_left (Some m) _ is fault = refl
 
-  placed_at : (old new : Stored) (s : Status) → is_whole s ≡ true → HoldsPlaced old new c name → LeavesAt name c old new s
-  placed_at old new status.AllEquivalent is h = h
-  placed_at old new status.Others is h = h
-  placed_at old new status.WriteFault is h = subst (OnlyAt name old) (sym h.new_is) (insert_only old name h.bytes)
-  placed_at old new status.Memory is h = subst (OnlyAt name old) (sym h.new_is) (insert_only old name h.bytes)
-  placed_at old new s is h = absurd (cc is)
+  placed_fault : (old new : Stored) → files_rose ⊎ write_rose → HoldsPlaced old new c name → LeavesAt name c old new files_rose write_rose status.WriteFault
+  placed_fault old new (inl rose) h = inl (rose, subst (OnlyAt name old) (sym h.new_is) (insert_only old name h.bytes))
+  placed_fault old new (inr rose) h = inr (rose, inl h)
 
-  failed_at : (old new : Stored) (s : Status) (rose : Type 0) → PlaceFailed s rose → OnlyAt name old new → LeavesAt name c old new s
-  failed_at old new status.WriteFault rose failed only = only
-  failed_at old new status.Memory rose failed only = only
-  failed_at old new _ rose failed only = absurd failed
+  placed_at : (old new : Stored) (s : Status) → is_whole s ≡ true → (s ≡ status.WriteFault → files_rose ⊎ write_rose) → HoldsPlaced old new c name → LeavesAt name c old new files_rose write_rose s
+  placed_at old new status.AllEquivalent is fault h = h
+  placed_at old new status.Others is fault h = h
+  placed_at old new status.WriteFault is fault h = placed_fault old new (fault refl) h
+  placed_at old new status.Memory is fault h = subst (OnlyAt name old) (sym h.new_is) (insert_only old name h.bytes)
+  placed_at old new s is fault h = absurd (cc is)
 
--- a command whose name for it is this one
-left_named : (c : Command (List ℕ)) (o : Option (List ℕ)) (old new : Option Stored) (s : Status) → placed_name c ≡ o → LeavesBy o c old new s → Leaves (Some c) old new s
-left_named c o old new s is h = subst (λ (n : Option (List ℕ)). LeavesBy n c old new s) (sym is) h
+  failed_at : (old new : Stored) (s : Status) → PlaceFailed s files_rose → OnlyAt name old new → LeavesAt name c old new files_rose write_rose s
+  failed_at old new status.WriteFault failed only = inl (failed, only)
+  failed_at old new status.Memory failed only = only
+  failed_at old new _ failed only = absurd failed
 
--- nothing is placed, and there is no report
-pub unchanged : (c : Command (List ℕ)) (held : Option Stored) (s : Status) → is_report s ≡ false → Leaves (Some c) held held s
-unchanged c held s is = go (placed_name c) refl
-  where
-    go : (o : Option (List ℕ)) → placed_name c ≡ o → Leaves (Some c) held held s
-    go None e = left_named c None held held s e refl
-    go (Some name) e = left_named c (Some name) held held s e (same_left c name held s is)
+module _ (c : Command (List ℕ)) (files_rose write_rose : Type 0) where
+  -- a command whose name for it is this one
+  left_named : (o : Option (List ℕ)) (old new : Option Stored) (s : Status) → placed_name c ≡ o → LeavesBy o c old new files_rose write_rose s → Leaves (Some c) old new files_rose write_rose s
+  left_named o old new s is h = subst (λ (n : Option (List ℕ)). LeavesBy n c old new files_rose write_rose s) (sym is) h
+
+  -- nothing is placed, and there is no report
+  pub unchanged : (held : Option Stored) (s : Status) → is_report s ≡ false → (s ≡ status.WriteFault → write_rose × HasBadFile held c) → Leaves (Some c) held held files_rose write_rose s
+  unchanged held s is fault = go (placed_name c) refl
+    where
+      go : (o : Option (List ℕ)) → placed_name c ≡ o → Leaves (Some c) held held files_rose write_rose s
+      go None e = left_named None held held s e refl
+      go (Some name) e = left_named (Some name) held held s e (same_left c name files_rose write_rose held s is fault)
+
+  -- .. since one of its files is no class file
+  unchanged_bad : (held : Option Stored) (s : Status) → HasBadFile held c → (s ≡ status.BadClass) ⊎ ((s ≡ status.WriteFault) × write_rose) → Leaves (Some c) held held files_rose write_rose s
+  unchanged_bad held s bad (inl e) = unchanged held s (ap is_report e) (λ fault. absurd (cc (e, fault)))
+  unchanged_bad held s bad (inr e) = unchanged held s (ap is_report e.0) (λ fault. (e.1, bad))
+
+  -- .. since a fetch failed, or memory ran out
+  pub unchanged_read : (held : Option Stored) (s : Status) (rose : Type 0) → ReadFailed s rose → Leaves (Some c) held held files_rose write_rose s
+  unchanged_read held status.ReadFault rose failed = unchanged held status.ReadFault refl (λ fault. absurd (cc fault))
+  unchanged_read held status.Memory rose failed = unchanged held status.Memory refl (λ fault. absurd (cc fault))
+  unchanged_read held _ rose failed = absurd failed
 
 -- what a reply leaves
 pub reply_left : (held new : Option Stored) (c : Command (List ℕ)) (fetched : List Fetched) (placed : Option (List ℕ × List ℕ)) (text : List ℕ) (meant result : Status) (sent_old sent_new : Option (List ℕ)) (files_rose write_rose : Type 0)
-    → IsReply held c fetched placed text meant → SaysAfter placed sent_old sent_new text meant result files_rose write_rose → LeavesPlaced placed held new result files_rose → Leaves (Some c) held new result
+    → IsReply held c fetched placed text meant → SaysAfter placed sent_old sent_new text meant result files_rose write_rose → LeavesPlaced placed held new result files_rose → Leaves (Some c) held new files_rose write_rose result
 reply_left held new c fetched None text meant result sent_old sent_new files_rose write_rose r says same =
-    subst (λ (h : Option Stored). Leaves (Some c) held h result) (sym same)
+    subst (λ (h : Option Stored). Leaves (Some c) held h files_rose write_rose result) (sym same)
     (elim (bare_result held c fetched text meant result sent_old sent_new files_rose write_rose r says) [
-      | inl none ↦ left_named c None held held result none refl
-      | inr bad ↦ unchanged c held result (elim bad [
-        | inl e ↦ ap is_report e
-        | inr e ↦ ap is_report e.0
-      ])
+      | inl none ↦ left_named c files_rose write_rose None held held result none refl
+      | inr bad ↦ unchanged_bad c files_rose write_rose held result bad.0 bad.1
     ])
 reply_left held new c fetched (Some p) text meant result sent_old sent_new files_rose write_rose r says left =
     let g = contents_of held (fetches c) fetched r.holds in
     let places = r.places g.contents g.are_fetched in
-    let whole = whole_result held c fetched text meant result sent_old sent_new files_rose write_rose p r says in
-    left_named c (Some p.0) held new result places.0 (by held new r.holds left)
+    left_named c files_rose write_rose (Some p.0) held new result places.0 (by held new r.holds left)
   where
-    by : (h k : Option Stored) → HoldAll h (fetches c) fetched → LeavesPlaced (Some p) h k result files_rose → LeavesNamed p.0 c h k result
+    by : (h k : Option Stored) → HoldAll h (fetches c) fetched → LeavesPlaced (Some p) h k result files_rose → LeavesNamed p.0 c h k files_rose write_rose result
     by None None all left = tt
     by (Some m) (Some n) all (inl is) =
         let g = contents_of (Some m) (fetches c) fetched all in
-        placed_at c p.0 m n result (whole_result held c fetched text meant result sent_old sent_new files_rose write_rose p r says)
+        placed_at c p.0 files_rose write_rose m n result (whole_result held c fetched text meant result sent_old sent_new files_rose write_rose p r says) (fault_of held c fetched text meant result sent_old sent_new files_rose write_rose p r says)
         (record { contents = g.contents; are_held = g.are_held; bytes = p.1; placed = (r.places g.contents g.are_fetched).1; new_is = is })
-    by (Some m) (Some n) all (inr failed) = failed_at c p.0 m n result files_rose failed.0 failed.1
+    by (Some m) (Some n) all (inr failed) = failed_at c p.0 files_rose write_rose m n result failed.0 failed.1
     by None (Some n) all (inl x) = absurd x
     by None (Some n) all (inr x) = absurd x.1
     by (Some m) None all (inl x) = absurd x
@@ -278,6 +304,6 @@ pub nothing_asked : (held : Option Stored) (c : Option (Command (List ℕ))) (as
 nothing_asked held None asked write_rose = refl
 nothing_asked held (Some c) asked write_rose = (0, more_nothing asked)
 
-pub nothing_left : (c : Option (Command (List ℕ))) (held : Option Stored) → Leaves c held held status.Memory
-nothing_left None held = refl
-nothing_left (Some c) held = unchanged c held status.Memory refl
+pub nothing_left : (c : Option (Command (List ℕ))) (held : Option Stored) (files_rose write_rose : Type 0) → Leaves c held held files_rose write_rose status.Memory
+nothing_left None held files_rose write_rose = refl
+nothing_left (Some c) held files_rose write_rose = unchanged c files_rose write_rose held status.Memory refl (λ fault. absurd (cc fault))

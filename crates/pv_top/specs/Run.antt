@@ -47,6 +47,13 @@ pub record SaidOf (held : Option Stored) (c : Command (List ℕ)) (old new : Opt
   pub answer : IsAnswer c contents text meant
   pub says : Says old new text meant result write_rose
 
+-- one of the command's files is no class file, as its answer says
+pub record HasBadFile (held : Option Stored) (c : Command (List ℕ)) : Type 0 where
+  pub contents : List (List ℕ)
+  pub are_held : AreContents held c contents
+  pub text : List ℕ
+  pub answer : IsAnswer c contents text status.BadClass
+
 -- the command places something, and this failed before anything was said
 abbrev pub FailsToPlace : Command (List ℕ) → Option (List ℕ) → Option (List ℕ) → Type 0 → Type 0
 FailsToPlace c old new files_rose = ((name : List ℕ) × (placed_name c ≡ Some name)) × files_rose × (new ≡ old)
@@ -82,14 +89,14 @@ IsThere held name = (bytes : List ℕ) × Holds held name bytes
 abbrev pub GrewBy : Option (List Asked) → Option (List Asked) → List Asked → Type 0
 GrewBy old new calls = new ≡ more old calls
 
--- The record of calls grows by all calls of the command; by its fetches alone, where a file of it has no reading. Where a fetch fails, it
--- grows by those up to this one, and the names before it are there; where memory runs out, by the first n calls, for some n.
+-- The record of calls grows by all calls of the command; by its fetches alone, where a file of it is no class file. Where a fetch fails,
+-- it grows by those up to this one, and the names before it are there; where memory runs out, by the first n calls, for some n.
 abbrev pub AskedFor : Option Stored → Command (List ℕ) → Option (List Asked) → Option (List Asked) → Type 0 → Status → Type 0
 AskedFor held c old new write_rose status.Memory = (n : ℕ) × GrewBy old new (take n (all_calls c))
 AskedFor held c old new write_rose status.ReadFault = (n : ℕ) × (n < length (names_of c)) × AllByRecursion (IsThere held) (take n (names_of c)) × GrewBy old new (map Fetch (take (suc n) (names_of c)))
 AskedFor held c old new write_rose status.AllEquivalent = GrewBy old new (all_calls c)
 AskedFor held c old new write_rose status.Others = GrewBy old new (all_calls c)
-AskedFor held c old new write_rose status.WriteFault = GrewBy old new (all_calls c) ⊎ (write_rose × GrewBy old new (fetch_calls c))
+AskedFor held c old new write_rose status.WriteFault = GrewBy old new (all_calls c) ⊎ (write_rose × HasBadFile held c × GrewBy old new (fetch_calls c))
 AskedFor held c old new write_rose result = GrewBy old new (fetch_calls c)
 
 -- Words that are no command ask nothing.
@@ -112,26 +119,30 @@ pub record HoldsPlaced (old new : Stored) (c : Command (List ℕ)) (name : List 
   pub placed : IsPlaced c contents bytes
   pub new_is : new ≡ insert old name bytes
 
--- A report leaves what the command places under its name. A fault of a place or of the sink, and want of memory, may leave anything
--- there. Else nothing changes.
-abbrev pub LeavesAt : List ℕ → Command (List ℕ) → Stored → Stored → Status → Type 0
-LeavesAt name c old new status.AllEquivalent = HoldsPlaced old new c name
-LeavesAt name c old new status.Others = HoldsPlaced old new c name
-LeavesAt name c old new status.WriteFault = OnlyAt name old new
-LeavesAt name c old new status.Memory = OnlyAt name old new
-LeavesAt name c old new result = new ≡ old
+-- where the sink failed, the command had placed what it places; or one of its files is no class file, and nothing changed
+abbrev pub LeavesUnsaid : List ℕ → Command (List ℕ) → Stored → Stored → Type 0
+LeavesUnsaid name c old new = HoldsPlaced old new c name ⊎ (HasBadFile (Some old) c × (new ≡ old))
+
+-- A report leaves what the command places under its name. A place that fails, and want of memory, may leave anything there. Else
+-- nothing changes.
+abbrev pub LeavesAt : List ℕ → Command (List ℕ) → Stored → Stored → Type 0 → Type 0 → Status → Type 0
+LeavesAt name c old new files_rose write_rose status.AllEquivalent = HoldsPlaced old new c name
+LeavesAt name c old new files_rose write_rose status.Others = HoldsPlaced old new c name
+LeavesAt name c old new files_rose write_rose status.WriteFault = (files_rose × OnlyAt name old new) ⊎ (write_rose × LeavesUnsaid name c old new)
+LeavesAt name c old new files_rose write_rose status.Memory = OnlyAt name old new
+LeavesAt name c old new files_rose write_rose result = new ≡ old
 
 -- the same, where what the store holds is known, as it is afterwards too
-abbrev pub LeavesNamed : List ℕ → Command (List ℕ) → Option Stored → Option Stored → Status → Type 0
-LeavesNamed name c None None result = Unit {0}
-LeavesNamed name c (Some old) (Some new) result = LeavesAt name c old new result
-LeavesNamed name c old new result = ⊥
+abbrev pub LeavesNamed : List ℕ → Command (List ℕ) → Option Stored → Option Stored → Type 0 → Type 0 → Status → Type 0
+LeavesNamed name c None None files_rose write_rose result = Unit {0}
+LeavesNamed name c (Some old) (Some new) files_rose write_rose result = LeavesAt name c old new files_rose write_rose result
+LeavesNamed name c old new files_rose write_rose result = ⊥
 
-abbrev pub LeavesBy : Option (List ℕ) → Command (List ℕ) → Option Stored → Option Stored → Status → Type 0
-LeavesBy None c old new result = new ≡ old
-LeavesBy (Some name) c old new result = LeavesNamed name c old new result
+abbrev pub LeavesBy : Option (List ℕ) → Command (List ℕ) → Option Stored → Option Stored → Type 0 → Type 0 → Status → Type 0
+LeavesBy None c old new files_rose write_rose result = new ≡ old
+LeavesBy (Some name) c old new files_rose write_rose result = LeavesNamed name c old new files_rose write_rose result
 
 -- what the store holds after the call: a command that places nothing, and words that are no command, change nothing
-abbrev pub Leaves : Option (Command (List ℕ)) → Option Stored → Option Stored → Status → Type 0
-Leaves None old new result = new ≡ old
-Leaves (Some c) old new result = LeavesBy (placed_name c) c old new result
+abbrev pub Leaves : Option (Command (List ℕ)) → Option Stored → Option Stored → Type 0 → Type 0 → Status → Type 0
+Leaves None old new files_rose write_rose result = new ≡ old
+Leaves (Some c) old new files_rose write_rose result = LeavesBy (placed_name c) c old new files_rose write_rose result

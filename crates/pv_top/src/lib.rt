@@ -1,10 +1,12 @@
 //! The commands of the validator.
 //!
-//! This is the highest layer: `main` calls `run`. It stands on `pv_report`, which says what there is to say of two
-//! files, on `pv_sections`, which says it of a certificate for them, on `pv_base`, from which these come and to which the
-//! text goes, and on those below them. `specs/` says which words are a command, and what it fetches (`Words`), what the
-//! promise is (`Promise`), and what a command answers and `run` leaves (`Run`). A command is a variant of `Command`: what
-//! it is follows by cases from its row in `words_of`, `fetches` and `IsAnswer`, and `run` has one sequence for all.
+//! This is the highest layer: `main` calls `run`. It stands on `pv_words`, which reads the words of a command by its shape, on
+//! `pv_report`, which says what there is to say of two files, on `pv_sections`, which says it of a certificate for them and
+//! gives the certificate of what is shown, on `pv_base`, from which the files come and to which the text goes, and on those
+//! below them. `specs/` says which words are a command, what it fetches and under which name it places something (`Words`),
+//! what the promise is (`Promise`), and what a command answers and `run` leaves (`Run`). A command is a variant of `Command`:
+//! what it is follows by cases from its rows in `AreOf`, `fetches`, `placed_name`, `IsAnswer` and `IsPlaced`, and `run` has one
+//! sequence for all.
 //!
 //! `main` uses the clauses of `run`: each whole line `.. equivalent` that the sink took is true (`equivalent`), what is said
 //! and with which status (`answered`), and what was asked of the outside (`asked`, `held`). `Commands` and `Fetching` are

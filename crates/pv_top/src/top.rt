@@ -69,7 +69,7 @@ pub fn run<R: Threads + Sync, F: Files, K: Sink, G: Gate>(
 
     // What is asked of the files, and what they hold afterwards.
     ensures asked { (c : Option (commands.Command (List ℕ))) → IsCommand (texts words.now) c → CallsFor (F.held files.old) c (F.asked files.old) (F.asked files.new) (Rose (K.failures out.old) (K.failures out.new)) result }
-    ensures held { (c : Option (commands.Command (List ℕ))) → IsCommand (texts words.now) c → Leaves c (F.held files.old) (F.held files.new) result }
+    ensures held { (c : Option (commands.Command (List ℕ))) → IsCommand (texts words.now) c → Leaves c (F.held files.old) (F.held files.new) (Rose (F.failures files.old) (F.failures files.new)) (Rose (K.failures out.old) (K.failures out.new)) result }
 {
     match command_of(alloc, words) {
         Ok(Some(command)) => execute(alloc, gate, command, files, out),
@@ -88,7 +88,7 @@ fn execute<F: Files, K: Sink, G: Gate>(
 ) -> Status
     ensures answered { Answered (F.held files.old) (Some (named command.entry)) (K.sent out.old) (K.sent out.new) (Rose (F.failures files.old) (F.failures files.new)) (Rose (K.failures out.old) (K.failures out.new)) result }
     ensures asked { CallsFor (F.held files.old) (Some (named command.entry)) (F.asked files.old) (F.asked files.new) (Rose (K.failures out.old) (K.failures out.new)) result }
-    ensures held { Leaves (Some (named command.entry)) (F.held files.old) (F.held files.new) result }
+    ensures held { Leaves (Some (named command.entry)) (F.held files.old) (F.held files.new) (Rose (F.failures files.old) (F.failures files.new)) (Rose (K.failures out.old) (K.failures out.new)) result }
 {
     let fetched = match fetch_files(alloc, command, files) {
         Ok(fetched) => fetched,

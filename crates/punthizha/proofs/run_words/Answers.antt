@@ -13,7 +13,7 @@ pub returns-in_default-clause-asked : goal.returns-in_default-clause-asked
 returns-in_default-clause-asked g c command is = nothing_asked (g.F.Files.held c.args.files.now) command (g.F.Files.asked c.args.files.now) _
 
 pub returns-in_default-clause-held : goal.returns-in_default-clause-held
-returns-in_default-clause-held g c command is = nothing_left command (g.F.Files.held c.args.files.now)
+returns-in_default-clause-held g c command is = nothing_left command (g.F.Files.held c.args.files.now) _ _
 
 pub returns-in-Some-clause-answered : goal.returns-in-Some-clause-answered
 returns-in-Some-clause-answered g c command is =

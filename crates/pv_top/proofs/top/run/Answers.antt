@@ -36,7 +36,7 @@ returns-in-Ok-Some-clause-held g c o is =
     let words = texts c.args.words.now in
     let command = named c.in-Ok-Some.command in
     let read : IsCommand words (Some command) = rw c.in-Ok-Some.field-0-is at c.in-Ok-Some.ensures in
-    subst (λ (x : Option (Command (List ℕ))). Leaves x (g.F.Files.held c.args.files.now) (g.F.Files.held c.execute.new.files) c.execute.result) (one_command words (Some command) o read is) c.execute.ensures.held
+    subst (λ (x : Option (Command (List ℕ))). Leaves x (g.F.Files.held c.args.files.now) (g.F.Files.held c.execute.new.files) (Rose (g.F.Files.failures c.args.files.now) (g.F.Files.failures c.execute.new.files)) (Rose (g.K.Sink.failures c.args.out.now) (g.K.Sink.failures c.execute.new.out)) c.execute.result) (one_command words (Some command) o read is) c.execute.ensures.held
 
 pub returns-in-Ok-Some-clause-equivalent : goal.returns-in-Ok-Some-clause-equivalent
 returns-in-Ok-Some-clause-equivalent g c o is =

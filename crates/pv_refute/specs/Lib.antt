@@ -1,0 +1,4 @@
+-- what public contracts and laws say
+pub mod Tries
+pub mod Differences
+pub mod Laws

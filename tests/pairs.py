@@ -1,15 +1,20 @@
 #!/usr/bin/env python3
-"""Runs the built program on the class files of JARs before and after ProGuard optimised them.
+"""Runs the built program on class files that should mean the same: before and after ProGuard, or by two compilers.
 
 It works on the program that `cd crates/punthizha && rt run` leaves, or on the one that the environment
 variable PUNTHIZHA names. Each JAR is optimised with names kept, as docs/USING.md shows, and each class that both JARs
 have is one run of the program. It prints how many lines say what, without places, the slowest pairs, and the greatest memory.
 It needs proguard (Debian: proguard-cli) and a JDK 17, as examples/make.sh does; ProGuard reads no class file later than those of Java 13.
 
+With --compilers the arguments are folders of Java sources, and each is compiled for Java 8 by javac, by ecj (Debian: ecj) and by
+each javac that the environment variable JAVACS names, separated by colons; javac finds libraries by CLASSPATH. Each class by javac
+and by another compiler is one run. With --same the pairs are each class of the JARs and itself.
+
 With --cert each run places a certificate, which a second run of the program checks: it must say `equivalent` of the same methods in the
-same order. The steps of its sections are counted. With --same the pairs are each class and itself, without ProGuard.
+same order. The steps of its sections are counted.
 
     tests/pairs.py [--cert] [--same] JAR..
+    tests/pairs.py [--cert] --compilers FOLDER..
 """
 
 import os
@@ -106,6 +111,48 @@ def run(pair, certified):
     return name, fault or status, used, memory, words, steps
 
 
+def compiled(sources, work):
+    """The folders of class files by each compiler that takes all the sources, the first by javac."""
+    files = os.path.join(work, "files")
+    with open(files, "w", encoding="utf-8") as listed:
+        for at, _, names in os.walk(sources):
+            listed.writelines(f"{os.path.join(at, it)}\n" for it in sorted(names) if it.endswith(".java") and "-info" not in it)
+    javacs = ["javac", *filter(None, os.environ.get("JAVACS", "").split(":"))]
+    compilers = [[it, "--release", "8", "-nowarn", "-proc:none", "-encoding", "UTF-8"] for it in javacs]
+    compilers.append(["ecj", "--release", "8", "-nowarn", "-proc:none", "-encoding", "UTF-8"])
+    folders = []
+    for number, words in enumerate(compilers):
+        into = os.path.join(work, f"by{number}")
+        try:
+            done = subprocess.run([*words, "-d", into, "@" + files], capture_output=True)
+            taken = done.returncode == 0
+        except FileNotFoundError:
+            taken = False
+        if taken:
+            folders.append((words[0], into))
+        else:
+            print(words[0], "doesn't take", sources)
+    return folders
+
+
+def class_files(folder):
+    return {os.path.relpath(os.path.join(at, it), folder) for at, _, names in os.walk(folder) for it in names if it.endswith(".class")}
+
+
+def pairs_of_sources(trees, work):
+    """The pairs of class files by javac and by another compiler, each with its name."""
+    pairs = []
+    for number, tree in enumerate(trees):
+        place = os.path.join(work, str(number))
+        os.mkdir(place)
+        folders = compiled(tree, place)
+        for compiler, other in folders[1:]:
+            one = folders[0][1]
+            both = class_files(one) & class_files(other)
+            pairs += [(f"{tree} by {compiler}: {it}", os.path.join(one, it), os.path.join(other, it)) for it in sorted(both)]
+    return pairs
+
+
 def pairs_of(jars, work, same):
     """The pairs of class files, each with its name."""
     library, pairs = None if same else java8(work), []
@@ -128,7 +175,7 @@ def main():
     options = [it for it in sys.argv[1:] if it.startswith("--")]
     jars = [it for it in sys.argv[1:] if not it.startswith("--")]
     with tempfile.TemporaryDirectory() as work:
-        pairs = pairs_of(jars, work, "--same" in options)
+        pairs = pairs_of_sources(jars, work) if "--compilers" in options else pairs_of(jars, work, "--same" in options)
         with ThreadPoolExecutor(2) as pool:
             answers = list(pool.map(lambda pair: run(pair, "--cert" in options), pairs))
     wrong = [it for it in answers if it[1] not in (0, 1)]

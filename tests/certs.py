@@ -19,7 +19,8 @@ import subprocess
 import sys
 import time
 
-TOP = os.path.dirname(os.path.dirname(os.path.abspath(__file__)))
+from cases import TOP, case_rows, written
+
 PROGRAM = os.path.join(TOP, "crates", "cases", "out", "cases")
 BATCH = 5000
 
@@ -136,23 +137,12 @@ def changed(text, rand):
 
 def bases():
     """The certificates that lines of the cases name."""
-    with open(os.path.join(TOP, "crates", "cases", "stdin"), encoding="utf-8") as file:
-        named = dict(line.split(" ", 2)[1:] for line in file.read().splitlines() if line.startswith("let "))
-
-    def written(word):
-        text = b""
-        for part in word.split("+"):
-            once, _, times = part.partition("*")
-            if once.startswith("'"):
-                once = re.sub(rb"%(..)", lambda m: bytes([int(m[1], 16)]), once[1:].encode())
-            elif once.startswith("$"):
-                once = written(named[once[1:]])
-            else:
-                once = bytes.fromhex(once)
-            text += once * int(times or 1)
-        return text
-
-    return [written(word) for word in named.values() if word.startswith("$header+")]
+    found = {}
+    for line, _, named in case_rows():
+        if re.match(r"let \S+ \$header\+", line):
+            _, name, word = line.split(" ", 2)
+            found[name] = written(word, named)
+    return list(found.values())
 
 
 def main(args):

@@ -167,6 +167,16 @@ def compiled(place):
     subprocess.run(["javac", "-g:none", "-nowarn", "--release", "8", "-d", place, *names], check=True, stderr=subprocess.DEVNULL)
 
 
+def written_classes(seed, classes, methods, one, other, mutants):
+    """Writes the class files of random methods into three folders: as they are, written otherwise, and with an instruction exchanged."""
+    sources(seed, classes, methods, one, other)
+    compiled(one)
+    compiled(other)
+    for number in range(classes):
+        with open(os.path.join(one, f"C{number}.class"), "rb") as file, open(os.path.join(mutants, f"C{number}.class"), "wb") as to:
+            to.write(mutated(file.read(), random.Random(f"{seed} mutant {number}")))
+
+
 def results(place, runner, classes, seed):
     """What each method gives for the lists of arguments, as far as it came within its time."""
     words = ["java", "-cp", os.pathsep.join([runner, place]), "Runner", str(classes), str(ARGUMENTS), str(seed)]
@@ -213,12 +223,7 @@ def main():
         with open(os.path.join(runner, "Runner.java"), "w", encoding="ascii") as file:
             file.write(RUNNER)
         subprocess.run(["javac", "-nowarn", "-d", runner, os.path.join(runner, "Runner.java")], check=True, stderr=subprocess.DEVNULL)
-        sources(seed, classes, methods, one, other)
-        compiled(one)
-        compiled(other)
-        for number in range(classes):
-            with open(os.path.join(one, f"C{number}.class"), "rb") as file, open(os.path.join(mutants, f"C{number}.class"), "wb") as to:
-                to.write(mutated(file.read(), random.Random(f"{seed} mutant {number}")))
+        written_classes(seed, classes, methods, one, other, mutants)
         left, right, changed = (results(it, runner, classes, seed) for it in (one, other, mutants))
         wrong = report("written otherwise", classes, one, other, left, right)
         wrong |= report("one instruction exchanged", classes, one, mutants, left, changed)

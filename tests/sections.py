@@ -1,14 +1,11 @@
 #!/usr/bin/env python3
-"""Checks changed sections of certificates, and compares the answers with a checker of its own.
+"""Checks changed sections of certificates, and compares the answers with the second checker of tests/checker.py.
 
-It takes the sections that rows `section` of crates/cases/stdin accept or reject, changes each at random (a number, a fact or a
-reason is exchanged, two words are swapped, a step is left out, doubled, moved or taken from another section of the same
-methods, with its facts and nodes numbered anew or not), and has the program of cases check it. The checker below is a second
-one, written from the definition: graphs with sorts, blocks, what is visible, what is free, settled and on a spine, and when a
-step is right. It prints each difference, and counts.
-
-It knows the axioms of the table below alone, which are not all: only numbers in it, and some that no axiom has, come into a
-section. The graphs of the methods are those of the rows' comments.
+It takes the sections that rows `section` of crates/cases/stdin accept or reject, puts random instances of random axioms into them, changes
+them at random (a number, a fact or a reason is exchanged, two words are swapped, a step is left out, doubled, moved or taken from
+another section of the same methods, with its facts and nodes numbered anew or not), and has the program of cases check them. It prints
+each difference, and counts. Before that the answers of the rows themselves, and the equations of the rows `axiom`, must be those
+of the second checker. The graphs of the methods are made by the second conversion, tests/converter.py.
 
     tests/sections.py [--seed N] [--steps] [COUNT]
 
@@ -25,406 +22,242 @@ import shlex
 import subprocess
 import sys
 import time
+from collections import Counter
 
-from certs import PROGRAM, ROWS, TOP, fits
+from cases import case_rows, plain_words, sample_class, written
+from certs import PROGRAM, ROWS, fits
+from checker import AXIOMS, EQUATIONS, FIXED, KINDS, NUMBERS, OVER_ANY, PARAMETERS, Family, Names, Section, each_step, exact_sorts, verdict
+from converter import ClassFile, least_graph
 
 BATCH = 6000
-
-# The least graphs of the methods of the rows, node by node, and the two roots.
-GRAPHS = {
-    "f,()I,0009,1,0,04AC; f,()I,0009,1,0,04AC": ("root 1 2 3 4; unit; clear; int 1; heap0", 0, 0),
-    "f,()I,0009,1,0,04AC; f,()I,0009,1,0,05AC": ("root 1 2 3 4; unit; clear; int 1; heap0; root 1 2 6 4; int 2", 0, 5),
-    "g,(II)I,0009,2,2,1A1B60AC; g,(II)I,0009,2,2,1B1A60AC": (
-        "root 1 2 3 6; unit; clear; iadd 4 5; param 0 I; param 1 I; heap0; root 1 2 8 6; iadd 5 4", 0, 7),
-    "sum,(I)I,0009,3,3,$sum-first; sum,(I)I,0009,3,3,$sum-second": (
-        "root 1 12 13 16; eval 1 2 4; theta 1 3 2; unit; pass 1 5; phi 6 8 10; ilt 7 11; theta 1 8 9; int 0; iadd 7 10; int 1; param 0 I; "
-        "clear; eval 1 14 4; theta 1 8 15; iadd 14 7; heap0; root 18 12 24 16; eval 1 2 19; pass 1 20; phi 21 8 10; ilt 22 11; "
-        "theta 1 8 23; iadd 10 22; eval 1 25 19; theta 1 8 26; iadd 25 22", 0, 17),
-    "pool=3,$callee c,()I,0009,2,0,B8000A0460AC; pool=3,$callee c,()I,0009,2,0,04B8000A60AC": (
-        "root 1 3 7 10; callend A k ()I 2; heap0; phi 4 6 5; isclear 5; callfault A k ()I 2; clear; iadd 8 9; callres A k ()I 2; int 1; "
-        "callheap A k ()I 2; root 1 3 12 10; iadd 9 8", 0, 11),
-    "z,(I)I,0009,2,2,$loop+1B0368AC; z,(I)I,0009,2,2,$loop+03AC": (
-        "root 1 12 13 15; eval 1 2 4; theta 1 3 2; unit; pass 1 5; phi 6 8 10; ilt 7 11; theta 1 8 9; int 0; iadd 7 10; int 1; param 0 I; "
-        "clear; imul 14 8; eval 1 7 4; heap0; root 1 12 8 15", 0, 16),
-}
-
-# Some of the axioms: [x] is that x is settled, {d:x} that depth d isn't free in x.
-AXIOMS = {
-    1: "iadd(x,y) = iadd(y,x)",
-    2: "iadd(iadd(x,y),z) = iadd(x,iadd(y,z))",
-    3: "iadd(x,0) = x",
-    4: "isub(x,y) = iadd(x,ineg(y))",
-    6: "iadd(x,ineg(x)) = 0 [x]",
-    8: "imul(x,y) = imul(y,x)",
-    10: "imul(x,1) = x",
-    11: "imul(x,0) = 0 [x]",
-    38: "ieq(x,x) = 1 [x]",
-    203: "phi(c,a,a) = a [c]",
-    210: "both(a,b) = both(b,a)",
-    212: "both(a,a) = a",
-    213: "both(unit,a) = a",
-    301: "eval_d(theta_d(a,b),zero) = eval_d(a,zero)",
-    302: "eval_d(a,p) = a {d:a} [p]",
-    303: "shift_d(theta_d(a,b)) = b",
-    304: "shift_d(a) = a {d:a}",
-    306: "eval_d(a,succ(p)) = eval_d(shift_d(a),p)",
-    308: "pass_d(c) = phi(eval_d(c,zero),zero,succ(pass_d(shift_d(c))))",
-}
 NO_AXIOMS = [0, 35, 99, 300, 4294967295]
 FEW = [0, 1, 2, 7, 16, 17, 4294967295]
+INTS = [0, 1, -1, 2, 3, 31, 33, 255, 2**31 - 1, -(2**31)]
 
-# The number of words of an operation's parameters; the sorts of kids and of the value where they are fixed.
-PARAMETERS = {"int": 1, "long": 1, "literal": 1, "param": 2, "theta": 1, "eval": 1, "pass": 1, "shift": 1, "load": 1, "store": 1}
-PARAMETERS.update({f"{word}{part}": 3 for word in ("get", "put") for part in ("static", "field")})
-PARAMETERS.update({f"call{part}": 3 for part in ("end", "res", "fault", "heap")})
-FIXED = {"int": " I", "long": " L", "null": " A", "literal": " A", "this": " A", "heap0": " H", "unit": " T", "never": " T", "zero": " N"}
-FIXED.update({"clear": " F", "fnull": " F", "farith": " F", "findex": " F", "succ": "N N", "thrown": "A F", "isclear": "F I", "both": "TT T"})
-FIXED.update(dict.fromkeys("iadd isub imul idiv irem ishl ishr iushr iand ior ixor ieq ilt".split(), "II I"))
-FIXED.update(dict.fromkeys("ladd lsub lmul ldiv lrem land lor lxor".split(), "LL L"))
-FIXED.update(dict.fromkeys("lshl lshr lushr".split(), "LI L"), leq="LL I", lcmp="LL I", lneg="L L", l2i="L I", aeq="AA I", length="A I", i2l="I L")
-FIXED.update(dict.fromkeys("ineg i2b i2c i2s".split(), "I I"))
-KINDS = {"Byte": "I", "Char": "I", "Short": "I", "Int": "I", "Long": "L", "Ref": "A"}
-LOOKS = ("theta", "eval", "pass", "shift")
-
-
-def field_sort(desc):
-    if re.fullmatch(r"[ZBCSI]", desc):
-        return "I"
-    return {"J": "L"}.get(desc) or ("A" if re.fullmatch(r"\[+[ZBCSIJFD]|\[*L[^;]+;", desc) else None)
-
-
-def sorts_of(op, kids):
-    """The sort of an operation over kids of these sorts, or None where it doesn't fit."""
-    word, params = op[0], op[1:]
-    if word in LOOKS and not 1 <= int(params[0]) <= 16:
-        return None
-    if word in FIXED:
-        want, gives = FIXED[word].split(" ")
-        return gives if kids == want else None
-    if word == "param":
-        return params[1] if kids == "" and params[1] in "ILA" else None
-    if word in ("phi", "theta", "eval", "pass", "shift"):
-        shape = {"phi": "Iss", "theta": "ss", "eval": "sN", "pass": "I", "shift": "s"}[word]
-        some = {kid for kid, want in zip(kids, shape) if want == "s"}
-        if len(kids) != len(shape) or len(some) > 1 or "R" in some or any(w not in ("s", k) for k, w in zip(kids, shape)):
-            return None
-        return "N" if word == "pass" else some.pop()
-    if word == "root":
-        return "R" if re.fullmatch("TF[ILAT]H", kids) else None
-    if word in ("load", "store"):
-        sort = KINDS[params[0]]
-        return (sort if kids == "HAI" else None) if word == "load" else ("H" if kids == "HAI" + sort else None)
-    return member_sort(word, re.sub("%3B", ";", params[2]), kids)
-
-
-def member_sort(word, desc, kids):
-    if word in ("getstatic", "putstatic", "getfield", "putfield"):
-        sort, front = field_sort(desc), "H" if word.endswith("static") else "HA"
-        if sort is None:
-            return None
-        return (sort if kids == front else None) if word.startswith("get") else ("H" if kids == front + sort else None)
-    parts = re.fullmatch(r"\(((?:\[*(?:[ZBCSIJFD]|L[^;]+;))*)\)(.*)", desc)
-    if not parts:
-        return None
-    args = [field_sort(arg) for arg in re.findall(r"\[*(?:[ZBCSIJFD]|L[^;]+;)", parts[1])]
-    result = "V" if parts[2] == "V" else field_sort(parts[2])
-    if None in args or result is None or kids != "H" + "".join(args) or (word == "callres" and result == "V"):
-        return None
-    return {"callend": "T", "callres": result, "callfault": "F", "callheap": "H"}[word]
-
-
-def split_node(words):
-    """An operation with its parameters, and its kids."""
-    end = 1 + PARAMETERS.get(words[0], 0)
-    return tuple(words[:end]), tuple(int(kid) for kid in words[end:])
-
-
-class Graph:
-    def __init__(self, nodes):
-        self.nodes = list(nodes)
-        self.sorts = ["?"] * len(self.nodes)
-        while "?" in self.sorts:
-            for n, (op, kids) in enumerate(self.nodes):
-                known = "".join(self.sorts[kid] for kid in kids)
-                if op[0] == "theta" and known.replace("?", ""):
-                    known = known.replace("?", "")[0] * 2
-                if "?" not in known:
-                    self.sorts[n] = sorts_of(op, known)
-                    assert self.sorts[n], (op, known)
-        self.there = set(self.nodes)
-
-    def copy(self):
-        graph = Graph([])
-        graph.nodes, graph.sorts, graph.there = list(self.nodes), list(self.sorts), set(self.there)
-        return graph
-
-    def adds(self, number, op, kids):
-        """Adds the node, if that is right."""
-        if number != len(self.nodes) or any(kid >= number for kid in kids) or (op, kids) in self.there:
-            return False
-        sort = sorts_of(op, "".join(self.sorts[kid] for kid in kids))
-        if sort is None:
-            return False
-        self.nodes.append((op, kids))
-        self.sorts.append(sort)
-        self.there.add((op, kids))
-        return True
-
-    def node(self, n):
-        return self.nodes[n] if n < len(self.nodes) else (None, ())
-
-    def reached(self, n, into):
-        """The nodes that are reached along the kids that `into` gives of each node."""
-        seen, work = {n}, [n]
-        while work:
-            for kid in into(work.pop()):
-                if kid not in seen:
-                    seen.add(kid)
-                    work.append(kid)
-        return seen
-
-    def is_free(self, depth, n):
-        own = str(depth)
-
-        def into(m):
-            op, kids = self.nodes[m]
-            return {("eval", own): kids[1:], ("pass", own): ()}.get(op, kids)
-
-        return any(self.nodes[m][0] == ("theta", own) for m in self.reached(n, into))
-
-    def is_settled(self, n, assumed):
-        found = self.reached(n, lambda m: () if m in assumed else self.nodes[m][1])
-        return all(m in assumed or self.nodes[m][0][0] not in ("pass", "callend", "never") for m in found)
-
-    def spine(self, token):
-        found, work = set(), [token]
-        while work:
-            n = work.pop()
-            if n not in found:
-                found.add(n)
-                op, kids = self.nodes[n]
-                work += kids if op[0] == "both" else ()
-        return found | {self.nodes[n][1][1] for n in found if self.nodes[n][0][0] == "eval"}
-
-
-class Pattern:
-    """A side of an axiom: a variable, a constant, or an operation over patterns."""
-
-    def __init__(self, text):
-        head, _, rest = text.partition("(")
-        parts, depth, start = [], 0, 0
-        for at, char in enumerate(rest):
-            depth += (char == "(") - (char == ")")
-            if (char == "," and depth == 0) or depth < 0:
-                parts.append(Pattern(rest[start:at]))
-                start = at + 1
-        self.head, self.parts = head, parts
-        self.is_variable = len(head) == 1 and head.isalpha()
-
-    def variables(self):
-        found = [self.head] if self.is_variable else []
-        for part in self.parts:
-            found += [name for name in part.variables() if name not in found]
-        return found
-
-    def matches(self, graph, n, given, depth):
-        """Whether node n is this pattern where the variables are these nodes; `depth` keeps d."""
-        if self.is_variable:
-            return given[self.head] == n
-        op, kids = graph.node(n)
-        if op is None:
-            return False
-        word, _, looks = self.head.partition("_")
-        if re.fullmatch(r"-?\d", word):
-            return op == ("int", word)
-        if op[0] != word or len(kids) != len(self.parts) or (looks and depth.setdefault("d", op[1]) != op[1]):
-            return False
-        return all(part.matches(graph, kid, given, depth) for part, kid in zip(self.parts, kids))
-
-
-class Axiom:
-    def __init__(self, text):
-        sides, *conditions = re.split(r" (?=[\[{])", text)
-        self.left, self.right = (Pattern(side) for side in sides.split(" = "))
-        self.conditions = [(mark[0], mark[-2]) for mark in conditions]
-        self.names = self.left.variables()
-
-    def is_instance(self, graph, a, b, nodes, assumed):
-        if len(nodes) != len(self.names):
-            return False
-        given, depth = dict(zip(self.names, nodes)), {}
-        if not (self.left.matches(graph, a, given, depth) and self.right.matches(graph, b, given, depth)):
-            return False
-        return all(
-            graph.is_settled(given[name], assumed) if mark == "[" else not graph.is_free(depth["d"], given[name]) for mark, name in self.conditions
-        )
-
-
-RULES = {number: Axiom(text) for number, text in AXIOMS.items()}
-
-
-class Section:
-    """The steps so far: what they state, and the blocks that are open, the outermost first."""
-
-    def __init__(self, graph):
-        self.graph, self.stated, self.open = graph, [], []
-
-    def equality(self, fact):
-        """The blocks around a fact, and what it states."""
-        step, place = (int(n) for n in fact.split("."))
-        if not 1 <= step <= len(self.stated):
-            return None
-        around, pairs = self.stated[step - 1]
-        return (around, pairs[place - 1]) if 1 <= place <= len(pairs) else None
-
-    def shown(self, fact, blocks):
-        """What a fact states where it is visible in these open blocks."""
-        found = self.equality(fact)
-        return found[1] if found and list(found[0]) == blocks[: len(found[0])] else None
-
-    def gives(self, reason, blocks, pairs, a, b):
-        if reason == "=":
-            return a == b
-        if reason[0] == "s":
-            place = int(reason[1:])
-            return 1 <= place <= len(pairs) and pairs[place - 1] == (a, b)
-        return self.shown(reason, blocks) == (a, b)
-
-    def is_outside(self, reason, depth):
-        found = self.equality(reason) if "." in reason else None
-        return found is None or all(block[1] != "open" or block[2] != depth for block in found[0])
-
-    def is_right_set(self, parts):
-        pairs = [(p, q) for p, q, _ in parts]
-        for p, q, reasons in parts:
-            (op, lefts), (other, rights) = self.graph.node(p), self.graph.node(q)
-            if op is None or op != other or not len(reasons) == len(lefts) == len(rights):
-                return False
-            if not all(self.gives(r, self.open, pairs, a, b) for r, a, b in zip(reasons, lefts, rights)):
-                return False
-            if op[0] in LOOKS and not all(self.is_outside(r, int(op[1])) for _, _, rs in parts for r in rs):
-                return False
-        return True
-
-    def is_right_open(self, depth, pairs):
-        sorts, size = self.graph.sorts, len(self.graph.nodes)
-        if not 1 <= depth <= 16 or any(block[1] == "open" and block[2] == depth for block in self.open):
-            return False
-        return all(x < size and y < size and sorts[x] == sorts[y] for x, y in pairs)
-
-    def is_right_close(self, depth, facts):
-        if not self.open or self.open[-1][1:3] != ("open", depth) or len(self.open[-1][3]) != len(facts):
-            return False
-        return all(self.closes(str(depth), pair, *both) for pair, both in zip(self.open[-1][3], facts))
-
-    def closes(self, depth, pair, first, later):
-        start, after = self.shown(first, self.open[:-1]), self.shown(later, self.open)
-        if start is None or after is None:
-            return False
-        for n, m, x in zip(start, after, pair):
-            op, kids = self.graph.node(n)
-            if op != ("eval", depth) or kids[0] != x or self.graph.node(kids[1]) != (("zero",), ()):
-                return False
-            if self.graph.node(m) != (("shift", depth), (x,)):
-                return False
-        return True
-
-    def is_right_assume(self, p, nodes):
-        op, kids = self.graph.node(p)
-        if self.open or op != ("root",):
-            return False
-        spine = self.graph.spine(kids[0])
-        return all(
-            n in spine and self.graph.node(n)[0][0] in ("pass", "callend") and not any(self.graph.is_free(d, n) for d in range(1, 17)) for n in nodes
-        )
-
-    def is_right_finish(self, p, q, reasons):
-        (one, lefts), (two, rights) = self.graph.node(p), self.graph.node(q)
-        if not self.open or self.open[-1][1:3] != ("assume", p) or one != ("root",) or two != ("root",):
-            return False
-        places = [self.open[:-1]] + [self.open] * 3
-        return all(self.gives(r, blocks, [], a, b) for r, blocks, a, b in zip(reasons, places, lefts, rights))
-
-    def takes(self, line):
-        """Takes a step, if it is right."""
-        words, number = line.split(" "), len(self.stated) + 1
-        row, rest = words[0], words[1:]
-        around, pairs = list(self.open), []
-        if row == "node":
-            right = self.graph.adds(int(rest[0]), *split_node(rest[1:]))
-        elif row == "set":
-            parts = [part.split(" ") for part in line[4:].split(" ; ")]
-            parts = [(int(p), int(q), reasons) for p, q, *reasons in parts]
-            right, pairs = self.is_right_set(parts), [(p, q) for p, q, _ in parts]
-        elif row == "close":
-            right = self.is_right_close(int(rest[0]), list(zip(rest[1::2], rest[2::2])))
-            around, pairs = around[:-1], self.open[-1][3] if self.open and self.open[-1][1] == "open" else []
-        elif row == "finish":
-            right = self.is_right_finish(int(rest[0]), int(rest[1]), rest[2:])
-            around, pairs = around[:-1], [(int(rest[0]), int(rest[1]))]
-        elif row == "open":
-            depth, nodes = int(rest[0]), [int(n) for n in rest[1:]]
-            pairs = list(zip(nodes[::2], nodes[1::2]))
-            right = self.is_right_open(depth, pairs)
-            around.append((number, "open", depth, pairs))
-        elif row == "assume":
-            p, *nodes = (int(n) for n in rest)
-            right = self.is_right_assume(p, nodes)
-            around.append((number, "assume", p, nodes))
-        else:
-            a, b = (int(n) for n in (rest[1:3] if row == "axiom" else rest[:2]))
-            right, pairs = self.is_right_equality(row, rest, a, b), [(a, b)]
-        self.stated.append((tuple(around), pairs))
-        self.open = around
-        return right
-
-    def is_right_equality(self, row, rest, a, b):
-        if row == "flip":
-            return self.shown(rest[2], self.open) == (b, a)
-        if row == "chain":
-            first, second = (self.shown(fact, self.open) for fact in rest[2:])
-            return first is not None and second is not None and first[0] == a and second == (first[1], b)
-        assumed = next((block[3] for block in reversed(self.open) if block[1] == "assume"), [])
-        rule = RULES.get(int(rest[0]))
-        return rule is not None and rule.is_instance(self.graph, a, b, [int(n) for n in rest[3:]], assumed)
+# ---- the rows, and the graphs of their methods
 
 
 @functools.cache
 def least(methods):
-    """The least graph of two methods, and its roots."""
-    nodes, one, two = GRAPHS[methods]
-    return Graph(split_node(node.split(" ")) for node in nodes.split("; ")), one, two
+    """The least graph of two methods, as rows write them with plain bytes, and its roots."""
+    return least_graph(*(ClassFile(sample_class(side.split(" "), {})).methods[0] for side in methods.split("; ")))
 
 
 def check(methods, steps):
     """What is to be answered."""
-    graph, one, two = least(methods)
-    section = Section(graph.copy())
-    for number, line in enumerate(steps, 1):
-        if not section.takes(line):
-            return f"Rejected({number})"
-    last = section.stated[-1][1] if steps else []
-    if not section.open and (one == two or (one, two) in last):
-        return "Accepted"
-    return f"Rejected({len(steps) + 1})"
+    wrong = verdict(least(methods), steps)
+    return "Accepted" if wrong is None else f"Rejected({wrong})"
 
 
-def each_step(methods, steps):
-    """What is to be answered of each step: after a node step that isn't right there is no graph, and no step is right."""
-    section, has_graph, said = Section(least(methods)[0].copy()), True, []
-    for line in steps:
-        right = section.takes(line) and has_graph
-        has_graph = has_graph and (right or not line.startswith("node "))
-        said.append("right" if right else "wrong")
-    return said
+def rows():
+    """The methods, the steps and the answer of each row that accepts or rejects one section."""
+    for line, answer, named in case_rows():
+        if line.startswith("section ") and re.fullmatch(r"Accepted|Rejected\(\d+\)", answer):
+            word, *sides = line[8:].split("; ")
+            methods = "; ".join(" ".join(plain_words(side.split(" "), named)) for side in sides)
+            yield methods, written(word, named).decode().splitlines()[4:-1], answer
+
+
+def as_cases_write(number):
+    """The equation of an axiom as the cases write it, with variables by the order of their first places."""
+    axiom = AXIOMS[number]
+    if isinstance(axiom, Family):
+        left = f"{axiom.look}_d(%s)" if axiom.look == "shift" else "eval_d(%s,x0)"
+        return f"{left % f'operation {axiom.number} of kids'} = operation {axiom.number} of {left % 'kids'}"
+    text = EQUATIONS[number]
+    order = {name: f"{'k' if name in 'km' else 'x'}{place}" for place, name in enumerate(axiom.names)}
+    order |= {"d": "d", "s": "s0", "t": "s1", "u": "s1", "K": "K0", "M": "K1"}
+    text = re.sub(r"(?<![A-Za-z0-9])(-?\d+)([il])\b", lambda found: found[1] + found[2].replace("i", "").upper(), text)
+    return re.sub(r"(?<![A-Za-z0-9])[A-Za-z](?![A-Za-z0-9_])", lambda name: order[name[0]], text)
+
+
+def table_faults():
+    """What differs between the axioms of the rows `axioms` and `axiom` and those of the second checker."""
+    for line, answer, _ in case_rows():
+        word, _, number = line.partition(" ")
+        if line == "axioms" and answer.replace(";", "").split() != [str(it) for it in sorted(AXIOMS, key=in_tables)]:
+            yield f"{answer}: other numbers"
+        if word == "axiom" and (as_cases_write(int(number)) if int(number) in AXIOMS else "?") != answer:
+            yield f"axiom {number}: {answer} and not {as_cases_write(int(number))}"
+
+
+def in_tables(number):
+    """The table in which an axiom stands, and its number."""
+    return (2 if 501 <= number <= 515 else 0 if number < 300 else 1), number
+
+
+# ---- sections that grow
+
+
+class Growing:
+    """A section that grows by right steps."""
+
+    def __init__(self, graph, rand):
+        self.section, self.rand, self.lines = Section(graph.copy()), rand, []
+
+    def put(self, line):
+        """Puts a step, if it is right."""
+        before = list(self.section.open)
+        if self.section.takes(line):
+            self.lines.append(line)
+            return True
+        self.section.stated.pop()
+        self.section.open = before
+        return False
+
+    def there(self, op, kids=()):
+        """The number of a node, which is put where it isn't there; None where it can't be."""
+        graph = self.section.graph
+        found = graph.there.get((op, tuple(kids)))
+        if found is not None:
+            return found
+        n = len(graph.nodes)
+        return n if None not in kids and self.put(" ".join(["node", str(n), *op, *map(str, kids)])) else None
+
+
+SYMBOLS = [("C", "f", desc) for desc in ("I", "B", "C", "S", "Z", "J")] + [("D", "f", "I"), ("C", "g", "I"), ("C", "g", "[J")]
+CALLEES = [("P", "k", "(I)I"), ("P", "m", "(JI)J"), ("P", "v", "()V"), ("P", "a", "(LC;)LC;")]
+SOME = {"int": ("1",), "long": ("2",), "literal": ("hi",), "param": ("3", "I"), "theta": ("1",), "eval": ("1",), "pass": ("1",), "shift": ("1",)}
+SOME |= {"load": ("Int",), "store": ("Byte",), "getfield": SYMBOLS[0], "putstatic": SYMBOLS[1], "callres": CALLEES[0], "callend": CALLEES[2]}
+
+
+class Instances(Growing):
+    """A section that grows by instances of axioms."""
+
+    def some_symbol(self):
+        return self.rand.choice(SYMBOLS)
+
+    def some_kind(self):
+        return (self.rand.choice(list(KINDS)),)
+
+    def some_depth(self):
+        return (self.rand.choice(["1", "1", "1", "2", "16"]),)
+
+    def constant(self, sort):
+        return self.there(("int" if sort == "I" else "long", str(self.rand.choice(INTS))))
+
+    def some(self, sort, size=2):
+        """A random node of a sort."""
+        there = [n for n, other in enumerate(self.section.graph.sorts) if other == sort]
+        if there and (size == 0 or self.rand.random() < 0.6):
+            return self.rand.choice(there)
+        op, kids = self.operation(sort)
+        if size == 0 and kids:
+            return None
+        return self.there(op, [self.some(kid, size - 1) for kid in kids])
+
+    def operation(self, sort):
+        """A random operation that gives a sort, and the sorts of its kids."""
+        rand, symbol, callee = self.rand, self.some_symbol(), self.rand.choice(CALLEES)
+        word = rand.choice(["phi", "theta", "eval", "shift", "pass"])
+        if rand.random() < 0.3 and (word != "pass" or sort == "N"):
+            op = (word,) if word == "phi" else (word, *self.some_depth())
+            return op, OVER_ANY[word][0].replace("s", sort)
+        if sort in "IL" and rand.random() < 0.2:
+            return ("int" if sort == "I" else "long", str(rand.choice(INTS))), ""
+        found = [((word,), kids) for word, (kids, gives) in FIXED.items() if gives == sort and word not in PARAMETERS]
+        others = [(word, *symbol) for word in ("getstatic", "putstatic", "getfield", "putfield")]
+        others += [(word, *callee) for word in ("callend", "callres", "callfault", "callheap")]
+        others += [("load", *self.some_kind()), ("store", *self.some_kind()), ("param", str(rand.randrange(3)), sort), ("literal", "hi")]
+        for op in others:
+            exact = exact_sorts(op)
+            if exact and exact[1] == sort:
+                found.append((op, exact[0]))
+        return rand.choice(found)
+
+    def instance(self, number):
+        """Puts nodes for an instance of an axiom, and gives the step for it, right or not; None where the nodes can't be."""
+        axiom = AXIOMS[number]
+        try:
+            a, b, nodes = self.of_family(axiom) if isinstance(axiom, Family) else self.of_equation(axiom)
+        except LookupError:
+            return None
+        return " ".join(["axiom", *map(str, (number, a, b, *nodes))]) if None not in (a, b, *nodes) else None
+
+    def of_family(self, family):
+        rand = self.rand
+        word = next(word for word, number in NUMBERS.items() if number == family.number)
+        op = (word,)
+        if word in PARAMETERS:
+            op += self.some_kind() if word in ("load", "store") else rand.choice(CALLEES) if word.startswith("call") else self.some_symbol()
+        exact = (OVER_ANY[word][0].replace("s", rand.choice("ILANFTH")),) if word in OVER_ANY else exact_sorts(op)
+        kids = [self.some(sort) for sort in exact[0]] if exact else [None]
+        look, count = (family.look, *self.some_depth()), [self.some("N")] if family.look == "eval" else []
+        left = self.there(look, [self.there(op, kids), *count])
+        return left, self.there(op, [self.there(look, [kid, *count]) for kid in kids]), kids + count
+
+    def of_equation(self, axiom):
+        names, sorts = Names(self.section.graph, {}), {}
+        names.found = {"d": self.some_depth(), "K": self.some_kind(), "M": self.some_kind()} | {name: self.some_symbol() for name in "stu"}
+        self.want(axiom.left, self.rand.choice("ILANFTH"), names, sorts)
+        for name in axiom.names:
+            names.variables[name] = self.constant(sorts[name]) if name in "km" else self.some(sorts[name])
+        a, b = (self.build(side, names) for side in (axiom.left, axiom.right))
+        return a, b, [names.variables[name] for name in axiom.names]
+
+    def want(self, pattern, sort, names, sorts):
+        """Finds the sorts of a pattern's variables, where it has this sort."""
+        if pattern.is_variable:
+            sorts.setdefault(pattern.word, sort)
+        if not pattern.parts:
+            return
+        if pattern.word in OVER_ANY:
+            takes = OVER_ANY[pattern.word][0].replace("s", sort)
+        else:
+            takes, _ = exact_sorts((pattern.word, *names.found.get(pattern.name, ())))
+        for part, take in zip(pattern.parts, takes):
+            self.want(part, take, names, sorts)
+
+    def build(self, pattern, names):
+        """The node at which a pattern stands."""
+        if pattern.is_variable:
+            return names.variables[pattern.word]
+        if pattern.number:
+            return self.there(pattern.number)
+        if pattern.word == "fold":
+            return self.there(pattern.parts[0].fold(names) or ())
+        parts = [self.build(part, names) for part in pattern.parts]
+        if pattern.word != "nar":
+            return self.there((pattern.word, *names.found.get(pattern.name, ())), parts)
+        type_ = names.found[pattern.name][-1]
+        if type_ == "Z":
+            return self.there(("iand",), [*parts, self.there(("int", "1"))])
+        word = {"B": "i2b", "C": "i2c", "S": "i2s", "Char": "i2c", "Short": "i2s"}.get(type_)
+        return self.there((word,), parts) if word else parts[0]
+
+
+def with_instances(methods, steps, rand):
+    """The steps with instances of random axioms before the last of them."""
+    growing = Instances(least(methods)[0], rand)
+    for line in steps[:-1]:
+        growing.section.takes(line)
+    growing.lines = list(steps[:-1])
+    for _ in range(rand.choice([1, 1, 2])):
+        line = growing.instance(rand.choice(list(AXIOMS)))
+        if line and not growing.put(line) and rand.random() < 0.2:
+            growing.section.takes(line)
+            growing.lines.append(line)
+    return growing.lines + steps[-1:]
 
 
 # ---- changes
 
+# What the words after the first are, by rows: n a node, f a fact, r a reason, a blank something else; the last goes for all others.
+WORDS = {"axiom": " nn", "flip": "nnf", "chain": "nnf", "open": " n", "close": " f", "assume": "n", "finish": "nnr"}
 
-def fact_words(line):
-    """The places of facts among the words of a step."""
-    return [place for place, word in enumerate(line.split(" ")) if re.fullmatch(r"\d+\.\d+", word)]
+
+def kinds(words):
+    """What each word of a step is."""
+    row, rest = words[0], len(words) - 1
+    if row == "node":
+        return " n" + " " * (1 + PARAMETERS.get(words[2], 0)) + "n" * rest
+    if row == "set":
+        found, place = " ", 0
+        for word in words[1:]:
+            place = 0 if word == ";" else place + 1
+            found += " nnr"[min(place, 3)]
+        return found
+    return " " + WORDS[row] + WORDS[row][-1] * rest
 
 
 def renumbered(steps, places):
@@ -451,16 +284,27 @@ def moved(steps, others, rand):
     return renumbered(steps, places) if rand.random() < 0.7 else steps
 
 
-def some_number(word, row, place, rand):
-    if row == "axiom" and place == 1:
-        return str(rand.choice(list(AXIOMS) * 4 + NO_AXIOMS))
+def some_axiom(number, rand):
+    """The number of another axiom, of a twin, or of none."""
+    near = number + rand.choice([-1, 1, 100, -100, 1000, -1000])
+    return near if near in AXIOMS and rand.random() < 0.5 else rand.choice(list(AXIOMS) * 4 + NO_AXIOMS)
+
+
+def some_number(word, size, rand):
     near = int(word) + rand.choice([-2, -1, 1, 2])
-    return str(max(0, near) if rand.random() < 0.5 else rand.choice([rand.randrange(40), rand.choice(FEW)]))
+    return str(max(0, near) if rand.random() < 0.5 else rand.choice([rand.randrange(size), rand.choice(FEW)]))
 
 
-def word_changed(line, rand):
-    """A step with a word that is changed, swapped, put in or taken out."""
-    words = line.split(" ")
+def sizes(steps):
+    """How many nodes and steps there are about, as the steps name them."""
+    rows_ = [step.split(" ") for step in steps]
+    nodes = [int(word) for words in rows_ for kind, word in zip(kinds(words), words) if kind == "n" and word.isdigit()]
+    return max(nodes, default=0) + 3, len(steps) + 3
+
+
+def word_changed(line, size, rand):
+    """A step with a word that is changed, swapped, put in or taken out, in a section of so many nodes and steps."""
+    words, (nodes, steps) = line.split(" "), size
     row, place = words[0], rand.randrange(1, len(words))
     word, what = words[place], rand.random()
     if what < 0.15:
@@ -472,20 +316,25 @@ def word_changed(line, rand):
         words.insert(place, rand.choice(["=", "s1", word]))
     elif re.fullmatch(r"\d+\.\d+", word) and rand.random() < 0.8:
         step, fact = word.split(".")
-        words[place] = rand.choice(["=", "s1", f"{some_number(step, row, 0, rand)}.{fact}", f"{step}.{some_number(fact, row, 0, rand)}"])
+        words[place] = rand.choice(["=", "s1", f"{some_number(step, steps, rand)}.{fact}", f"{step}.{some_number(fact, 3, rand)}"])
     elif word == "=" or re.fullmatch(r"s\d+", word):
-        words[place] = rand.choice(["=", f"s{rand.randrange(1, 6)}", f"{rand.randrange(1, 38)}.{rand.randrange(1, 3)}"])
+        words[place] = rand.choice(["=", f"s{rand.randrange(1, 6)}", f"{rand.randrange(1, steps)}.{rand.randrange(1, 3)}"])
+    elif row == "axiom" and place == 1:
+        words[place] = str(some_axiom(int(word), rand))
     elif word.isdigit():
-        words[place] = some_number(word, row, place, rand)
+        words[place] = some_number(word, nodes, rand)
+    elif word in KINDS:
+        words[place] = rand.choice(list(KINDS))
     else:
-        words[place] = rand.choice(["iadd", "isub", "imul", "theta 1", "shift 1", "eval 1", "pass 1", "both", "unit", "zero", "phi"])
+        other = rand.choice([*FIXED, *OVER_ANY, "root", *SOME])
+        words[place] = " ".join([other, *SOME.get(other, ())])
     return " ".join(words)
 
 
 def facts_exchanged(steps, rand):
     """Two facts of the section, one in place of the other."""
     steps = list(steps)
-    spots = [(n, place) for n, step in enumerate(steps) for place in fact_words(step)]
+    spots = [(n, place) for n, step in enumerate(steps) for place, word in enumerate(step.split(" ")) if re.fullmatch(r"\d+\.\d+", word)]
     if len(spots) > 1:
         (n, place), (m, other) = rand.sample(spots, 2)
         words, others = steps[n].split(" "), steps[m].split(" ")
@@ -495,7 +344,7 @@ def facts_exchanged(steps, rand):
 
 
 def changed(steps, others, rand):
-    """The steps with one to three changes; the numbers of axioms stay in the table."""
+    """The steps with one to three changes, each of which can be spelled."""
     for _ in range(rand.choice([1, 1, 1, 2, 3])):
         what = rand.random()
         if not steps:
@@ -506,9 +355,8 @@ def changed(steps, others, rand):
             steps = facts_exchanged(steps, rand)
         else:
             steps, at = list(steps), rand.randrange(len(steps))
-            new = word_changed(steps[at], rand)
-            axiom = re.match(r"axiom (\d+) ", new)
-            if fits(ROWS, new.encode()) and not (axiom and int(axiom[1]) not in RULES and int(axiom[1]) not in NO_AXIOMS):
+            new = word_changed(steps[at], sizes(steps), rand)
+            if fits(ROWS, new.encode()):
                 steps[at] = new
     return steps
 
@@ -516,52 +364,26 @@ def changed(steps, others, rand):
 # ---- the program
 
 
-def rows():
-    """The lines that name bytes, and for the methods of each row its sections."""
-    with open(os.path.join(TOP, "crates", "cases", "stdin"), encoding="utf-8") as file:
-        lines = file.read().splitlines()
-    named = dict(line.split(" ", 2)[1:] for line in lines if line.startswith("let "))
-
-    def written(word):
-        text = b""
-        for part in word.split("+"):
-            once, _, times = part.partition("*")
-            cut = re.fullmatch(r"\$([^\[]+)\[(\d*)\.\.(\d*)\]", once)
-            if once.startswith("'"):
-                once = re.sub(rb"%(..)", lambda m: bytes([int(m[1], 16)]), once[1:].encode())
-            elif cut:
-                once = written(named[cut[1]])[int(cut[2] or 0) : int(cut[3]) if cut[3] else None]
-            else:
-                once = written(named[once[1:]]) if once.startswith("$") else bytes.fromhex(once)
-            text += once * int(times or 1)
-        return text
-
-    sections = {}
-    for line in lines:
-        if line.startswith("section "):
-            word, methods = line[8:].split("; ", 1)
-            if methods in GRAPHS and "=" not in word.split("+")[0]:
-                text = written(word).decode().splitlines()
-                if text[-1] == "end" and all(fits(ROWS, step.encode()) for step in text[4:-1]):
-                    sections.setdefault(methods, []).append(text[4:-1])
-    words = {word for methods in sections for word in re.findall(r"\$([a-z-]+)", methods)}
-    return [line for line in lines if line.startswith("let ") and line.split(" ")[1] in words], sections
-
-
-def answers(word, sizes, named, batch):
-    """What the program says of sections, each with its methods; `sizes` gives how many answers there are to a section."""
-    given = {methods: [steps for of, steps in batch if of == methods] for methods in GRAPHS}
+def answers(word, counts, batch):
+    """What the program says of sections, each with its methods; `counts` gives how many answers there are to a section."""
+    given = {}
+    for methods, steps in batch:
+        given.setdefault(methods, []).append(steps)
     head = "peggy-cert 1\nfirst " + "0" * 64 + "\nsecond " + "0" * 64 + "\n"
-    lines = list(named)
+    lines = []
     for methods, sections in given.items():
         text = head + "".join("method a ()V\n" + "".join(step + "\n" for step in steps) + "end\n" for steps in sections)
         lines.append(f"{word} {text.encode().hex().upper()}; {methods}")
     program = shlex.split(os.environ.get("CASES", PROGRAM))
     ran = subprocess.run(program, input="\n".join(lines) + "\n", capture_output=True, text=True, timeout=1200)
-    said = ran.stdout.splitlines()[len(named) :]
+    said = ran.stdout.splitlines()
     if ran.returncode != 0 or len(said) != len(given):
         sys.exit(f"the program ended with {ran.returncode} after {len(said)} of {len(given)} lines")
-    return [(methods, steps, answer) for (methods, of), line in zip(given.items(), said) for steps, answer in zip(of, split(line, [sizes(steps) for steps in of]))]
+    return [
+        (methods, steps, answer)
+        for (methods, of), line in zip(given.items(), said)
+        for steps, answer in zip(of, split(line, [counts(steps) for steps in of]))
+    ]
 
 
 def split(line, counts):
@@ -576,41 +398,56 @@ def split(line, counts):
     return found
 
 
+def axioms_of(steps, right):
+    """The axioms of the right steps."""
+    return {int(step.split(" ")[1]) for step, is_right in zip(steps, right) if is_right and step.startswith("axiom ")}
+
+
+def compared(by_step, batch):
+    """For each section what it is to be counted as, the axioms that are used in it, and what differs, if it does."""
+    if by_step:
+        for methods, steps, said in answers("steps", len, batch):
+            right = each_step(least(methods), steps)
+            want = ["right" if it else "wrong" for it in right]
+            yield want, axioms_of(steps, right), None if said == want else f"{want} wanted, {said}: {methods}: {steps}"
+        return
+    for methods, steps, (said,) in answers("section", lambda steps: 1, batch):
+        want = check(methods, steps)
+        end = len(steps) if want == "Accepted" else int(want[9:-1]) - 1
+        row = "accepted" if want == "Accepted" else "rejected at " + (steps[end].split(" ")[0] if end < len(steps) else "end")
+        yield [row], axioms_of(steps, [True] * end), None if said == want else f"{want} wanted, {said}: {methods}: {steps}"
+
+
 def main(args):
     seed = int(args.pop(args.index("--seed") + 1)) if "--seed" in args else 1
     by_step = "--steps" in args
     count = int(next((arg for arg in args if arg.isdigit()), 1000000))
-    rand, began, wrong, counts = random.Random(seed), time.time(), 0, {}
-    named, sections = rows()
-    pool = [(methods, steps) for methods, all_ in sections.items() for steps in all_]
-    pool += [entry for entry in pool if check(*entry) == "Accepted"] * 3
+    rand, began, wrong, counts, used = random.Random(seed), time.time(), 0, Counter(), set()
+    for fault in table_faults():
+        wrong += 1
+        print(fault)
+    sections, pool = {}, []
+    for methods, steps, answer in rows():
+        sections.setdefault(methods, []).append(steps)
+        pool += [(methods, steps)] * (4 if answer == "Accepted" else 1)
+        if check(methods, steps) != answer:
+            wrong += 1
+            print(f"{check(methods, steps)} by the second checker, {answer} in stdout: {methods}: {steps}")
     for first in range(0, count, BATCH):
-        chosen = [rand.choice(pool) for _ in range(min(BATCH, count - first))]
-        batch = [(methods, changed(steps, sections[methods], rand)) for methods, steps in chosen]
-        if by_step:
-            for methods, steps, said in answers("steps", len, named, batch):
-                want = each_step(methods, steps)
-                for one in want:
-                    counts[one] = counts.get(one, 0) + 1
-                if said != want:
-                    wrong += 1
-                    print(f"{want} wanted, {said}: {methods}: {steps}")
-            continue
-        for methods, steps, (said,) in answers("section", lambda steps: 1, named, batch):
-            want = check(methods, steps)
-            row = steps[int(want[9:-1]) - 1].split(" ")[0] if want != "Accepted" and int(want[9:-1]) <= len(steps) else "end"
-            kind = want if want == "Accepted" else f"rejected at {row}"
-            counts[kind] = counts.get(kind, 0) + 1
-            if said != want:
+        batch = []
+        for _ in range(min(BATCH, count - first)):
+            methods, steps = rand.choice(pool)
+            if rand.random() < 0.5:
+                steps = with_instances(methods, steps, rand)
+            batch.append((methods, changed(steps, sections[methods], rand) if rand.random() < 0.8 else steps))
+        for kinds_, axioms, fault in compared(by_step, batch):
+            counts.update(kinds_)
+            used |= axioms
+            if fault:
                 wrong += 1
-                print(f"{want} wanted, {said}: {methods}: {steps}")
-    if by_step:
-        print(f"{count} sections in {time.time() - began:.0f} s, {wrong} differ; {counts.get('right', 0)} steps right, {counts.get('wrong', 0)} wrong")
-        sys.exit(wrong > 0)
-    accepted = counts.pop("Accepted", 0)
-    rejected = sum(counts.values())
-    print(f"{count} sections in {time.time() - began:.0f} s, {wrong} differ; {accepted} accepted, {rejected} rejected:", end=" ")
-    print(", ".join(f"{counts[kind]} {kind[9:]}" for kind in sorted(counts)))
+                print(fault)
+    print(f"{count} sections in {time.time() - began:.0f} s, {wrong} differ;", ", ".join(f"{counts[kind]} {kind}" for kind in sorted(counts)), end="; ")
+    print(f"right steps have {len(used)} of the {len(AXIOMS)} axioms")
     sys.exit(wrong > 0)
 
 

@@ -5,7 +5,7 @@ It takes the accepted sections of the rows `section` of crates/cases/stdin, some
 between their steps: facts the other way round, chains, sets, axioms once more, nodes, inductions and ending blocks, in whose
 blocks also nodes stand that are needed later. The program of cases trims each (`trim BYTES`). The trimmer below goes from the
 last step back and keeps what a kept step cites. What the program prints must be what it gives, and the checker of
-tests/sections.py must accept it. It prints each difference, and counts.
+tests/checker.py must accept it. It prints each difference, and counts.
 
     tests/trims.py [--seed N] [COUNT]
 
@@ -20,27 +20,9 @@ import sys
 import time
 
 from certs import PROGRAM
-from sections import GRAPHS, PARAMETERS, Section, changed, check, least, rows
+from sections import Growing, changed, check, kinds, least, rows
 
 BATCH = 2000
-
-
-# What the words after the first are, by rows: n a node, f a fact, r a reason, a blank something else; the last goes for all others.
-ROWS = {"axiom": " nn", "flip": "nnf", "chain": "nnf", "open": " n", "close": " f", "assume": "n", "finish": "nnr"}
-
-
-def kinds(words):
-    """What each word of a step is."""
-    row, rest = words[0], len(words) - 1
-    if row == "node":
-        return " n" + " " * (1 + PARAMETERS.get(words[2], 0)) + "n" * rest
-    if row == "set":
-        found, place = " ", 0
-        for word in words[1:]:
-            place = 0 if word == ";" else place + 1
-            found += " nnr"[min(place, 3)]
-        return found
-    return " " + ROWS[row] + ROWS[row][-1] * rest
 
 
 def under(line, nodes, steps):
@@ -89,22 +71,12 @@ def trimmed(methods, steps):
     return [under(steps[k - 1], nodes, numbers) for k in order]
 
 
-class Padding:
+class Padding(Growing):
     """A section that grows: the steps of another one in their order, and right steps between them."""
 
     def __init__(self, methods, steps, rand):
-        self.section, self.rand, self.old = Section(least(methods)[0].copy()), rand, list(steps)
-        self.lines, self.at, self.nodes, self.steps = [], 0, {}, {}
-
-    def put(self, line):
-        """Puts a step, if it is right."""
-        before = list(self.section.open)
-        if self.section.takes(line):
-            self.lines.append(line)
-            return True
-        self.section.stated.pop()
-        self.section.open = before
-        return False
+        super().__init__(least(methods)[0], rand)
+        self.old, self.at, self.nodes, self.steps = list(steps), 0, {}, {}
 
     def next_old(self):
         """Puts the next step of the other section."""
@@ -149,14 +121,6 @@ class Padding:
         if lines:
             self.put(self.rand.choice(lines))
 
-    def there(self, op, *kids):
-        """The number of a node, which is put where it isn't there."""
-        found = (tuple(op.split(" ")), tuple(kids))
-        if found in self.section.graph.there:
-            return self.section.graph.nodes.index(found)
-        n = len(self.section.graph.nodes)
-        return n if self.put(" ".join([f"node {n} {op}"] + [str(kid) for kid in kids])) else None
-
     def old_nodes(self):
         """Puts some of the next steps of the other section, as long as they make nodes."""
         while self.at < len(self.old) - 1 and self.old[self.at].startswith("node ") and self.rand.random() < 0.6:
@@ -166,8 +130,8 @@ class Padding:
     def induction(self):
         depths = [d for d in range(1, 17) if all(block[1:3] != ("open", d) for block in self.section.open)]
         d, x = self.rand.choice(depths), self.rand.randrange(len(self.section.graph.nodes))
-        zero = self.there("zero")
-        first, later = self.there(f"eval {d}", x, zero), self.there(f"shift {d}", x)
+        zero = self.there(("zero",))
+        first, later = self.there(("eval", str(d)), (x, zero)), self.there(("shift", str(d)), (x,))
         if first is None or later is None or not self.same(first):
             return
         start = len(self.lines)
@@ -202,15 +166,15 @@ def padded(methods, steps, rand):
     return padding.lines
 
 
-def asked(named, batch):
+def asked(batch):
     """What the program leaves of sections, each with its methods."""
-    head, lines = "peggy-cert 1\nfirst " + "0" * 64 + "\nsecond " + "0" * 64 + "\n", list(named)
+    head, lines = "peggy-cert 1\nfirst " + "0" * 64 + "\nsecond " + "0" * 64 + "\n", []
     for methods, steps in batch:
         text = head + "method a ()V\n" + "".join(step + "\n" for step in steps) + "end\n"
         lines.append(f"trim {text.encode().hex().upper()}; {methods}")
     program = shlex.split(os.environ.get("CASES", PROGRAM))
     ran = subprocess.run(program, input="\n".join(lines) + "\n", capture_output=True, text=True, timeout=3000)
-    said = ran.stdout.splitlines()[len(named) :]
+    said = ran.stdout.splitlines()
     if ran.returncode != 0 or len(said) != len(batch):
         sys.exit(f"the program ended with {ran.returncode} after {len(said)} of {len(batch)} lines")
     return said
@@ -220,8 +184,10 @@ def main(args):
     seed = int(args.pop(args.index("--seed") + 1)) if "--seed" in args else 1
     count = int(next((arg for arg in args if arg.isdigit()), 10000))
     rand, began, wrong, before, after, done = random.Random(seed), time.time(), 0, 0, 0, 0
-    named, sections = rows()
-    pool = [(methods, steps) for methods, all_ in sections.items() for steps in all_ if check(methods, steps) == "Accepted"]
+    pool, sections = [], {}
+    for methods, steps, answer in rows():
+        sections.setdefault(methods, []).append(steps)
+        pool += [(methods, steps)] if answer == "Accepted" else []
     while done < count:
         batch = []
         while len(batch) < min(BATCH, count - done):
@@ -231,7 +197,7 @@ def main(args):
             steps = padded(methods, steps, rand) if check(methods, steps) == "Accepted" else None
             if steps is not None and check(methods, steps) == "Accepted":
                 batch.append((methods, steps))
-        for (methods, steps), said in zip(batch, asked(named, batch)):
+        for (methods, steps), said in zip(batch, asked(batch)):
             left = trimmed(methods, steps)
             want = "; ".join(["Accepted", "method a ()V", *left, "end", "Accepted"])
             before, after = before + len(steps), after + len(left)

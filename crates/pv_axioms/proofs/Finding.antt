@@ -14,7 +14,8 @@ use Rattle.pv_pattern.specs.Seen.{axiom_seen}
 use Rattle.pv_scalar.specs.Table.{scalar_axioms}
 use Rattle.pv_loopax.specs.Table.{loop_axioms}
 use Rattle.pv_heapax.specs.Table.{heap_axioms}
-use Rattle.pv_axioms.specs.Entries.{axioms, IsEntry, HasNone, Instance}
+use Rattle.pv_choiceax.specs.Table.{choice_axioms}
+use Rattle.pv_axioms.specs.Entries.{core_axioms, axioms, IsEntry, HasNone, Instance}
 use Rattle.pv_axioms.specs.Tables.{AreTables}
 use Rattle.pv_axioms.proofs.Numbers.{one_entry}
 
@@ -71,15 +72,20 @@ copied_or : (r s : Option (Bor Axiom)) → option_copied (option_or r s) ≡ opt
 copied_or None s = refl
 copied_or (Some a) s = refl
 
--- the axiom that the three searches find
-pub found : (scalar loops heap : List Axiom) → AreTables scalar loops heap → (n : ℕ) (r s t u v : Option (Bor Axiom)) → option_copied r ≡ find (λ (a : Axiom). a.number == n) scalar
-    → option_copied s ≡ find (λ (a : Axiom). a.number == n) loops → option_copied t ≡ find (λ (a : Axiom). a.number == n) heap → u ≡ option_or s t → v ≡ option_or r u
-    → MatchOption v (HasNone axioms n) (λ a. IsEntry axioms n (axiom_seen a.now))
-found scalar loops heap are n r s t u v e f h two three =
-    of_copied n v
-    (subst (Finds axioms n) (sym (ap option_copied (three ∙ ap (option_or r) two) ∙ copied_or r (option_or s t) ∙ ap (option_or (option_copied r)) (copied_or s t)))
-    (finds_or scalar_axioms (loop_axioms ++ heap_axioms) n (option_copied r) (option_or (option_copied s) (option_copied t)) (finds_in scalar scalar_axioms n r are.scalars e)
-    (finds_or loop_axioms heap_axioms n (option_copied s) (option_copied t) (finds_in loops loop_axioms n s are.loops_ f) (finds_in heap heap_axioms n t are.heaps h))))
+-- what is found in one table, or else in another
+found_or : (xs ys : List patterns.Axiom) (n : ℕ) (r s t : Option (Bor Axiom)) → t ≡ option_or r s → Finds xs n (option_copied r) → Finds ys n (option_copied s) → Finds (xs ++ ys) n (option_copied t)
+found_or xs ys n r s t e p q = subst (Finds (xs ++ ys) n) (sym (ap option_copied e ∙ copied_or r s)) (finds_or xs ys n (option_copied r) (option_copied s) p q)
+
+-- the axiom that the four searches find
+pub found : (scalar loops heap choices : List Axiom) → AreTables scalar loops heap choices → (n : ℕ) (r s t u v x y : Option (Bor Axiom)) → option_copied r ≡ find (λ (a : Axiom). a.number == n) scalar
+    → option_copied s ≡ find (λ (a : Axiom). a.number == n) loops → option_copied t ≡ find (λ (a : Axiom). a.number == n) heap → option_copied u ≡ find (λ (a : Axiom). a.number == n) choices
+    → v ≡ option_or s t → x ≡ option_or r v → y ≡ option_or x u → MatchOption y (HasNone axioms n) (λ a. IsEntry axioms n (axiom_seen a.now))
+found scalar loops heap choices are n r s t u v x y e f h i two three four =
+    of_copied n y
+    (found_or core_axioms choice_axioms n x u y four
+    (found_or scalar_axioms (loop_axioms ++ heap_axioms) n r v x three (finds_in scalar scalar_axioms n r are.scalars e)
+    (found_or loop_axioms heap_axioms n s t v two (finds_in loops loop_axioms n s are.loops_ f) (finds_in heap heap_axioms n t are.heaps h)))
+    (finds_in choices choice_axioms n u are.choices_ i))
 
 -- ---- instances
 

@@ -1,11 +1,12 @@
 -- Each number stands once in the tables, by a test.
-use Rattle.std.specs.Prelude.{◌≡◌, ℕ, zero, suc, Bool, true, false, List, [], ◌∷◌, Some, slice_get, ◌==◌, if◌then◌else◌, refl}
+use Rattle.std.specs.Prelude.{◌≡◌, ℕ, zero, suc, Bool, true, false, List, [], ◌∷◌, ◌++◌, Some, slice_get, ◌==◌, if◌then◌else◌, refl}
 use Rattle.std.proofs.Common.{inl, inr, sym, ap, ◌∙◌, arith}
 use Rattle.std.proofs.lemmas.Bool.Decides.{nat_tests}
 use Rattle.std.proofs.lemmas.Option.{same_Some}
 use Rattle.pv_graph.specs.Walks.{In}
 use Rattle.pv_pattern.specs.Patterns.{Axiom}
-use Rattle.pv_axioms.specs.Entries.{IsEntry, NumbersOnce, axioms}
+use Rattle.pv_choiceax.specs.Table.{choice_axioms}
+use Rattle.pv_axioms.specs.Entries.{IsEntry, NumbersOnce, AreAxioms, core_axioms, axioms}
 
 -- ---- the test
 
@@ -57,6 +58,27 @@ each_once (c ∷ table) test (suc i) (suc j) a b at at' e =
 
 pub numbers_once : NumbersOnce axioms
 numbers_once = each_once axioms refl
+
+-- ---- a front part
+
+front_at : (xs ys : List Axiom) (i : ℕ) (a : Axiom) → slice_get xs i ≡ Some a → slice_get (xs ++ ys) i ≡ Some a
+front_at [] ys i a e = absurd (cc)
+front_at (x ∷ xs) ys zero a e = e
+front_at (x ∷ xs) ys (suc i) a e = front_at xs ys i a e
+
+front_once : (xs ys : List Axiom) → NumbersOnce (xs ++ ys) → NumbersOnce xs
+front_once xs ys once i j a b at there e = once i j a b (front_at xs ys i a at) (front_at xs ys j b there) e
+
+front_in : (xs ys : List Axiom) (a : Axiom) → In xs a → In (xs ++ ys) a
+front_in [] ys a m = absurd m
+front_in (x ∷ xs) ys a (inl e) = inl e
+front_in (x ∷ xs) ys a (inr m) = inr (front_in xs ys a m)
+
+pub core_are : AreAxioms core_axioms
+core_are = record { entries = front_in core_axioms choice_axioms; once = front_once core_axioms choice_axioms numbers_once }
+
+pub all_are : AreAxioms axioms
+all_are = record { entries = λ a m. m; once = numbers_once }
 
 -- ---- one entry
 

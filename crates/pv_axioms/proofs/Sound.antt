@@ -13,8 +13,10 @@ use Rattle.pv_loopax.specs.Table.{loop_axioms}
 use Rattle.pv_loopax.proofs.Cited as loops
 use Rattle.pv_heapax.specs.Table.{heap_axioms}
 use Rattle.pv_heapax.proofs.Cited as heap
+use Rattle.pv_choiceax.specs.Table.{choice_axioms}
+use Rattle.pv_choiceax.proofs.Cited as choices
 use Rattle.pv_steps.specs.Laws.{AreSound}
-use Rattle.pv_axioms.specs.Entries.{axioms, Instance}
+use Rattle.pv_axioms.specs.Entries.{core_axioms, axioms, Instance}
 use Rattle.pv_axioms.proofs.Sides.{sides_there}
 
 all_append : (P : Axiom → Type 0) (xs ys : List Axiom) → AllByRecursion P xs → AllByRecursion P ys → AllByRecursion P (xs ++ ys)
@@ -26,8 +28,11 @@ all_in P [] all a m = absurd m
 all_in P (x ∷ xs) all a (inl e) = subst P e all.0
 all_in P (x ∷ xs) all a (inr m) = all_in P xs all.1 a m
 
+core_laws : Laws core_axioms
+core_laws = all_append Law scalar_axioms (loop_axioms ++ heap_axioms) scalar.all_laws (all_append Law loop_axioms heap_axioms loops.all_laws heap.all_laws)
+
 all_laws : Laws axioms
-all_laws = all_append Law scalar_axioms (loop_axioms ++ heap_axioms) scalar.all_laws (all_append Law loop_axioms heap_axioms loops.all_laws heap.all_laws)
+all_laws = all_append Law core_axioms choice_axioms core_laws choices.all_laws
 
 pub binds_names : (a : Axiom) → In axioms a → BindsItsNames a
 binds_names = all_in BindsItsNames axioms (tested axioms refl)

@@ -6,15 +6,20 @@ use Rattle.pv_pattern.specs.Instances.{IsInstance}
 use Rattle.pv_scalar.specs.Table.{scalar_axioms}
 use Rattle.pv_loopax.specs.Table.{loop_axioms}
 use Rattle.pv_heapax.specs.Table.{heap_axioms}
+use Rattle.pv_choiceax.specs.Table.{choice_axioms}
 use Rattle.pv_steps.specs.Right.{Instances}
 
--- the axioms on numbers, choices and tokens, then those on loops, then those on the heap
+-- the core: the axioms on numbers, choices and tokens, then those on loops, then those on the heap
+abbrev pub core_axioms : List Axiom
+core_axioms = scalar_axioms ++ (loop_axioms ++ heap_axioms)
+
+-- all axioms: the core, then those on operations over choices, on choices under choices, on truths and on conversions
 abbrev pub axioms : List Axiom
-axioms = scalar_axioms ++ (loop_axioms ++ heap_axioms)
+axioms = core_axioms ++ choice_axioms
 
 -- the same, table by table
 abbrev pub tables : List (List Axiom)
-tables = scalar_axioms ∷ loop_axioms ∷ heap_axioms ∷ []
+tables = scalar_axioms ∷ loop_axioms ∷ heap_axioms ∷ choice_axioms ∷ []
 
 -- an axiom of a table that has this number
 pub record IsEntry (table : List Axiom) (n : ℕ) (a : Axiom) : Type 0 where
@@ -27,6 +32,11 @@ HasNone table n = (a : Axiom) → IsEntry table n a → ⊥
 -- no number stands twice
 abbrev pub NumbersOnce : List Axiom → Type 0
 NumbersOnce table = (i j : ℕ) (a b : Axiom) → slice_get table i ≡ Some a → slice_get table j ≡ Some b → a.number ≡ b.number → i ≡ j
+
+-- the table has some of the axioms, and no number twice
+pub record AreAxioms (table : List Axiom) : Type 0 where
+  pub entries : (a : Axiom) → In table a → In axioms a
+  pub once : NumbersOnce table
 
 -- the axioms as steps use them: l and r are the sides of an instance of the axiom with this number
 abbrev pub Instance : Instances

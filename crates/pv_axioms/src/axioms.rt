@@ -6,6 +6,7 @@ ghost use Rattle.std.specs.Prelude.{◌≡◌, ◌↔◌, ◌==◌, IfOk, IsTrue
 ghost use Rattle.pv_pattern.specs.Seen.{axiom_seen};
 ghost use Rattle.pv_axioms.specs.Entries.{HasNone, Instance, IsEntry, axioms, tables};
 
+use pv_choiceax::choice_axioms;
 use pv_graph::{Graph, NodeId};
 use pv_heapax::heap_axioms;
 use pv_loopax::loop_axioms;
@@ -21,6 +22,7 @@ pub struct Axioms {
     scalar: Vec<Axiom>,
     loops: Vec<Axiom>,
     heap: Vec<Axiom>,
+    choices: Vec<Axiom>,
 }
 
 impl Model for Axioms {
@@ -30,7 +32,7 @@ impl Model for Axioms {
 
     ghost view = { λ a. tt };
 
-    ghost invariant = { λ a. AreTables a.scalar.items a.loops.items a.heap.items };
+    ghost invariant = { λ a. AreTables a.scalar.items a.loops.items a.heap.items a.choices.items };
 }
 
 // The first axiom of a table that has this number.
@@ -47,14 +49,15 @@ impl Axioms {
             scalar: scalar_axioms(alloc)?,
             loops: loop_axioms(alloc)?,
             heap: heap_axioms(alloc)?,
+            choices: choice_axioms(alloc)?,
         })
     }
 
     /// The axioms, table by table.
-    pub fn tables(&self) -> [&[Axiom]; 3]
+    pub fn tables(&self) -> [&[Axiom]; 4]
         ensures { map (λ table. map axiom_seen table.now) result ≡ tables }
     {
-        [&self.scalar, &self.loops, &self.heap]
+        [&self.scalar, &self.loops, &self.heap, &self.choices]
     }
 
     /// The axiom with a number, or `None` where no table has one.
@@ -64,7 +67,8 @@ impl Axioms {
         let scalar = entry(&self.scalar, number);
         let loops = entry(&self.loops, number);
         let heap = entry(&self.heap, number);
-        scalar.or(loops.or(heap))
+        let choices = entry(&self.choices, number);
+        scalar.or(loops.or(heap)).or(choices)
     }
 
     /// Whether two nodes are the sides of an instance of the axiom with a number: under a substitution, and

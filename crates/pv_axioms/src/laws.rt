@@ -3,7 +3,7 @@
 
 ghost use Rattle.std.specs.Prelude.{◌≡◌, flat_map};
 ghost use Rattle.pv_steps.specs.Laws.{AcceptedLeast, AcceptedNotRejected, AcceptedSame, AreSound, RejectedOnce};
-ghost use Rattle.pv_axioms.specs.Entries.{Instance, NumbersOnce, axioms, tables};
+ghost use Rattle.pv_axioms.specs.Entries.{AreAxioms, Instance, NumbersOnce, axioms, core_axioms, tables};
 
 /// Each number stands once in the tables.
 pub fn law_numbers()
@@ -13,6 +13,12 @@ pub fn law_numbers()
 /// The tables, one after the other, are the axioms.
 pub fn law_tables()
     ensures { flat_map (λ table. table) tables ≡ axioms }
+{}
+
+/// The core and all axioms are tables by which a search may go.
+pub fn law_core()
+    ensures core { AreAxioms core_axioms }
+    ensures all { AreAxioms axioms }
 {}
 
 /// The axioms are sound.

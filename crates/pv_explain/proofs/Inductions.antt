@@ -16,7 +16,8 @@ use Rattle.pv_pattern.specs.Instances.{Names}
 use Rattle.pv_scalar.specs.Table.{scalar_axioms}
 use Rattle.pv_loopax.specs.Table.{rule, eval, theta, shift, zero_, single, shifts, evals, family, loop_axioms}
 use Rattle.pv_heapax.specs.Table.{heap_axioms}
-use Rattle.pv_axioms.specs.Entries.{axioms, IsEntry, Instance}
+use Rattle.pv_choiceax.specs.Table.{choice_axioms}
+use Rattle.pv_axioms.specs.Entries.{core_axioms, axioms, IsEntry, Instance}
 use Rattle.pv_steps.specs.declared.step.Fact.{Fact}
 use Rattle.pv_steps.specs.declared.step.Step.{Step}
 use Rattle.pv_steps.specs.declared.step.Step.TheVariants.{Open, Close}
@@ -48,11 +49,14 @@ first_rule = rule 301 (eval (theta (var 0) (var 1)) zero_) (eval (var 0) zero_) 
 abbrev next_rule : Axiom
 next_rule = rule 303 (shift (theta (var 0) (var 1))) (var 1) []
 
+loop_entry : (a : Axiom) → In single a → In axioms a
+loop_entry a i = in_left core_axioms choice_axioms a (in_right scalar_axioms (loop_axioms ++ heap_axioms) a (in_left loop_axioms heap_axioms a (in_left single (map shifts family ++ map evals family) a i)))
+
 first_entry : IsEntry axioms 301 first_rule
-first_entry = record { entry = in_right scalar_axioms (loop_axioms ++ heap_axioms) first_rule (in_left loop_axioms heap_axioms first_rule (in_left single (map shifts family ++ map evals family) first_rule (inl refl))); number = refl }
+first_entry = record { entry = loop_entry first_rule (inl refl); number = refl }
 
 next_entry : IsEntry axioms 303 next_rule
-next_entry = record { entry = in_right scalar_axioms (loop_axioms ++ heap_axioms) next_rule (in_left loop_axioms heap_axioms next_rule (in_left single (map shifts family ++ map evals family) next_rule (inr (inr (inl refl))))); number = refl }
+next_entry = record { entry = loop_entry next_rule (inr (inr (inl refl))); number = refl }
 
 -- at iteration 0 a theta is its first kid
 pub first_instance : (g : Graph) (assumed : List ℕ) (d x a b z e f : ℕ) → slice_get g.nodes x ≡ Some (node_of (op.Theta d) (a ∷ b ∷ [])) → slice_get g.nodes z ≡ Some (node_of op.Zero [])

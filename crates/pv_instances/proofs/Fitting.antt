@@ -27,7 +27,7 @@ use Rattle.pv_heights.specs.Filled.{Params, kid, Filled, at, of, Parts, no_part,
 use Rattle.pv_heights.specs.Filled as hole
 use Rattle.pv_heights.specs.Filled.{named as without_nodes}
 use Rattle.pv_instances.specs.Sorted.{IsSorted, AreSorted}
-use Rattle.pv_instances.specs.Facts.{num_sort, Said, whole, is, field, element, same_said, sort_said, any, op_gives, head_gives, head_takes, Fact, variable, word, depth, symbol, family, same_fact, has_fact, Tells, head_tells}
+use Rattle.pv_instances.specs.Facts.{num_sort, Said, whole, is, field, element, same_said, sort_said, Gives, any, gives_, unsaid, op_gives, head_gives, head_takes, Fact, variable, word, depth, symbol, family, whole_is, same_fact, has_fact, Tells, head_tells}
 use Rattle.pv_instances.specs.Fits.{said_by, gives_said, all_known, atom_fits, atoms_fit, by_said, by_tells, each_fits, fits, fit_all}
 
 -- ---- tests
@@ -65,6 +65,7 @@ same_facts (family j s) (family k t) e =
     let one : j ≡ k = (Decides-eqb j k).0 p.0 in
     let two : s ≡ t = same_saids s t p.1 in
     cc (one, two)
+same_facts (whole_is s) (whole_is t) e = ap whole_is (same_saids s t e)
 same_facts f g e = absurd (cc)
 
 -- ---- sorts
@@ -332,13 +333,27 @@ module _ (m : Params) (kids vars : List OpSort) (r : OpSort) (whole_not : r ≢ 
   have known [] all e = tt
   have known (f ∷ fs) all e = let p = both (has_fact known f) (all_known known fs) e in (has known f all p.0, have known fs all p.1)
 
+  -- what an operation gives agrees with what is said
+  abbrev Agree : Gives → Said → Type 0
+  Agree any said = said ≢ is R
+  Agree (gives_ t) said = (s : OpSort) → Says said s → Says t s
+  Agree unsaid said = ⊥
+
+  agree : (known : List Fact) (g : Gives) (said : Said) → AllByRecursion Tell known → gives_said known g said ≡ true → Agree g said
+  agree known any (is R) all e = absurd (cc)
+  agree known any said all e = λ f. absurd (cc)
+  agree known (gives_ t) whole all e = λ s says. has known (whole_is t) all e ∙ says
+  agree known (gives_ t) (is u) all e = λ s says. ap (sort_said m r) (same_saids t (is u) e) ∙ says
+  agree known (gives_ t) (field k) all e = λ s says. ap (sort_said m r) (same_saids t (field k) e) ∙ says
+  agree known (gives_ t) (element k) all e = λ s says. ap (sort_said m r) (same_saids t (element k) e) ∙ says
+  agree known unsaid said all e = absurd (cc)
+
   -- what is said of an operation of kids of any one sort is no root's
-  any_not_root : (said : Said) (s : OpSort) → gives_said any said ≡ true → Says said s → s ≢ R
-  any_not_root whole s e says = λ f. whole_not (let y : r ≡ s = cc in y ∙ f)
-  any_not_root (is R) s e says = absurd (cc)
-  any_not_root (is t) s e says = λ f. absurd (let y : t ≡ R = cc in cc)
-  any_not_root (field k) s e says = field_not_root (m.symbols k) s says
-  any_not_root (element k) s e says = λ f. kind_not_root (m.kinds k) (let y : kind_sort (m.kinds k) ≡ s = cc in y ∙ f)
+  any_not_root : (said : Said) (s : OpSort) → said ≢ is R → Says said s → s ≢ R
+  any_not_root whole s ne says = λ f. whole_not (let y : r ≡ s = cc in y ∙ f)
+  any_not_root (is t) s ne says = λ f. ne (let y : t ≡ s = cc in ap is (y ∙ f))
+  any_not_root (field k) s ne says = field_not_root (m.symbols k) s says
+  any_not_root (element k) s ne says = λ f. kind_not_root (m.kinds k) (let y : kind_sort (m.kinds k) ≡ s = cc in y ∙ f)
 
   -- the sorts that are said of the kids
   abbrev Sorts : Op → List Said → OpSort → Type 0
@@ -352,10 +367,10 @@ module _ (m : Params) (kids vars : List OpSort) (r : OpSort) (whole_not : r ≢ 
   words_said (w ∷ ws) = (refl, words_said ws)
 
   -- it gives exactly this sort over these
-  given : (o : Op) (saids : List Said) (ss : List OpSort) (g : Said) (t s : OpSort) (said : Said) → AllZip Says saids ss → sort_over o ss ≡ Some t → Says g t → same_said g said ≡ true → Says said s → Sorts o saids s
-  given o saids ss g t s said z e sg same says = (ss, z, e ∙ ap Some (said_is g said t s same sg says))
+  given : (o : Op) (saids : List Said) (ss : List OpSort) (g : Said) (t s : OpSort) (said : Said) → AllZip Says saids ss → sort_over o ss ≡ Some t → Says g t → Agree (gives_ g) said → Says said s → Sorts o saids s
+  given o saids ss g t s said z e sg agrees says = (ss, z, e ∙ (sym sg ∙ agrees s says))
 
-  op_sorts : (o : Op) (said : Said) (s : OpSort) → gives_said (op_gives o) said ≡ true → Says said s → Sorts o (head_takes (fixed o) said) s
+  op_sorts : (o : Op) (said : Said) (s : OpSort) → Agree (op_gives o) said → Says said s → Sorts o (head_takes (fixed o) said) s
   op_sorts (op.Int c) said s e says = given (op.Int c) [] [] (is I) I s said tt refl refl e says
   op_sorts (op.Long c) said s e says = given (op.Long c) [] [] (is L) L s said tt refl refl e says
   op_sorts op.Null said s e says = given op.Null [] [] (is A) A s said tt refl refl e says
@@ -372,9 +387,9 @@ module _ (m : Params) (kids vars : List OpSort) (r : OpSort) (whole_not : r ≢ 
   op_sorts op.Thrown said s e says = given op.Thrown (is A ∷ []) (A ∷ []) (is F) F s said (refl, tt) refl refl e says
   op_sorts op.IsClear said s e says = given op.IsClear (is F ∷ []) (F ∷ []) (is I) I s said (refl, tt) refl refl e says
   op_sorts op.Length said s e says = given op.Length (is A ∷ []) (A ∷ []) (is I) I s said (refl, tt) refl refl e says
-  op_sorts o said s e says = absurd (cc)
+  op_sorts o said s e says = absurd e
 
-  head_sorts : (h : Head) (said : Said) (s : OpSort) → gives_said (head_gives h) said ≡ true → AllByRecursion Tell (head_tells h) → Says said s → Sorts (head_op (without_nodes m) h) (head_takes h said) s
+  head_sorts : (h : Head) (said : Said) (s : OpSort) → Agree (head_gives h) said → AllByRecursion Tell (head_tells h) → Says said s → Sorts (head_op (without_nodes m) h) (head_takes h said) s
   head_sorts (fixed o) said s e told says = op_sorts o said s e says
   head_sorts theta_d said s e told says = (s ∷ s ∷ [], (says, (says, tt)), at_depth (is_depth m.depth) (alike (s ∷ s ∷ [])) told.0 ∙ alike_itself s (any_not_root said s e says))
   head_sorts eval_d said s e told says = (s ∷ N ∷ [], (says, (refl, tt)), at_depth (is_depth m.depth) (eval_sort (s ∷ N ∷ [])) told.0 ∙ but_itself s (any_not_root said s e says))
@@ -499,9 +514,9 @@ module _ (m : Params) (kids vars : List OpSort) (r : OpSort) (whole_not : r ≢ 
           narrow_sorted y.0 f.0 s y.2 f.2,
         )
     fitting known (over h ps) said s all e says =
-        let one = both (gives_said (head_gives h) said && all_known known (head_tells h)) (fit_all known ps (head_takes h said)) e in
-        let two = both (gives_said (head_gives h) said) (all_known known (head_tells h)) one.0 in
-        let ss = head_sorts h said s two.0 (have known (head_tells h) all two.1) says in
+        let one = both (gives_said known (head_gives h) said && all_known known (head_tells h)) (fit_all known ps (head_takes h said)) e in
+        let two = both (gives_said known (head_gives h) said) (all_known known (head_tells h)) one.0 in
+        let ss = head_sorts h said s (agree known (head_gives h) said all two.0) (have known (head_tells h) all two.1) says in
         let qs = fitting_all known ps (head_takes h said) ss.0 all one.1 ss.1 in
         (of (head_op (without_nodes m) h) qs.0, ap (λ (v : Option Parts). bind v (λ ss. Some (of (head_op (without_nodes m) h) ss))) qs.1, (ss.0, ss.2, qs.2))
     fitting known (over_each n e) said s all f says =

@@ -9,7 +9,8 @@ use Rattle.pv_heights.specs.Filled.{Params, named, Filled, of, filled, all_fille
 use Rattle.pv_scalar.specs.Table.{scalar_axioms}
 use Rattle.pv_loopax.specs.Table.{loop_axioms}
 use Rattle.pv_heapax.specs.Table.{heap_axioms}
-use Rattle.pv_axioms.specs.Entries.{axioms}
+use Rattle.pv_choiceax.specs.Table.{choice_axioms}
+use Rattle.pv_axioms.specs.Entries.{core_axioms, axioms}
 use Rattle.pv_instances.specs.Sorted.{IsSorted}
 use Rattle.pv_instances.specs.Facts.{Said, tells}
 use Rattle.pv_instances.specs.Fits.{fits, head_said, keeps_sort_at, keeps_sort, keep_sorts}
@@ -45,5 +46,11 @@ loop_kept = kept_by loop_axioms refl
 heap_kept : KeepSorts heap_axioms
 heap_kept = kept_by heap_axioms refl
 
+choice_kept : KeepSorts choice_axioms
+choice_kept = kept_by choice_axioms refl
+
+core_kept : KeepSorts core_axioms
+core_kept = all_append KeepsSort scalar_axioms (loop_axioms ++ heap_axioms) scalar_kept (all_append KeepsSort loop_axioms heap_axioms loop_kept heap_kept)
+
 pub all_kept : KeepSorts axioms
-all_kept = all_append KeepsSort scalar_axioms (loop_axioms ++ heap_axioms) scalar_kept (all_append KeepsSort loop_axioms heap_axioms loop_kept heap_kept)
+all_kept = all_append KeepsSort core_axioms choice_axioms core_kept choice_kept

@@ -16,7 +16,7 @@ use Rattle.pv_pattern.specs.Patterns.{bare, shifted, evaluated, Head, fixed, the
 use Rattle.pv_pattern.specs.Instances.{head_op}
 use Rattle.pv_heights.specs.Filled.{Params, named, variable, Filled, at, of, Parts, no_part, part, constant_part, each_parts, filled, all_filled}
 use Rattle.pv_instances.specs.Sorted.{IsSorted, AreSorted}
-use Rattle.pv_instances.specs.Facts.{num_sort, Said, whole, is, field, element, sort_said, head_gives, head_takes, Fact, family, Tells, head_tells, tells, tell_all}
+use Rattle.pv_instances.specs.Facts.{num_sort, Said, whole, is, field, element, sort_said, Gives, any, gives_, unsaid, head_gives, head_takes, Fact, family, Tells, head_tells, whole_tells, tells, tell_all}
 use Rattle.pv_instances.specs.Fits.{said_by}
 
 if_depth : (t : Bool) (o : Option OpSort) (y : OpSort) → (if t then o else None) ≡ Some y → (t ≡ true) × (o ≡ Some y)
@@ -113,47 +113,6 @@ module _ (m : Params) (kids vars : List OpSort) (r : OpSort) where
       let others : later ≡ ss = bare_sorts (suc i) later ss more all.1 in
       cc (same, others)
 
-  -- where the filled pattern has the sort, what it tells holds
-  abbrev Told : Pattern → Option Filled → Said → OpSort → Type 0
-  Told p o said s = (f : Filled) → o ≡ Some f → IsSorted kids vars f s → AllByRecursion Tell (tells p said)
-
-  family_told : (n : ℕ) (said : Said) (s : OpSort) (t : Bool) → (op_number m.op_ == n) ≡ t → Says said s → (f : Filled) → (if t then Some (of m.op_ (each_parts m bare 0 (length kids))) else None) ≡ Some f
-      → IsSorted kids vars f s → AllByRecursion Tell (family n said ∷ [])
-  family_told n said s true same says f e h = let y : of m.op_ (each_parts m bare 0 (length kids)) ≡ f = cc in go (subst (λ (x : Filled). IsSorted kids vars x s) (sym y) h)
-    where
-      go : IsSorted kids vars (of m.op_ (each_parts m bare 0 (length kids))) s → AllByRecursion Tell (family n said ∷ [])
-      go (ss, over_, all) =
-          let equal : kids ≡ ss = bare_sorts 0 kids ss (λ j u at_. subst (λ (k : ℕ). slice_get kids k ≡ Some u) (omega arith) at_) all in
-          ((same, subst (λ (z : List OpSort). sort_over m.op_ z ≡ Some s) (sym equal) over_ ∙ sym says), tt)
-  family_told n said s false same says f e h = absurd (cc)
-
-  mutual
-    pub told : (p : Pattern) (said : Said) (s : OpSort) → Says said s → Told p (filled m (length kids) p) said s
-    told (var j) said s says f e h = let y : at (variable j) ≡ f = cc in (subst (λ (x : Filled). IsSorted kids vars x s) (sym y) h ∙ sym says, tt)
-    told (constant j) said s says f e h = (number_said (m.constants j) f s e h ∙ sym says, tt)
-    told (fold o atoms) said s says f e h = tt
-    told (narrowed t p) said s says f e h = tt
-    told (over h ps) said s says f e sorted =
-        let parts = bind_some (all_filled m (length kids) ps) _ f e in
-        let y : of (head_op (named m) h) parts.0 ≡ f = (let z = parts.2 in cc) in
-        let here : IsSorted kids vars (of (head_op (named m) h) parts.0) s = subst (λ (x : Filled). IsSorted kids vars x s) (sym y) sorted in
-        all_append Tell (head_tells h) (tell_all ps (head_takes h said)) (head_told h s here.0 here.1)
-        (told_all ps (head_takes h said) here.0 parts.0 parts.1 (head_kids h said s here.0 says here.1) here.2)
-    told (over_each n bare) said s says f e h = family_told n said s (op_number m.op_ == n) refl says f e h
-    told (over_each n shifted) said s says f e h = tt
-    told (over_each n (evaluated j)) said s says f e h = tt
-
-    told_all : (ps : Patterns) (saids : List Said) (ss : List OpSort) (qs : Parts) → all_filled m (length kids) ps ≡ Some qs → Kids saids ss → AreSorted kids vars qs ss → AllByRecursion Tell (tell_all ps saids)
-    told_all none saids ss qs e k all = tt
-    told_all (first p ps) [] ss qs e k all = tt
-    told_all (first p ps) (said ∷ saids) [] qs e k all = absurd k
-    told_all (first p ps) (said ∷ saids) (s ∷ ss) qs e k all =
-        let one = bind_some (filled m (length kids) p) _ qs e in
-        let others = bind_some (all_filled m (length kids) ps) _ qs one.2 in
-        let y : part one.0 others.0 ≡ qs = (let z = others.2 in cc) in
-        let here : AreSorted kids vars (part one.0 others.0) (s ∷ ss) = subst (λ (x : Parts). AreSorted kids vars x (s ∷ ss)) (sym y) all in
-        all_append Tell (tells p said) (tell_all ps saids) (told p said s k.0 one.0 one.1 here.0) (told_all ps saids ss others.0 others.1 (kids_zip saids ss k.1) here.1)
-
   -- what the head says that it gives is the sort of the whole, where this is r
   op_said : (o : Op) (ss : List OpSort) → sort_over o ss ≡ Some r → (said : Said) → said_by (head_gives (fixed o)) ≡ Some said → Says said r
   op_said op.Phi ss e said h = subst (λ (x : Said). Says x r) (let y : whole ≡ said = cc in y) refl
@@ -196,3 +155,57 @@ module _ (m : Params) (kids vars : List OpSort) (r : OpSort) where
       subst (λ (x : Said). Says x r) (let y : element k ≡ said = cc in y) (ap Some (exactly_are (H ∷ A ∷ I ∷ []) (kind_sort (m.kinds k)) ss r e).1)
   head_says (store k) ss e said h =
       subst (λ (x : Said). Says x r) (let y : is H ≡ said = cc in y) (ap Some (exactly_are (H ∷ A ∷ I ∷ kind_sort (m.kinds k) ∷ []) H ss r e).1)
+
+  -- so where a head gives a sort of its own and its value has that of the whole, this sort is the whole's
+  whole_told : (h : Head) (said : Said) (s : OpSort) (ss : List OpSort) → Says said s → sort_over (head_op (named m) h) ss ≡ Some s → AllByRecursion Tell (whole_tells (head_gives h) said)
+  whole_told h said s ss says e = go (head_gives h) refl said says
+    where
+      go : (g : Gives) → head_gives h ≡ g → (u : Said) → Says u s → AllByRecursion Tell (whole_tells g u)
+      go (gives_ t) same whole y = (head_says h ss (e ∙ sym y) t (ap said_by same), tt)
+      go (gives_ t) same (is o) y = tt
+      go (gives_ t) same (field k) y = tt
+      go (gives_ t) same (element k) y = tt
+      go any same u y = tt
+      go unsaid same u y = tt
+
+  -- where the filled pattern has the sort, what it tells holds
+  abbrev Told : Pattern → Option Filled → Said → OpSort → Type 0
+  Told p o said s = (f : Filled) → o ≡ Some f → IsSorted kids vars f s → AllByRecursion Tell (tells p said)
+
+  family_told : (n : ℕ) (said : Said) (s : OpSort) (t : Bool) → (op_number m.op_ == n) ≡ t → Says said s → (f : Filled) → (if t then Some (of m.op_ (each_parts m bare 0 (length kids))) else None) ≡ Some f
+      → IsSorted kids vars f s → AllByRecursion Tell (family n said ∷ [])
+  family_told n said s true same says f e h = let y : of m.op_ (each_parts m bare 0 (length kids)) ≡ f = cc in go (subst (λ (x : Filled). IsSorted kids vars x s) (sym y) h)
+    where
+      go : IsSorted kids vars (of m.op_ (each_parts m bare 0 (length kids))) s → AllByRecursion Tell (family n said ∷ [])
+      go (ss, over_, all) =
+          let equal : kids ≡ ss = bare_sorts 0 kids ss (λ j u at_. subst (λ (k : ℕ). slice_get kids k ≡ Some u) (omega arith) at_) all in
+          ((same, subst (λ (z : List OpSort). sort_over m.op_ z ≡ Some s) (sym equal) over_ ∙ sym says), tt)
+  family_told n said s false same says f e h = absurd (cc)
+
+  mutual
+    pub told : (p : Pattern) (said : Said) (s : OpSort) → Says said s → Told p (filled m (length kids) p) said s
+    told (var j) said s says f e h = let y : at (variable j) ≡ f = cc in (subst (λ (x : Filled). IsSorted kids vars x s) (sym y) h ∙ sym says, tt)
+    told (constant j) said s says f e h = (number_said (m.constants j) f s e h ∙ sym says, tt)
+    told (fold o atoms) said s says f e h = tt
+    told (narrowed t p) said s says f e h = tt
+    told (over h ps) said s says f e sorted =
+        let parts = bind_some (all_filled m (length kids) ps) _ f e in
+        let y : of (head_op (named m) h) parts.0 ≡ f = (let z = parts.2 in cc) in
+        let here : IsSorted kids vars (of (head_op (named m) h) parts.0) s = subst (λ (x : Filled). IsSorted kids vars x s) (sym y) sorted in
+        all_append Tell (whole_tells (head_gives h) said) (head_tells h ++ tell_all ps (head_takes h said)) (whole_told h said s here.0 says here.1)
+        (all_append Tell (head_tells h) (tell_all ps (head_takes h said)) (head_told h s here.0 here.1)
+        (told_all ps (head_takes h said) here.0 parts.0 parts.1 (head_kids h said s here.0 says here.1) here.2))
+    told (over_each n bare) said s says f e h = family_told n said s (op_number m.op_ == n) refl says f e h
+    told (over_each n shifted) said s says f e h = tt
+    told (over_each n (evaluated j)) said s says f e h = tt
+
+    told_all : (ps : Patterns) (saids : List Said) (ss : List OpSort) (qs : Parts) → all_filled m (length kids) ps ≡ Some qs → Kids saids ss → AreSorted kids vars qs ss → AllByRecursion Tell (tell_all ps saids)
+    told_all none saids ss qs e k all = tt
+    told_all (first p ps) [] ss qs e k all = tt
+    told_all (first p ps) (said ∷ saids) [] qs e k all = absurd k
+    told_all (first p ps) (said ∷ saids) (s ∷ ss) qs e k all =
+        let one = bind_some (filled m (length kids) p) _ qs e in
+        let others = bind_some (all_filled m (length kids) ps) _ qs one.2 in
+        let y : part one.0 others.0 ≡ qs = (let z = others.2 in cc) in
+        let here : AreSorted kids vars (part one.0 others.0) (s ∷ ss) = subst (λ (x : Parts). AreSorted kids vars x (s ∷ ss)) (sym y) all in
+        all_append Tell (tells p said) (tell_all ps saids) (told p said s k.0 one.0 one.1 here.0) (told_all ps saids ss others.0 others.1 (kids_zip saids ss k.1) here.1)

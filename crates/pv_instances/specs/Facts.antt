@@ -105,13 +105,14 @@ head_takes (store k) s = is H ∷ is A ∷ is I ∷ element k ∷ []
 -- ---- what a left side tells
 
 -- a variable or a constant has a sort; the depth is one of loops; a symbol is that of a field which has a sort; the operation of
--- the family has this number, and its value a sort
+-- the family has this number, and its value a sort; the sort of the whole left side is this one
 pub data Fact : Type 0 where
   variable : ℕ → Said → Fact
   word : ℕ → Said → Fact
   depth : Fact
   symbol : ℕ → Fact
   family : ℕ → Said → Fact
+  whole_is : Said → Fact
 
 abbrev pub same_fact : Fact → Fact → Bool
 same_fact (variable j s) (variable k t) = j == k && same_said s t
@@ -119,6 +120,7 @@ same_fact (word j s) (word k t) = j == k && same_said s t
 same_fact depth depth = true
 same_fact (symbol j) (symbol k) = j == k
 same_fact (family m s) (family n t) = m == n && same_said s t
+same_fact (whole_is s) (whole_is t) = same_said s t
 same_fact a b = false
 
 abbrev pub has_fact : List Fact → Fact → Bool
@@ -132,6 +134,7 @@ Tells m kids vars r (word j s) = num_sort (m.constants j) ≡ sort_said m r s
 Tells m kids vars r depth = is_depth m.depth ≡ true
 Tells m kids vars r (symbol k) = (s : OpSort) × (field_sort (m.symbols k) ≡ Some s)
 Tells m kids vars r (family n s) = ((op_number m.op_ == n) ≡ true) × (sort_over m.op_ kids ≡ sort_said m r s)
+Tells m kids vars r (whole_is s) = sort_said m r s ≡ Some r
 
 -- what an operation's head tells
 abbrev pub head_tells : Head → List Fact
@@ -147,6 +150,11 @@ head_tells (putfield k) = symbol k ∷ []
 head_tells (load k) = []
 head_tells (store k) = []
 
+-- an operation that gives a sort of its own, where its value has that of the whole, tells which this is
+abbrev pub whole_tells : Gives → Said → List Fact
+whole_tells (gives_ t) whole = whole_is t ∷ []
+whole_tells g s = []
+
 abbrev mutual
   -- what a side tells that has a sort
   pub tells : Pattern → Said → List Fact
@@ -154,7 +162,7 @@ abbrev mutual
   tells (constant j) s = word j s ∷ []
   tells (fold o atoms) s = []
   tells (narrowed t p) s = []
-  tells (over h ps) s = head_tells h ++ tell_all ps (head_takes h s)
+  tells (over h ps) s = whole_tells (head_gives h) s ++ (head_tells h ++ tell_all ps (head_takes h s))
   tells (over_each n bare) s = family n s ∷ []
   tells (over_each n e) s = []
 

@@ -5,14 +5,15 @@ use Rattle.pv_value.specs.Operations.{Word, int, long, takes, gives}
 use Rattle.pv_graph.specs.declared.node.OpSort.TheVariants.{N, R}
 use Rattle.pv_graph.specs.Ops.{word_sort}
 use Rattle.pv_pattern.specs.Patterns.{Atom, number, named, By, by_symbol, by_kind, Each, bare, shifted, evaluated, Pattern, var, constant, fold, narrowed, over, over_each, Patterns, none, first, Axiom}
-use Rattle.pv_instances.specs.Facts.{Said, whole, is, field, element, same_said, Gives, any, gives_, unsaid, head_gives, head_takes, Fact, variable, word, depth, symbol, family, has_fact, head_tells, tells}
+use Rattle.pv_instances.specs.Facts.{Said, whole, is, field, element, same_said, Gives, any, gives_, unsaid, head_gives, head_takes, Fact, variable, word, depth, symbol, family, whole_is, has_fact, head_tells, tells}
 
 -- the head gives the sort that is said, by what is known
-abbrev pub gives_said : Gives → Said → Bool
-gives_said any (is R) = false
-gives_said any s = true
-gives_said (gives_ t) s = same_said t s
-gives_said unsaid s = false
+abbrev pub gives_said : List Fact → Gives → Said → Bool
+gives_said known any (is R) = false
+gives_said known any s = true
+gives_said known (gives_ t) whole = has_fact known (whole_is t)
+gives_said known (gives_ t) s = same_said t s
+gives_said known unsaid s = false
 
 abbrev pub all_known : List Fact → List Fact → Bool
 all_known known [] = true
@@ -49,7 +50,7 @@ abbrev mutual
   fits known (constant j) s = has_fact known (word j s)
   fits known (fold o atoms) s = same_said (is (word_sort (gives o))) s && atoms_fit known (takes o) atoms
   fits known (narrowed t p) s = same_said (by_said t) s && all_known known (by_tells t) && fits known p s
-  fits known (over h ps) s = gives_said (head_gives h) s && all_known known (head_tells h) && fit_all known ps (head_takes h s)
+  fits known (over h ps) s = gives_said known (head_gives h) s && all_known known (head_tells h) && fit_all known ps (head_takes h s)
   fits known (over_each n e) s = has_fact known (family n s) && each_fits known e
 
   pub fit_all : List Fact → Patterns → List Said → Bool

@@ -2,14 +2,14 @@
 use Rattle.std.proofs.Common.{◌≡◌, ℕ, suc, List, Vec, Global, Option, Some, None, Result, Ok, Err, OnOk, refl, sym, ◌∙◌, subst}
 use Rattle.pv_graph.specs.Graphs.{Graph, form_at}
 use Rattle.pv_steps.specs.Facts.{View}
-use Rattle.pv_axioms.specs.Entries.{axioms}
+use Rattle.pv_pattern.specs.Patterns.{Axiom}
 use Rattle.pv_heights.specs.Searches.{base_view, AtLeastAt, IsSaturatedAt}
 use Rattle.pv_heights.proofs.Cited.{base_view_is, graph_whole, saturated_reached}
 use Rattle.pv_match.specs.declared.found.Match.{Match}
 use Rattle.pv_rounds.specs.declared.search.Search.{Search}
 use Rattle.pv_rounds.specs.declared.search.Looked.{Looked}
 use Rattle.pv_rounds.specs.declared.search.Looked.TheVariants.{Over, Saturated, Open}
-use Rattle.pv_rounds.specs.Searching.{IsSearch, IsBegun, IsOver, IsSaturatedNow, Looks, MakesRound, GoesOn}
+use Rattle.pv_rounds.specs.Searching.{axioms_of, IsSearch, IsBegun, IsOver, IsSaturatedNow, Looks, MakesRound, GoesOn}
 use Rattle.pv_grounds.specs.Rounds.{AreGrounded}
 use Rattle.pv_grounds.proofs.Cited.{round_grounded}
 use Rattle.pv_prove.specs.declared.searches.Searches.{Searches}
@@ -20,25 +20,33 @@ module _ (g : Graph) (k : ℕ) (s : Search) (is : IsSearch g k s) where
   view_is : base_view s.graph ≡ form_at g.nodes
   view_is = base_view_is g s.graph is.grown (is.base ∙ is.least.base)
 
-  -- the same of the least graph, with these nodes as endings and this budget
-  module _ (ends : List ℕ) (of_ends : s.endings.items ≡ ends) where
-    pub many_there : (b : ℕ) → s.budget ≡ b → IsOver s → AtLeastAt (form_at g.nodes) ends axioms s.graph s.classes.numbers (suc b)
+  -- the same of the least graph, with these nodes as endings, these axioms and this budget
+  module _ (ends : List ℕ) (of_ends : s.endings.items ≡ ends) (table : List Axiom) (of_table : axioms_of s ≡ table) where
+    pub many_there : (b : ℕ) → s.budget ≡ b → IsOver s → AtLeastAt (form_at g.nodes) ends table s.graph s.classes.numbers (suc b)
     many_there b e h =
-        subst (λ (v : View). AtLeastAt v ends axioms s.graph s.classes.numbers (suc b)) view_is
-        (subst (λ (es : List ℕ). AtLeastAt (base_view s.graph) es axioms s.graph s.classes.numbers (suc b)) of_ends
-        (subst (λ (n : ℕ). AtLeastAt (base_view s.graph) s.endings.items axioms s.graph s.classes.numbers (suc n)) e h))
+        subst (λ (v : View). AtLeastAt v ends table s.graph s.classes.numbers (suc b)) view_is
+        (subst (λ (es : List ℕ). AtLeastAt (base_view s.graph) es table s.graph s.classes.numbers (suc b)) of_ends
+        (subst (λ (ts : List Axiom). AtLeastAt (base_view s.graph) s.endings.items ts s.graph s.classes.numbers (suc b)) of_table
+        (subst (λ (n : ℕ). AtLeastAt (base_view s.graph) s.endings.items (axioms_of s) s.graph s.classes.numbers (suc n)) e h)))
 
-    pub many_back : (b : ℕ) → s.budget ≡ b → AtLeastAt (form_at g.nodes) ends axioms s.graph s.classes.numbers (suc b) → IsOver s
+    pub many_back : (b : ℕ) → s.budget ≡ b → AtLeastAt (form_at g.nodes) ends table s.graph s.classes.numbers (suc b) → IsOver s
     many_back b e h =
-        subst (λ (n : ℕ). AtLeastAt (base_view s.graph) s.endings.items axioms s.graph s.classes.numbers (suc n)) (sym e)
-        (subst (λ (es : List ℕ). AtLeastAt (base_view s.graph) es axioms s.graph s.classes.numbers (suc b)) (sym of_ends)
-        (subst (λ (v : View). AtLeastAt v ends axioms s.graph s.classes.numbers (suc b)) (sym view_is) h))
+        subst (λ (n : ℕ). AtLeastAt (base_view s.graph) s.endings.items (axioms_of s) s.graph s.classes.numbers (suc n)) (sym e)
+        (subst (λ (ts : List Axiom). AtLeastAt (base_view s.graph) s.endings.items ts s.graph s.classes.numbers (suc b)) (sym of_table)
+        (subst (λ (es : List ℕ). AtLeastAt (base_view s.graph) es table s.graph s.classes.numbers (suc b)) (sym of_ends)
+        (subst (λ (v : View). AtLeastAt v ends table s.graph s.classes.numbers (suc b)) (sym view_is) h)))
 
-    pub saturated_there : IsSaturatedNow s → IsSaturatedAt (form_at g.nodes) ends axioms s.graph s.classes.numbers
-    saturated_there h = subst (λ (v : View). IsSaturatedAt v ends axioms s.graph s.classes.numbers) view_is (subst (λ (es : List ℕ). IsSaturatedAt (base_view s.graph) es axioms s.graph s.classes.numbers) of_ends h)
+    pub saturated_there : IsSaturatedNow s → IsSaturatedAt (form_at g.nodes) ends table s.graph s.classes.numbers
+    saturated_there h =
+        subst (λ (v : View). IsSaturatedAt v ends table s.graph s.classes.numbers) view_is
+        (subst (λ (es : List ℕ). IsSaturatedAt (base_view s.graph) es table s.graph s.classes.numbers) of_ends
+        (subst (λ (ts : List Axiom). IsSaturatedAt (base_view s.graph) s.endings.items ts s.graph s.classes.numbers) of_table h))
 
-    pub saturated_back : IsSaturatedAt (form_at g.nodes) ends axioms s.graph s.classes.numbers → IsSaturatedNow s
-    saturated_back h = subst (λ (es : List ℕ). IsSaturatedAt (base_view s.graph) es axioms s.graph s.classes.numbers) (sym of_ends) (subst (λ (v : View). IsSaturatedAt v ends axioms s.graph s.classes.numbers) (sym view_is) h)
+    pub saturated_back : IsSaturatedAt (form_at g.nodes) ends table s.graph s.classes.numbers → IsSaturatedNow s
+    saturated_back h =
+        subst (λ (ts : List Axiom). IsSaturatedAt (base_view s.graph) s.endings.items ts s.graph s.classes.numbers) (sym of_table)
+        (subst (λ (es : List ℕ). IsSaturatedAt (base_view s.graph) es table s.graph s.classes.numbers) (sym of_ends)
+        (subst (λ (v : View). IsSaturatedAt v ends table s.graph s.classes.numbers) (sym view_is) h))
 
   -- a search in which no match joins more is also where a round would have taken it
   pub next_saturated : IsSaturatedNow s → IsSearch g (suc k) s
@@ -54,11 +62,11 @@ module _ (g : Graph) (k : ℕ) (s : Search) (is : IsSearch g k s) where
     knows = is.knows;
     classes_ = is.classes_;
     sorts = is.sorts;
-    reached = saturated_reached g (graph_whole g is.least.made.graph) s.endings.items axioms k s.graph s.classes.numbers is.reached (saturated_there s.endings.items refl h);
+    reached = saturated_reached g (graph_whole g is.least.made.graph) s.endings.items (axioms_of s) k s.graph s.classes.numbers is.reached (saturated_there s.endings.items refl (axioms_of s) refl h);
   }
 
 pub stays : (s : Search) → IsSaturatedNow s → GoesOn s s
-stays s h = record { next = λ g k is. next_saturated g k s is h; endings_ = refl; budget_ = refl }
+stays s h = record { next = λ g k is. next_saturated g k s is h; table_ = refl; endings_ = refl; budget_ = refl }
 
 -- a search that was looked at, and has neither too many matches nor a list of some that join more
 pub still : (s : Search) (x : Looked) → Looks s x → (IsOver s → ⊥) → ((list : Vec Match Global) → x ≡ Open list → ⊥) → GoesOn s s

@@ -1,7 +1,7 @@
 -- What is seen of two searches, as the verdict asks.
 use Rattle.std.proofs.Common.{◌≡◌, ℕ, zero, suc, ◌≤◌, List, [], Option, Some, None, inl, inr, refl, sym, ◌∙◌, subst}
 use Rattle.pv_alike.specs.Least.{Rooted}
-use Rattle.pv_axioms.specs.Entries.{axioms}
+use Rattle.pv_pattern.specs.Patterns.{Axiom}
 use Rattle.pv_endings.specs.Endings.{AreEndingsOf}
 use Rattle.pv_heights.specs.Searches.{Reached, TwoSearches, SeesMeet, SeesOver, SeesSaturated, SeesNothing, UndecidedBefore, first, next, Answers, met, over, saturated, ended}
 use Rattle.pv_heights.specs.Verdicts.{Question}
@@ -16,7 +16,7 @@ use Rattle.pv_prove.specs.declared.outcome.Outcome.TheVariants.{Met, Budget, Apa
 use Rattle.pv_prove.specs.declared.searches.Searches.{Searches}
 use Rattle.pv_prove.specs.declared.searches.Seen.{Seen}
 use Rattle.pv_prove.specs.declared.searches.Seen.TheVariants.{Decided, Open}
-use Rattle.pv_prove.specs.Finding.{question, verdict_of, or_plain, ending_of, HaveMade, MeetIn}
+use Rattle.pv_prove.specs.Finding.{axioms_in, question, verdict_of, or_plain, ending_of, HaveMade, MeetIn}
 use Rattle.pv_prove.specs.Looking.{LooksOther, AreOver, AreSaturated, seen_of, Decide, AreOpen, Sees, GoOn, StandAt, Ends}
 use Rattle.pv_prove.proofs.Meets.{some_way, no_way}
 use Rattle.pv_prove.proofs.Growing.{many_there, many_back, saturated_there, saturated_back}
@@ -58,15 +58,23 @@ module _ (l : Rooted) (limits : Limits) (k : ℕ) (s : Searches) (at : StandAt l
   abbrev ends : List ℕ
   ends = (ending_of s).endings.items
 
+  abbrev table : List Axiom
+  table = axioms_in limits.axioms
+
   -- both searches, as the verdict sees them
   two : TwoSearches Q ends k
   two = record {
     plain = record {
       graph = s.plain.graph;
       numbers = s.plain.classes.numbers;
-      reached = subst (λ (es : List ℕ). Reached l.graph es axioms k s.plain.graph s.plain.classes.numbers) at.made.none at.made.plain_.reached;
+      reached = subst (λ (es : List ℕ). Reached l.graph es table k s.plain.graph s.plain.classes.numbers) at.made.none
+          (subst (λ (ts : List Axiom). Reached l.graph s.plain.endings.items ts k s.plain.graph s.plain.classes.numbers) at.made.plain_table at.made.plain_.reached);
     };
-    ending = record { graph = (ending_of s).graph; numbers = (ending_of s).classes.numbers; reached = at.made.ending_.reached };
+    ending = record {
+      graph = (ending_of s).graph;
+      numbers = (ending_of s).classes.numbers;
+      reached = subst (λ (ts : List Axiom). Reached l.graph ends ts k (ending_of s).graph (ending_of s).classes.numbers) at.made.ending_table at.made.ending_.reached;
+    };
   }
 
   met_there : (m : Meeting) → MeetIn l s (Some m) → SeesMeet Q ends k two
@@ -79,21 +87,21 @@ module _ (l : Rooted) (limits : Limits) (k : ℕ) (s : Searches) (at : StandAt l
 
   over_there : AreOver s → SeesOver Q ends k two
   unfolding two
-  over_there (inl h) = inl (many_there l.graph k s.plain at.made.plain_ [] at.made.none limits.budget at.made.plain_budget h)
-  over_there (inr h) = inr (many_there l.graph k (ending_of s) at.made.ending_ ends refl limits.budget at.made.ending_budget h)
+  over_there (inl h) = inl (many_there l.graph k s.plain at.made.plain_ [] at.made.none table at.made.plain_table limits.budget at.made.plain_budget h)
+  over_there (inr h) = inr (many_there l.graph k (ending_of s) at.made.ending_ ends refl table at.made.ending_table limits.budget at.made.ending_budget h)
 
   over_back : SeesOver Q ends k two → AreOver s
   unfolding two
-  over_back (inl h) = inl (many_back l.graph k s.plain at.made.plain_ [] at.made.none limits.budget at.made.plain_budget h)
-  over_back (inr h) = inr (many_back l.graph k (ending_of s) at.made.ending_ ends refl limits.budget at.made.ending_budget h)
+  over_back (inl h) = inl (many_back l.graph k s.plain at.made.plain_ [] at.made.none table at.made.plain_table limits.budget at.made.plain_budget h)
+  over_back (inr h) = inr (many_back l.graph k (ending_of s) at.made.ending_ ends refl table at.made.ending_table limits.budget at.made.ending_budget h)
 
   saturated_seen : AreSaturated s → SeesSaturated Q ends k two
   unfolding two
-  saturated_seen h = (saturated_there l.graph k s.plain at.made.plain_ [] at.made.none h.0, saturated_there l.graph k (ending_of s) at.made.ending_ ends refl h.1)
+  saturated_seen h = (saturated_there l.graph k s.plain at.made.plain_ [] at.made.none table at.made.plain_table h.0, saturated_there l.graph k (ending_of s) at.made.ending_ ends refl table at.made.ending_table h.1)
 
   saturated_is : SeesSaturated Q ends k two → AreSaturated s
   unfolding two
-  saturated_is h = (saturated_back l.graph k s.plain at.made.plain_ [] at.made.none h.0, saturated_back l.graph k (ending_of s) at.made.ending_ ends refl h.1)
+  saturated_is h = (saturated_back l.graph k s.plain at.made.plain_ [] at.made.none table at.made.plain_table h.0, saturated_back l.graph k (ending_of s) at.made.ending_ ends refl table at.made.ending_table h.1)
 
   -- what they decide
   answer : (outcome : Outcome) → k ≤ limits.rounds → Decide l k s outcome → Answers Q ends (verdict_of outcome)
@@ -125,6 +133,8 @@ module _ (l : Rooted) (limits : Limits) (k : ℕ) (s : Searches) (at : StandAt l
         ending_ = on.ending_.goes.next l.graph k at.made.ending_;
         none = on.plain_.goes.endings_ ∙ at.made.none;
         ends = subst (AreEndingsOf l.graph l.first) (sym on.ending_.goes.endings_) at.made.ends;
+        plain_table = on.plain_.goes.table_ ∙ at.made.plain_table;
+        ending_table = on.ending_.goes.table_ ∙ at.made.ending_table;
         plain_budget = on.plain_.goes.budget_ ∙ at.made.plain_budget;
         ending_budget = on.ending_.goes.budget_ ∙ at.made.ending_budget;
         plain_grounds = on.plain_.grounds at.made.plain_grounds;
@@ -143,5 +153,5 @@ at_end l limits s at (Open p x) open_ none = record {
 }
 
 -- two searches that have made no round
-pub at_first : (l : Rooted) (limits : Limits) (s : Searches) → HaveMade l limits.budget zero s → StandAt l limits zero s
+pub at_first : (l : Rooted) (limits : Limits) (s : Searches) → HaveMade l limits zero s → StandAt l limits zero s
 at_first l limits s made = record { made = made; undecided = λ b. first b }

@@ -66,7 +66,7 @@ module _ (view : View) (w : World) (x : Input) (i : Index) where
 
 -- ---- two searches in which the roots meet
 
-module _ (law : ClassesSame) (l : Rooted) (most k : ℕ) (s : Searches) (made : HaveMade l most k s) where
+module _ (law : ClassesSame) (l : Rooted) (limits : Limits) (k : ℕ) (s : Searches) (made : HaveMade l limits k s) where
   abbrev view : View
   view = form_at l.graph.nodes
 
@@ -125,4 +125,4 @@ module _ (law : ClassesSame) (l : Rooted) (most k : ℕ) (s : Searches) (made : 
   meeting_same low low_ Kids (apart, (left, right, is_left, is_right, met)) w x world input i = roots_same left right is_left is_right met w x world input i
 
 pub met_same : ClassesSame → (l : Rooted) (limits : Limits) (s : Searches) (outcome : Outcome) → l.first < length l.graph.nodes → l.second < length l.graph.nodes → IsShown l limits s outcome → MetAreSame l outcome
-met_same law l limits s outcome low low_ shown m e = let h = shown m e in meeting_same law l limits.budget h.0 s h.1 low low_ m h.2
+met_same law l limits s outcome low low_ shown m e = let h = shown m e in meeting_same law l limits h.0 s h.1 low low_ m h.2

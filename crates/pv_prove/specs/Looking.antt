@@ -2,6 +2,7 @@
 use Rattle.std.specs.Prelude.{◌≡◌, ◌⊎◌, ℕ, List, [], Option, Some, None}
 use Rattle.pv_graph.specs.Graphs.{Graph}
 use Rattle.pv_alike.specs.Least.{Rooted}
+use Rattle.pv_pattern.specs.Patterns.{Axiom}
 use Rattle.pv_endings.specs.Endings.{AreEndingsOf}
 use Rattle.pv_heights.specs.Searches.{TwoSearches, UndecidedBefore, Answers}
 use Rattle.pv_rounds.specs.declared.search.Search.{Search}
@@ -89,13 +90,13 @@ pub record GoOn (old new : Searches) : Type 0 where
   pub ending_ : GoesFurther (ending_of old) (ending_of new)
 
 -- where there are nodes that count as ending, a search with them begins
-abbrev pub BeginsOther : Graph → List ℕ → ℕ → Option Search → Type 0
-BeginsOther g ends most (Some s) = Begins g ends most s
-BeginsOther g ends most None = ends ≡ []
+abbrev pub BeginsOther : Graph → List Axiom → List ℕ → ℕ → Option Search → Type 0
+BeginsOther g table ends most (Some s) = Begins g table ends most s
+BeginsOther g table ends most None = ends ≡ []
 
 -- they have made k rounds, and no height before decides
 pub record StandAt (l : Rooted) (limits : Limits) (k : ℕ) (s : Searches) : Type 0 where
-  pub made : HaveMade l limits.budget k s
+  pub made : HaveMade l limits k s
   pub undecided : (b : TwoSearches (question l limits) (ending_of s).endings.items k) → UndecidedBefore (question l limits) (ending_of s).endings.items k b
 
 -- the outcome is what two searches answer, and these show it

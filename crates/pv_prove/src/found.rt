@@ -1,11 +1,10 @@
 //! What two searches find of the roots of a least graph.
 
 ghost use Rattle.std.specs.Prelude.{◌≡◌, ◌<◌, zero, IfOk, length, map};
-ghost use Rattle.pv_axioms.specs.Entries.{axioms};
 ghost use Rattle.pv_heights.specs.Verdicts.{IsVerdict, Verdict};
 ghost use Rattle.pv_pattern.specs.Seen.{axiom_seen};
 ghost use Rattle.pv_rounds.specs.Searching.{IsLeastGraph};
-ghost use Rattle.pv_prove.specs.Finding.{HaveMade, IsShown, MetAreSame, question, verdict_of};
+ghost use Rattle.pv_prove.specs.Finding.{HaveMade, IsShown, MetAreSame, axioms_in, question, verdict_of};
 ghost use Rattle.pv_prove.specs.Looking.{Ends};
 
 use crate::outcome::{Limits, Outcome};
@@ -31,7 +30,7 @@ fn hunt<G: Gate>(
     limits: Limits,
     searches: &mut Searches,
 ) -> Result<Outcome, Memory>
-    requires { HaveMade least.now limits.budget zero searches.old }
+    requires { HaveMade least.now limits zero searches.old }
     ensures { IfOk result (λ outcome. Ends least.now limits searches.new outcome) }
 {
     for k in 0..limits.rounds {
@@ -46,7 +45,7 @@ fn hunt<G: Gate>(
     Ok(Outcome::Rounds(limits.rounds))
 }
 
-/// What a search finds of the roots of a least graph, by all axioms. The outcome is the verdict on them, and there is no other;
+/// What a search finds of the roots of a least graph, by the axioms that the limits name. The outcome is the verdict on them, and there is no other;
 /// where the roots met, they have the same values, and the two searches show how they met. It passes the gate as `Search::look` does. Out of memory is the one error.
 pub fn find<'a, G: Gate>(
     alloc: Global,
@@ -58,13 +57,13 @@ pub fn find<'a, G: Gate>(
     requires least { IsLeastGraph least.now.graph }
     requires first { least.now.first < length least.now.graph.nodes }
     requires second { least.now.second < length least.now.graph.nodes }
-    requires table { map axiom_seen table.now ≡ axioms }
+    requires table { map axiom_seen table.now ≡ axioms_in limits.axioms }
     ensures verdict { IfOk result (λ found. IsVerdict (question least.now limits) (verdict_of found.outcome)) }
     ensures only { IfOk result (λ found. (v : Verdict) → IsVerdict (question least.now limits) v → v ≡ verdict_of found.outcome) }
     ensures same { IfOk result (λ found. MetAreSame least.now found.outcome) }
     ensures shown { IfOk result (λ found. IsShown least.now limits found.searches found.outcome) }
 {
-    let mut searches = Searches::new(alloc, least, table, limits.budget)?;
+    let mut searches = Searches::new(alloc, least, table, limits)?;
     let outcome = hunt(alloc, gate, least, limits, &mut searches)?;
     Ok(Found { outcome, searches })
 }

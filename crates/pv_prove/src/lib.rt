@@ -8,13 +8,13 @@
 //! This layer stands on `pv_rounds`, whose searches it takes from height to height, on `pv_grounds`, by whose laws the joins of a
 //! search keep their grounds and joined nodes have the same values, on `pv_endings` for the nodes that a root waits for and for its
 //! kids, on `pv_classes`, whose classes of nodes a search has, on `pv_alike`, whose least graph of two roots a search begins with, and
-//! on `pv_scalar`, `pv_loopax` and `pv_heapax`, whose axioms are in one table here.
+//! on `pv_scalar`, `pv_loopax`, `pv_heapax` and `pv_choiceax`, whose axioms are in one table here.
 //!
 //! The definition that it meets is `IsVerdict` (`pv_heights/specs/Verdicts`), which speaks of terms and not of nodes. That what two
 //! searches answer is this verdict is a law of `pv_heights` (`AnswersAreVerdicts`), and the loop here gives such an answer.
 //!
-//! The layer above uses `find` (`specs/Finding`), and gives it the table of `all_axioms`. The outcome is the verdict on the question
-//! (`verdict`), and any other verdict is that one (`only`). Where the roots met, they have the same values in each world, for each
+//! The layer above uses `find` (`specs/Finding`), and gives it the table of `axioms_in`: the axioms of the core, or all, as the limits
+//! say. The outcome is the verdict on the question by these axioms (`verdict`), and any other verdict is that one (`only`). Where the roots met, they have the same values in each world, for each
 //! input, at each index (`same`, `MetAreSame`), and the two searches are as they were then (`shown`, `IsShown`): all their joins have
 //! their grounds. How the roots meet is `how_met` (`specs/Meetings`, `IsMeeting`); that this is the verdict's way is a law
 //! (`law_meeting`). The verdict looks at nodes and roots alone, so least graphs with the same of both have one verdict (`law_nodes`,
@@ -34,4 +34,4 @@ pub use found::{Found, find};
 pub use meeting::{Meeting, how_met};
 pub use outcome::{Limits, Outcome};
 pub use searches::Searches;
-pub use table::all_axioms;
+pub use table::{AxiomSet, axioms_in};

@@ -1,10 +1,12 @@
 //! What two searches end with, and their limits.
 
 use crate::meeting::Meeting;
+use crate::table::AxiomSet;
 
-/// How many rounds may be made, and how many matches a round may have.
+/// By which axioms a search goes, how many rounds it may make, and how many matches a round may have.
 #[derive(Clone, Copy, Debug, PartialEq, Eq)]
 pub struct Limits {
+    pub axioms: AxiomSet,
     pub rounds: u32,
     pub budget: u32,
 }

@@ -2,14 +2,14 @@
 
 ghost use Rattle.std.specs.Prelude.{◌≡◌, ℕ, zero, IfOk, OnOk, map};
 ghost use Rattle.pv_alike.specs.Least.{Rooted};
-ghost use Rattle.pv_axioms.specs.Entries.{axioms};
+ghost use Rattle.pv_axioms.specs.Entries.{AreAxioms};
 ghost use Rattle.pv_pattern.specs.Seen.{axiom_seen};
 ghost use Rattle.pv_rounds.specs.Searching.{IsBegun, IsLeastGraph, IsOver, Looks};
-ghost use Rattle.pv_prove.specs.Finding.{HaveMade, ending_of};
+ghost use Rattle.pv_prove.specs.Finding.{HaveMade, axioms_in, ending_of};
 ghost use Rattle.pv_prove.specs.Looking.{AreBegun, AreOpen, BeginsOther, ForOther, GoOn, GoesFurther, LooksOther, OtherGoes, Sees, seen_of};
 
 use crate::meeting::how_met;
-use crate::outcome::Outcome;
+use crate::outcome::{Limits, Outcome};
 use pv_alike::Least;
 use pv_base::Gate;
 use pv_endings::endings;
@@ -57,8 +57,8 @@ fn other_search<'a>(
     budget: u32,
 ) -> Result<Option<Search<'a>>, Memory>
     requires least { IsLeastGraph graph.now }
-    requires table { map axiom_seen table.now ≡ axioms }
-    ensures { IfOk result (λ other. BeginsOther graph.now nodes.items budget other) }
+    requires table { AreAxioms (map axiom_seen table.now) }
+    ensures { IfOk result (λ other. BeginsOther graph.now (map axiom_seen table.now) nodes.items budget other) }
 {
     if nodes.is_empty() {
         return Ok(None);
@@ -116,20 +116,20 @@ fn go_on_other(
 }
 
 impl<'a> Searches<'a> {
-    // Two searches that have made no round.
+    // Two searches by the axioms that the limits name, which have made no round.
     pub(crate) fn new(
         alloc: Global,
         least: &Least,
         table: &'a [Axiom],
-        budget: u32,
+        limits: Limits,
     ) -> Result<Searches<'a>, Memory>
         requires least { IsLeastGraph least.now.graph }
-        requires table { map axiom_seen table.now ≡ axioms }
-        ensures { IfOk result (λ s. HaveMade least.now budget zero s) }
+        requires table { map axiom_seen table.now ≡ axioms_in limits.axioms }
+        ensures { IfOk result (λ s. HaveMade least.now limits zero s) }
     {
         let nodes = endings(alloc, least.graph(), least.first())?;
-        let plain = Search::new(alloc, least.graph(), table, Vec::new(alloc), budget)?;
-        let other = other_search(alloc, least.graph(), table, nodes, budget)?;
+        let plain = Search::new(alloc, least.graph(), table, Vec::new(alloc), limits.budget)?;
+        let other = other_search(alloc, least.graph(), table, nodes, limits.budget)?;
         Ok(Searches { plain, other })
     }
 

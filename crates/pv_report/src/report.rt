@@ -2,9 +2,9 @@
 
 ghost use Rattle.std.specs.Prelude.{◌≡◌, ◌↔◌, ◌++◌, ◌∷◌, [], None, Some, length, map, IfOk, OnOk, IsTrue};
 ghost use Rattle.std.specs.List.{AllZip, flat_map};
-ghost use Rattle.pv_axioms.specs.Entries.{axioms};
 ghost use Rattle.pv_cert.specs.Lines.{title_text};
 ghost use Rattle.pv_pattern.specs.Seen.{axiom_seen};
+ghost use Rattle.pv_prove.specs.Finding.{axioms_in};
 ghost use Rattle.pv_token.specs.Spellings.{AreBytes};
 ghost use Rattle.pv_report.specs.Lines.{bad_class, line_text};
 ghost use Rattle.pv_report.specs.Report.{IsStatusOf, lines_of};
@@ -21,7 +21,7 @@ use pv_base::Gate;
 use pv_cert::Section;
 use pv_class::Method;
 use pv_list::Listed;
-use pv_prove::{Limits, all_axioms};
+use pv_prove::{Limits, axioms_in};
 use pv_steps::Step;
 use pv_value::Memory;
 use std::alloc::{AllocError, Global};
@@ -67,7 +67,7 @@ pub fn judge<G: Gate>(
             });
         }
     };
-    let table = all_axioms(alloc)?;
+    let table = axioms_in(alloc, limits.axioms)?;
     let means = Means {
         table: &table,
         limits,
@@ -163,7 +163,7 @@ fn judge_all<G: Gate>(
     means: Means,
     pair: &Pair,
 ) -> Result<Judgements, Memory>
-    requires table { map axiom_seen means.table.now ≡ axioms }
+    requires table { map axiom_seen means.table.now ≡ axioms_in means.limits.axioms }
     requires read { IsReadPair pair.now }
     ensures verdicts { IfOk result (λ found. AllZip (IsVerdict means.entry.limits pair.now.first pair.now.second) pair.now.first.methods found.verdicts.items) }
     ensures sections { IfOk result (λ found. means.entry.detail ≡ Detail.Steps → AllZip (IsSectionOf pair.now.first pair.now.second) (equivalent_of pair.now.first.methods found.verdicts.items) found.sections.items) }

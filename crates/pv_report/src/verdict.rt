@@ -3,9 +3,8 @@
 ghost use Rattle.std.specs.Prelude.{◌≡◌, ◌↔◌, ◌<◌, [], length, map, slice_get, true, Some, None, IfOk, IsTrue};
 ghost use Rattle.pv_class.specs.declared.file.Method.{Method};
 ghost use Rattle.pv_alike.specs.Least.{IsLeastOf};
-ghost use Rattle.pv_axioms.specs.Entries.{axioms};
 ghost use Rattle.pv_pattern.specs.Seen.{axiom_seen};
-ghost use Rattle.pv_prove.specs.Finding.{IsShown, verdict_of};
+ghost use Rattle.pv_prove.specs.Finding.{IsShown, axioms_in, verdict_of};
 ghost use Rattle.pv_report.specs.Roots.{IsWhole};
 ghost use Rattle.pv_report.specs.Verdicts.{HasCode};
 ghost use Rattle.pv_report.specs.Judging.{IsRead, IsReadPair, IsLeastOfSome, IsLeastOnPlaces, IsVerdictAt, IsVerdictBy, IsVerdictOnPlaces, said_of};
@@ -100,7 +99,7 @@ pub(crate) fn judgement_on<G: Gate>(
     pair: &Pair,
     method: usize,
 ) -> Result<Judgement, Memory>
-    requires table { map axiom_seen means.table.now ≡ axioms }
+    requires table { map axiom_seen means.table.now ≡ axioms_in means.limits.axioms }
     requires read { IsReadPair pair.now }
     requires there { method < length pair.now.first.methods }
     ensures verdict { IfOk result (λ found. IsVerdictAt means.entry.limits pair.now.first method pair.now.second found.verdict) }
@@ -130,7 +129,7 @@ fn judgement_with<G: Gate>(
     method: usize,
     partner: usize,
 ) -> Result<Judgement, Memory>
-    requires table { map axiom_seen means.table.now ≡ axioms }
+    requires table { map axiom_seen means.table.now ≡ axioms_in means.limits.axioms }
     requires read { IsReadPair pair.now }
     requires there { method < length pair.now.first.methods }
     requires partner { partner < length pair.now.second.methods }
@@ -151,7 +150,7 @@ fn judgement_by<G: Gate>(
     means: Means,
     roots: &Least,
 ) -> Result<Judgement, Memory>
-    requires table { map axiom_seen means.table.now ≡ axioms }
+    requires table { map axiom_seen means.table.now ≡ axioms_in means.limits.axioms }
     requires least { IsLeastOfSome roots.now }
     ensures verdict { IfOk result (λ found. IsVerdictBy means.entry.limits roots.now found.verdict) }
     ensures steps { IfOk result (λ found. IsProvedBy means.entry.detail roots.now found) }

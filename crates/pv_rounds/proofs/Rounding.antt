@@ -6,8 +6,8 @@ use Rattle.pv_graph.specs.declared.node.Node.{Node}
 use Rattle.pv_graph.specs.Walks.{In}
 use Rattle.pv_graph.specs.Graphs.{Graph, form_at, IsGraph, Extends}
 use Rattle.pv_graph.proofs.Cited.{sort_there}
-use Rattle.pv_axioms.specs.Entries.{axioms}
-use Rattle.pv_axioms.proofs.Cited.{binds_names}
+use Rattle.pv_pattern.specs.Patterns.{Axiom}
+use Rattle.pv_pattern.specs.Binding.{BindsItsNames}
 use Rattle.pv_classes.specs.Partition.{at}
 use Rattle.pv_classes.specs.Calls.{Classes, Grows}
 use Rattle.pv_heights.specs.Systems.{Joined}
@@ -54,8 +54,8 @@ pair_from (x ∷ xs) p (inr i) = let r = pair_from xs p i in (r.0, inr r.1, r.2)
 pub all_numbered : (h : Graph) (numbers : List ℕ) → length numbers ≡ length h.nodes → (numbered h numbers).nodes ≡ h.nodes
 all_numbered h numbers long = ap (λ (k : ℕ). take k h.nodes) long ∙ first_is h.nodes h.nodes (λ n x e. e)
 
-module _ (g : Graph) (assumed : List ℕ) (h i : Graph) (numbers : List ℕ) (ms : List (Match ℕ)) (owed : List Owed) (long : length numbers ≡ length h.nodes)
-    (all : AreAllAt (form_at g.nodes) assumed axioms h numbers ms) (adds : AddsAll (numbered h numbers) h i numbers assumed ms owed) where
+module _ (g : Graph) (assumed : List ℕ) (table : List Axiom) (h i : Graph) (numbers : List ℕ) (ms : List (Match ℕ)) (owed : List Owed) (long : length numbers ≡ length h.nodes)
+    (all : AreAllAt (form_at g.nodes) assumed table h numbers ms) (adds : AddsAll (numbered h numbers) h i numbers assumed ms owed) where
   same : (numbered h numbers).nodes ≡ h.nodes
   same = all_numbered h numbers long
 
@@ -84,7 +84,7 @@ module _ (g : Graph) (assumed : List ℕ) (h i : Graph) (numbers : List ℕ) (ms
       let m = zip_second (IsOwed (numbered h numbers) i numbers assumed) ms owed adds.joins p.0 p.1 in
       (m.0, m.1, subst (λ (q : ℕ × ℕ). IsInstanceOf (nodes i) (IsNode h) (OneClass numbers) (IsNode i) m.0 q.0 q.1) p.2 (owed_here m.0 p.0 m.2))
 
-  pub is_round : IsRound (form_at g.nodes) assumed axioms h i numbers (pairs_of owed)
+  pub is_round : IsRound (form_at g.nodes) assumed table h i numbers (pairs_of owed)
   is_round = record {
     list = ms;
     are = all;
@@ -142,11 +142,11 @@ module _ (h i : Graph) (old grown joins : Classes) (owed : List Owed) (few : len
 
 -- ---- how far the search is
 
-module _ (g : Graph) (assumed : List ℕ) (k : ℕ) (h i : Graph) (old grown joins : Classes) (after : List ℕ) (ms : List (Match ℕ)) (owed : List Owed) (ig : IsGraph g) (ii : IsGraph i) (e : Extends h i)
+module _ (g : Graph) (assumed : List ℕ) (table : List Axiom) (binds : (e : Axiom) → In table e → BindsItsNames e) (k : ℕ) (h i : Graph) (old grown joins : Classes) (after : List ℕ) (ms : List (Match ℕ)) (owed : List Owed) (ig : IsGraph g) (ii : IsGraph i) (e : Extends h i)
     (long : length old.numbers ≡ length h.nodes) (few : length old.numbers ≤ length i.nodes) (low : (n : ℕ) → n < length old.numbers → at old.numbers n ≤ n)
-    (all : AreAllAt (form_at g.nodes) assumed axioms h old.numbers ms) (adds : AddsAll (numbered h old.numbers) h i old.numbers assumed ms owed) (grows : Grows i.nodes old grown) (joined : JoinsAll grown joins owed)
+    (all : AreAllAt (form_at g.nodes) assumed table h old.numbers ms) (adds : AddsAll (numbered h old.numbers) h i old.numbers assumed ms owed) (grows : Grows i.nodes old grown) (joined : JoinsAll grown joins owed)
     (closed : AreJoined i (OneClass joins.numbers) after) where
-  pub next_reached : Reached g assumed axioms k h old.numbers → Reached g assumed axioms (suc k) i after
+  pub next_reached : Reached g assumed table k h old.numbers → Reached g assumed table (suc k) i after
   next_reached r =
-      round_reached g (graph_whole g ig) assumed axioms binds_names k h i old.numbers joins.numbers after (pairs_of owed) e (graph_whole i ii) r (is_round g assumed h i old.numbers ms owed long all adds)
+      round_reached g (graph_whole g ig) assumed table binds k h i old.numbers joins.numbers after (pairs_of owed) e (graph_whole i ii) r (is_round g assumed table h i old.numbers ms owed long all adds)
       (joined_there h i old grown joins owed few low grows joined) (joined_follows h i old grown joins owed few low grows joined) closed

@@ -8,11 +8,12 @@ use Rattle.pv_graph.specs.declared.node.Node.{Node}
 use Rattle.pv_graph.specs.declared.node.OpSort.{OpSort}
 use Rattle.pv_graph.specs.Graphs.{Graph, form_at, IsGraph}
 use Rattle.pv_graph.specs.Calls.{IsSame, IsDistinct}
-use Rattle.pv_pattern.specs.Seen.{axiom_seen}
 use Rattle.pv_pattern.specs.Patterns.{Axiom}
+use Rattle.pv_pattern.specs.Binding.{BindsItsNames}
 use Rattle.pv_steps.specs.Facts.{View}
-use Rattle.pv_axioms.specs.Entries.{axioms}
+use Rattle.pv_axioms.specs.Entries.{AreAxioms, axioms}
 use Rattle.pv_axioms.proofs.Cited.{binds_names}
+use Rattle.pv_heights.specs.Systems.{System, Subset, Relation}
 use Rattle.pv_heights.specs.Sides.{Match}
 use Rattle.pv_heights.specs.Matches.{IsMatch}
 use Rattle.pv_heights.specs.SameClasses.{IsCongruence}
@@ -43,21 +44,37 @@ use Rattle.pv_rounds.specs.Standing.{AllStand, AreOver}
 use Rattle.pv_rounds.specs.declared.owed.Owed.{Owed}
 use Rattle.pv_rounds.specs.Owed.{AreMatches, IsOwed, AddsAll}
 use Rattle.pv_rounds.specs.Joining.{AreWithin, JoinsAll}
-use Rattle.pv_rounds.specs.Searching.{IsLeastGraph, IsSearch, IsOver, IsSaturatedNow}
+use Rattle.pv_rounds.specs.Searching.{IsLeastGraph, axioms_of, IsSearch, IsOver, IsSaturatedNow}
 use Rattle.pv_rounds.proofs.Numbers.{one_of}
 use Rattle.pv_rounds.proofs.Rounding.{zip_second, all_numbered, sorts_after, next_reached}
 
--- ---- the axioms of all tables
+-- ---- the axioms
 
-pub all_readable : AreReadable axioms
+all_readable : AreReadable axioms
 all_readable = tested axioms refl
+
+-- a match by some of the axioms is one by all
+by_all : (view : View) (assumed : List ℕ) (table : List Axiom) (S : System) (Member : Subset S) (Joins : Relation S) (m : Match S.Thing) → ((a : Axiom) → In table a → In axioms a)
+    → IsMatch view assumed table S Member Joins m → IsMatch view assumed axioms S Member Joins m
+by_all view assumed table S Member Joins m entries is = record {
+  of_table = entries m.entry is.of_table;
+  kids = is.kids;
+  vars = is.vars;
+  long = is.long;
+  alone = is.alone;
+  at_ = is.at_;
+  is = is.is;
+  stands = is.stands;
+  constants = is.constants;
+  sides = is.sides;
+}
 
 -- ---- lists of matches
 
-module _ (h : Graph) (numbers assumed : List ℕ) (list : List found.Match) (all : AreAllMatches h numbers assumed axioms list) where
+module _ (h : Graph) (numbers assumed : List ℕ) (table : List Axiom) (list : List found.Match) (all : AreAllMatches h numbers assumed table list) where
   -- each of them shows a match
-  pub are_shown : AreShown axioms list
-  are_shown x i = each_shown h numbers assumed axioms list all x i
+  pub are_shown : AreShown table list
+  are_shown x i = each_shown h numbers assumed table list all x i
 
   pub as_long : length list ≡ length all.matches
   as_long = zip_length Shows list all.matches all.shown
@@ -74,6 +91,16 @@ module _ (g : Graph) (k : ℕ) (s : Search) (is : IsSearch g k s) where
   abbrev ends : List ℕ
   ends = s.endings.items
 
+  abbrev table : List Axiom
+  table = axioms_of s
+
+  -- each of its axioms is read, and binds its names
+  pub readable : AreReadable table
+  readable a m = all_readable a (is.table_.entries a m)
+
+  pub binds : (a : Axiom) → In table a → BindsItsNames a
+  binds a m = binds_names a (is.table_.entries a m)
+
   pub view_is : base_view h ≡ form_at g.nodes
   view_is = base_view_is g h is.grown (is.base ∙ is.least.base)
 
@@ -81,33 +108,33 @@ module _ (g : Graph) (k : ℕ) (s : Search) (is : IsSearch g k s) where
   whole = graph_whole g is.least.made.graph
 
   pub congruence : IsCongruence (base_view h) (nodes h) (IsNode h) (OneClass numbers)
-  congruence = subst (λ (v : View). IsCongruence v (nodes h) (IsNode h) (OneClass numbers)) (sym view_is) (reached_exact g whole ends axioms k h numbers is.reached).congruence
+  congruence = subst (λ (v : View). IsCongruence v (nodes h) (IsNode h) (OneClass numbers)) (sym view_is) (reached_exact g whole ends table k h numbers is.reached).congruence
 
   pub marks_here : AreNodeMarks h ends s.marks.items
   marks_here = marks_stay g h is.least.made.graph is.grown is.least.base ends s.marks.items is.base is.marks_
 
   -- matches that are no more than the budget
-  pub not_over : (list : List found.Match) → AreAllMatches h numbers ends axioms list → length list ≤ s.budget → IsOver s → ⊥
+  pub not_over : (list : List found.Match) → AreAllMatches h numbers ends table list → length list ≤ s.budget → IsOver s → ⊥
   not_over list all few over =
-      let n = (list_counts (base_view h) ends axioms h numbers all.matches all.all (suc s.budget)).0 over in
-      absurd (let z = as_long h numbers ends list all in omega (arith, n, z, few))
+      let n = (list_counts (base_view h) ends table h numbers all.matches all.all (suc s.budget)).0 over in
+      absurd (let z = as_long h numbers ends table list all in omega (arith, n, z, few))
 
-  pub saturated_by : (ms : List (Match ℕ)) → AreAllAt (base_view h) ends axioms h numbers ms → AllStand h numbers ms ↔ IsSaturatedNow s
+  pub saturated_by : (ms : List (Match ℕ)) → AreAllAt (base_view h) ends table h numbers ms → AllStand h numbers ms ↔ IsSaturatedNow s
   saturated_by ms all =
-      let w = saturated_where g whole ends axioms binds_names k h numbers is.reached ms (subst (λ (v : View). AreAllAt v ends axioms h numbers ms) view_is all) in (
-        (λ stand. subst (λ (v : View). IsSaturatedAt v ends axioms h numbers) (sym view_is) (w.1 stand)),
-        (λ now. w.0 (subst (λ (v : View). IsSaturatedAt v ends axioms h numbers) view_is now)),
+      let w = saturated_where g whole ends table binds k h numbers is.reached ms (subst (λ (v : View). AreAllAt v ends table h numbers ms) view_is all) in (
+        (λ stand. subst (λ (v : View). IsSaturatedAt v ends table h numbers) (sym view_is) (w.1 stand)),
+        (λ now. w.0 (subst (λ (v : View). IsSaturatedAt v ends table h numbers) view_is now)),
       )
 
   -- what matching answers
-  pub answered : (base : List ℕ) (a : Matches) → base ≡ s.marks.items → ((ns : List ℕ) → AreNodeMarks h ns base → IsAnswer h numbers ns (map axiom_seen s.table.now) s.budget a) → IsAnswer h numbers ends axioms s.budget a
-  answered base a e f = subst (λ (t : List Axiom). IsAnswer h numbers ends t s.budget a) is.table_ (f ends (subst (λ (b : List ℕ). AreNodeMarks h ends b) (sym e) marks_here))
+  pub answered : (base : List ℕ) (a : Matches) → base ≡ s.marks.items → ((ns : List ℕ) → AreNodeMarks h ns base → IsAnswer h numbers ns table s.budget a) → IsAnswer h numbers ends table s.budget a
+  answered base a e f = f ends (subst (λ (b : List ℕ). AreNodeMarks h ends b) (sym e) marks_here)
 
   -- all matches, decoded
-  pub all_decoded : (list : List found.Match) (ds : List (Match ℕ)) → AreAllMatches h numbers ends axioms list → AllZip (IsDecoded (map axiom_seen s.table.now)) list ds → AreAllAt (base_view h) ends axioms h numbers ds
-  all_decoded list ds all z = decoded_are_all h numbers ends axioms binds_names list ds all (subst (λ (t : List Axiom). AllZip (IsDecoded t) list ds) is.table_ z)
+  pub all_decoded : (list : List found.Match) (ds : List (Match ℕ)) → AreAllMatches h numbers ends table list → AllZip (IsDecoded table) list ds → AreAllAt (base_view h) ends table h numbers ds
+  all_decoded list ds all z = decoded_are_all h numbers ends table binds list ds all z
 
-  pub are_over : (ms : List (Match ℕ)) → AreAllAt (base_view h) ends axioms h numbers ms → AreOver h ms
+  pub are_over : (ms : List (Match ℕ)) → AreAllAt (base_view h) ends table h numbers ms → AreOver h ms
   are_over ms all m i = let p = place_of ms m i in let k = all.each p.0 m p.1 in (k.kids, k.vars)
 
   -- for the round
@@ -127,7 +154,7 @@ module _ (g : Graph) (k : ℕ) (s : Search) (is : IsSearch g k s) where
   pub sorts_numbered : JoinedHaveOneSort (numbered h numbers) (OneClass numbers)
   sorts_numbered a b o = subst (λ (ss : List OpSort). slice_get ss a ≡ slice_get ss b) (sym same_sorts) (is.sorts a b o)
 
-  pub are_matches : (ms : List (Match ℕ)) → AreAllAt (base_view h) ends axioms h numbers ms → AreMatches (numbered h numbers) numbers ends ms
+  pub are_matches : (ms : List (Match ℕ)) → AreAllAt (base_view h) ends table h numbers ms → AreMatches (numbered h numbers) numbers ends ms
   are_matches ms all = record {
     least = g;
     graph = is.least.made.graph;
@@ -137,15 +164,15 @@ module _ (g : Graph) (k : ℕ) (s : Search) (is : IsSearch g k s) where
     };
     few = (let z = longer g h is.grown in let y = is.knows.long in omega (arith, z, y));
     each = λ m i. (let p = place_of ms m i in
-        let k : IsMatchAt (form_at g.nodes) ends axioms h numbers m = subst (λ (v : View). IsMatchAt v ends axioms h numbers m) view_is (all.each p.0 m p.1) in
+        let k : IsMatchAt (form_at g.nodes) ends axioms h numbers m = by_all (form_at g.nodes) ends table (nodes h) (IsNode h) (OneClass numbers) m is.table_.entries (subst (λ (v : View). IsMatchAt v ends table h numbers m) view_is (all.each p.0 m p.1)) in
         subst (λ (ns : List Node). IsMatch (form_at g.nodes) ends axioms (record { Thing = ℕ; Has = λ n o ks. form_at ns n ≡ Some (form o ks); node = λ n. n }) (λ n. n < length ns) (OneClass numbers) m) (sym same_nodes) k);
   }
 
 -- ---- at the beginning
 
-pub begun : (g : Graph) (s : Search) (old : Classes) (found : Bool) → IsLeastGraph g → IsSame g s.graph → IsGraph s.graph → map axiom_seen s.table.now ≡ axioms → AreNodeMarks g s.endings.items s.marks.items → IsNew s.graph.nodes old
+pub begun : (g : Graph) (s : Search) (old : Classes) (found : Bool) → IsLeastGraph g → IsSame g s.graph → IsGraph s.graph → AreAxioms (axioms_of s) → AreNodeMarks g s.endings.items s.marks.items → IsNew s.graph.nodes old
     → Inducts s.graph.nodes old s.classes found → IsSearch g zero s
-begun g s old found least e is table marks fresh inducts =
+begun g s old found least e is are marks fresh inducts =
     let h : Graph = s.graph in
     let nodes_same : h.nodes ≡ g.nodes = ap (λ (k : Graph). k.nodes) e in
     let sorts_same : h.sorts ≡ g.sorts = ap (λ (k : Graph). k.sorts) e in
@@ -153,7 +180,7 @@ begun g s old found least e is table marks fresh inducts =
     let joined : AreJoined h Nothing s.classes.numbers = first_joins h old s.classes found fresh inducts in
     record {
       least = least;
-      table_ = table;
+      table_ = are;
       graph_ = is;
       apart = subst (λ (ns : List Node). IsDistinct ns) (sym nodes_same) least.distinct;
       grown = record { nodes = λ n node x. subst (λ (ns : List Node). slice_get ns n ≡ Some node) (sym nodes_same) x; sorts = λ n o x. subst (λ (os : List OpSort). slice_get os n ≡ Some o) (sym sorts_same) x };
@@ -193,9 +220,9 @@ module _ (g : Graph) (k : ℕ) (s : Search) (is : IsSearch g k s) (i : Graph) (m
       (omega (arith, l, long), omega (arith, r, long))
 
 module _ (g : Graph) (k : ℕ) (s t : Search) (is : IsSearch g k s) (ms : List (Match ℕ)) (owed : List Owed) (grown joins : Classes) (found_ : Bool) (ii : IsGraph t.graph)
-    (all : AreAllAt (base_view s.graph) s.endings.items axioms s.graph s.classes.numbers ms) (adds : AddsAll (numbered s.graph s.classes.numbers) s.graph t.graph s.classes.numbers s.endings.items ms owed)
+    (all : AreAllAt (base_view s.graph) s.endings.items (axioms_of s) s.graph s.classes.numbers ms) (adds : AddsAll (numbered s.graph s.classes.numbers) s.graph t.graph s.classes.numbers s.endings.items ms owed)
     (grows : Grows t.graph.nodes s.classes grown) (joined : JoinsAll grown joins owed) (inducts : Inducts t.graph.nodes joins t.classes found_)
-    (table : t.table.now ≡ s.table.now) (ends_same : t.endings.items ≡ s.endings.items) (marks_same : t.marks.items ≡ s.marks.items) where
+    (same_table : axioms_of t ≡ axioms_of s) (ends_same : t.endings.items ≡ s.endings.items) (marks_same : t.marks.items ≡ s.marks.items) where
   long : length s.classes.numbers ≡ length s.graph.nodes
   long = is.knows.long
 
@@ -205,8 +232,8 @@ module _ (g : Graph) (k : ℕ) (s t : Search) (is : IsSearch g k s) (ms : List (
   closed : AreJoined t.graph (OneClass joins.numbers) t.classes.numbers
   closed = induct_joins t.graph joins t.classes found_ inducts
 
-  all_here : AreAllAt (form_at g.nodes) s.endings.items axioms s.graph s.classes.numbers ms
-  all_here = subst (λ (v : View). AreAllAt v s.endings.items axioms s.graph s.classes.numbers ms) (view_is g k s is) all
+  all_here : AreAllAt (form_at g.nodes) s.endings.items (axioms_of s) s.graph s.classes.numbers ms
+  all_here = subst (λ (v : View). AreAllAt v s.endings.items (axioms_of s) s.graph s.classes.numbers ms) (view_is g k s is) all
 
   sorts_of : (o : Owed) → In owed o → slice_get t.graph.sorts o.left ≡ slice_get t.graph.sorts o.right
   sorts_of o i = let m = zip_second (IsOwed (numbered s.graph s.classes.numbers) t.graph s.classes.numbers s.endings.items) ms owed adds.joins o i in m.2.one_sort
@@ -214,7 +241,7 @@ module _ (g : Graph) (k : ℕ) (s t : Search) (is : IsSearch g k s) (ms : List (
   pub next_search : IsSearch g (suc k) t
   next_search = record {
     least = is.least;
-    table_ = ap (map axiom_seen) table ∙ is.table_;
+    table_ = subst AreAxioms (sym same_table) is.table_;
     graph_ = ii;
     apart = adds.distinct is.apart;
     grown = extends_both g s.graph t.graph is.grown adds.grows.extends_;
@@ -224,6 +251,7 @@ module _ (g : Graph) (k : ℕ) (s t : Search) (is : IsSearch g k s) (ms : List (
     knows = inducts.knows;
     classes_ = inducts.classes;
     sorts = sorts_after s.graph t.graph s.classes grown joins owed few is.classes_.low grows joined is.graph_ long adds.grows.extends_ is.sorts sorts_of (λ a b o. (let x = one_of s.classes.numbers a b o in (x.0, x.1))) ii (adds.grows.sealed ∙ is.sealed) t.classes.numbers closed;
-    reached = subst (λ (es : List ℕ). Reached g es axioms (suc k) t.graph t.classes.numbers) (sym ends_same)
-        (next_reached g s.endings.items k s.graph t.graph s.classes grown joins t.classes.numbers ms owed is.least.made.graph ii adds.grows.extends_ long few is.classes_.low all_here adds grows joined closed is.reached);
+    reached = subst (λ (es : List ℕ). Reached g es (axioms_of t) (suc k) t.graph t.classes.numbers) (sym ends_same)
+        (subst (λ (ts : List Axiom). Reached g s.endings.items ts (suc k) t.graph t.classes.numbers) (sym same_table)
+        (next_reached g s.endings.items (axioms_of s) (binds g k s is) k s.graph t.graph s.classes grown joins t.classes.numbers ms owed is.least.made.graph ii adds.grows.extends_ long few is.classes_.low all_here adds grows joined closed is.reached));
   }

@@ -2,8 +2,9 @@
 use Rattle.std.specs.Prelude.{◌≡◌, ℕ, zero, suc, Bool, false, List, map, length}
 use Rattle.pv_graph.specs.Graphs.{Graph, IsGraph, IsWellMade, Extends}
 use Rattle.pv_graph.specs.Calls.{IsDistinct}
+use Rattle.pv_pattern.specs.Patterns.{Axiom}
 use Rattle.pv_pattern.specs.Seen.{axiom_seen}
-use Rattle.pv_axioms.specs.Entries.{axioms}
+use Rattle.pv_axioms.specs.Entries.{AreAxioms}
 use Rattle.pv_classes.specs.Calls.{Classes, IsClasses, IsNew, Knows, Grows}
 use Rattle.pv_induct.specs.Inducts.{Inducts}
 use Rattle.pv_heights.specs.Sides.{Match}
@@ -25,10 +26,14 @@ pub record IsLeastGraph (g : Graph) : Type 0 where
   pub sealed : g.is_open ≡ false
   pub base : g.base ≡ length g.nodes
 
--- the search began with the least graph g and has made k rounds, by all axioms
+-- the axioms by which a search goes
+abbrev pub axioms_of : Search → List Axiom
+axioms_of s = map axiom_seen s.table.now
+
+-- the search began with the least graph g and has made k rounds, by its axioms
 pub record IsSearch (g : Graph) (k : ℕ) (s : Search) : Type 0 where
   pub least : IsLeastGraph g
-  pub table_ : map axiom_seen s.table.now ≡ axioms
+  pub table_ : AreAxioms (axioms_of s)
   pub graph_ : IsGraph s.graph
   pub apart : IsDistinct s.graph.nodes
   pub grown : Extends g s.graph
@@ -38,19 +43,20 @@ pub record IsSearch (g : Graph) (k : ℕ) (s : Search) : Type 0 where
   pub knows : Knows s.graph.nodes s.classes
   pub classes_ : IsClasses s.classes
   pub sorts : JoinedHaveOneSort s.graph (OneClass s.classes.numbers)
-  pub reached : Reached g s.endings.items axioms k s.graph s.classes.numbers
+  pub reached : Reached g s.endings.items (axioms_of s) k s.graph s.classes.numbers
 
 -- .. with some least graph, and some rounds
 abbrev pub IsBegun : Search → Type 0
 IsBegun s = (g : Graph) × (k : ℕ) × IsSearch g k s
 
 -- it has made no round: its classes are new ones, closed with all inductions
-pub record Begins (g : Graph) (endings : List ℕ) (budget : ℕ) (s : Search) : Type 0 where
+pub record Begins (g : Graph) (table : List Axiom) (endings : List ℕ) (budget : ℕ) (s : Search) : Type 0 where
   pub is : IsSearch g zero s
   pub first : Classes
   pub found : Bool
   pub fresh : IsNew s.graph.nodes first
   pub inducts : Inducts s.graph.nodes first s.classes found
+  pub table_ : axioms_of s ≡ table
   pub endings_ : s.endings.items ≡ endings
   pub budget_ : s.budget ≡ budget
 
@@ -58,7 +64,7 @@ pub record Begins (g : Graph) (endings : List ℕ) (budget : ℕ) (s : Search) :
 
 -- it has at least n matches
 abbrev pub HasMatches : Search → ℕ → Type 0
-HasMatches s n = AtLeastAt (base_view s.graph) s.endings.items axioms s.graph s.classes.numbers n
+HasMatches s n = AtLeastAt (base_view s.graph) s.endings.items (axioms_of s) s.graph s.classes.numbers n
 
 -- it has more than its budget
 abbrev pub IsOver : Search → Type 0
@@ -66,13 +72,13 @@ IsOver s = HasMatches s (suc s.budget)
 
 -- none of its matches joins more
 abbrev pub IsSaturatedNow : Search → Type 0
-IsSaturatedNow s = IsSaturatedAt (base_view s.graph) s.endings.items axioms s.graph s.classes.numbers
+IsSaturatedNow s = IsSaturatedAt (base_view s.graph) s.endings.items (axioms_of s) s.graph s.classes.numbers
 
 -- what is seen of it: there are more matches than the budget; or none joins more; or this list has them all, and some joins more
 abbrev pub Looks : Search → Looked → Type 0
 Looks s (Over n) = (n ≡ suc s.budget) × IsOver s
 Looks s Saturated = (IsOver s → ⊥) × IsSaturatedNow s
-Looks s (Open list) = (IsOver s → ⊥) × (IsSaturatedNow s → ⊥) × AreAllMatches s.graph s.classes.numbers s.endings.items axioms list.items
+Looks s (Open list) = (IsOver s → ⊥) × (IsSaturatedNow s → ⊥) × AreAllMatches s.graph s.classes.numbers s.endings.items (axioms_of s) list.items
 
 -- ---- a round
 
@@ -94,5 +100,6 @@ pub record MakesRound (old new : Graph) (assumed : List ℕ) (begun closed : Cla
 -- it stands one round further on
 pub record GoesOn (old new : Search) : Type 0 where
   pub next : (g : Graph) (k : ℕ) → IsSearch g k old → IsSearch g (suc k) new
+  pub table_ : axioms_of new ≡ axioms_of old
   pub endings_ : new.endings.items ≡ old.endings.items
   pub budget_ : new.budget ≡ old.budget

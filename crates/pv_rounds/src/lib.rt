@@ -8,9 +8,10 @@
 //! `pv_induct` for the classes. The definition that it meets is `Reached` of `pv_heights`: what a search has after k rounds, which is what
 //! is joined at height k of the terms. That the classes are those is shown over `pv_closings`.
 //!
-//! The layer above uses `Search` (`specs/Searching`): `new` begins over a least graph (`Begins`); `look` says that there are more
-//! matches than the budget, that none joins more, or gives the list (`Looks`); and `grow` makes a round by that list
-//! (`GoesOn`), after which the search stands one height further on. So the last look needs no round.
+//! The layer above uses `Search` (`specs/Searching`): `new` begins over a least graph (`Begins`), by a table of some of the axioms
+//! (`AreAxioms` of `pv_axioms`); `look` says that there are more matches than the budget, that none joins more, or gives the list
+//! (`Looks`); and `grow` makes a round by that list (`GoesOn`), after which the search stands one height further on. So the last look
+//! needs no round.
 //!
 //! The rest is private to this crate. `decoded` decodes the matches (`specs/Decoded`), and `standing` tests them
 //! (`specs/Standing`). Which conditions they ask (`asking`, `specs/Asking`) says which tables of witnesses are made (`tables`,

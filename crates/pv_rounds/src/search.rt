@@ -1,10 +1,10 @@
 //! A search: a graph that grows from a least graph, with classes of its nodes.
 
-ghost use Rattle.std.specs.Prelude.{◌≡◌, ◌↔◌, IfOk, IsTrue, OnOk, map};
-ghost use Rattle.pv_axioms.specs.Entries.{axioms};
+ghost use Rattle.std.specs.Prelude.{◌↔◌, IfOk, IsTrue, OnOk, map};
+ghost use Rattle.pv_axioms.specs.Entries.{AreAxioms};
 ghost use Rattle.pv_match.specs.AllMatches.{AreAllMatches};
 ghost use Rattle.pv_pattern.specs.Seen.{axiom_seen};
-ghost use Rattle.pv_rounds.specs.Searching.{Begins, GoesOn, IsBegun, IsLeastGraph, IsSaturatedNow, Looks, MakesRound};
+ghost use Rattle.pv_rounds.specs.Searching.{Begins, GoesOn, IsBegun, IsLeastGraph, IsSaturatedNow, Looks, MakesRound, axioms_of};
 
 use crate::decoded::decode_all;
 use crate::joining::join_all;
@@ -20,7 +20,7 @@ use pv_pattern::Axiom;
 use pv_value::Memory;
 use std::alloc::Global;
 
-/// A search: its graph, the classes of its nodes, the axioms, the nodes that count as ending, the marks of the base, and how
+/// A search: its graph, the classes of its nodes, the axioms by which it goes, the nodes that count as ending, the marks of the base, and how
 /// many matches a round may have. Its classes are closed, with all inductions.
 #[derive(Drop)]
 pub struct Search<'a> {
@@ -44,7 +44,7 @@ pub enum Looked {
 }
 
 impl<'a> Search<'a> {
-    /// The search over a least graph, by all axioms, before its first round. Its classes are what congruence and inductions join.
+    /// The search over a least graph, by some of the axioms, before its first round. Its classes are what congruence and inductions join.
     pub fn new(
         alloc: Global,
         least: &Graph,
@@ -53,8 +53,8 @@ impl<'a> Search<'a> {
         budget: u32,
     ) -> Result<Search<'a>, Memory>
         requires least { IsLeastGraph least.now }
-        requires table { map axiom_seen table.now ≡ axioms }
-        ensures { IfOk result (λ s. Begins least.now endings.items budget s) }
+        requires table { AreAxioms (map axiom_seen table.now) }
+        ensures { IfOk result (λ s. Begins least.now (map axiom_seen table.now) endings.items budget s) }
     {
         let marks = node_marks(alloc, least, &endings)?;
         let graph = least.copy(alloc)?;
@@ -100,7 +100,7 @@ impl<'a> Search<'a> {
     // Whether none of these, which are all matches, joins more.
     fn is_saturated(&self, alloc: Global, list: &[Match]) -> Result<bool, Memory>
         requires begun { IsBegun self.now }
-        requires all { AreAllMatches self.now.graph self.now.classes.numbers self.now.endings.items axioms list.now }
+        requires all { AreAllMatches self.now.graph self.now.classes.numbers self.now.endings.items (axioms_of self.now) list.now }
         ensures { IfOk result (λ yes. IsTrue yes ↔ IsSaturatedNow self.now) }
     {
         let all = decode_all(alloc, self.table, list)?;
@@ -111,7 +111,7 @@ impl<'a> Search<'a> {
     /// congruence and inductions join. After `Memory` the search is given up.
     pub fn grow(&mut self, alloc: Global, list: &[Match]) -> Result<(), Memory>
         requires begun { IsBegun self.old }
-        requires all { AreAllMatches self.old.graph self.old.classes.numbers self.old.endings.items axioms list.now }
+        requires all { AreAllMatches self.old.graph self.old.classes.numbers self.old.endings.items (axioms_of self.old) list.now }
         ensures goes { OnOk result (GoesOn self.old self.new) }
         ensures made { OnOk result (MakesRound self.old.graph self.new.graph self.old.endings.items self.old.classes self.new.classes) }
     {

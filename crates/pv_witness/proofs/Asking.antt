@@ -12,7 +12,8 @@ use Rattle.pv_pattern.specs.Binding.{names}
 use Rattle.pv_scalar.specs.Table.{scalar_axioms}
 use Rattle.pv_loopax.specs.Table.{loop_axioms}
 use Rattle.pv_heapax.specs.Table.{heap_axioms}
-use Rattle.pv_axioms.specs.Entries.{axioms}
+use Rattle.pv_choiceax.specs.Table.{choice_axioms}
+use Rattle.pv_axioms.specs.Entries.{core_axioms, axioms}
 use Rattle.pv_witness.specs.Asked.{asked, AsksOnce, AskOnce}
 use Rattle.pv_witness.specs.AskedTest.{is_some_of, is_constant, is_asked, has_constant, is_alone, are_alone, ask_once}
 
@@ -84,5 +85,11 @@ loops_once = tested loop_axioms refl
 heap_once : AskOnce heap_axioms
 heap_once = tested heap_axioms refl
 
+choices_once : AskOnce choice_axioms
+choices_once = tested choice_axioms refl
+
+core_once : AskOnce core_axioms
+core_once = append_all AsksOnce scalar_axioms (loop_axioms ++ heap_axioms) scalar_once (append_all AsksOnce loop_axioms heap_axioms loops_once heap_once)
+
 pub all_once : AskOnce axioms
-all_once = append_all AsksOnce scalar_axioms (loop_axioms ++ heap_axioms) scalar_once (append_all AsksOnce loop_axioms heap_axioms loops_once heap_once)
+all_once = append_all AsksOnce core_axioms choice_axioms core_once choices_once

@@ -1,31 +1,26 @@
 use Rattle.std.proofs.Common.{ℕ, List, map, length, refl, sym, ◌∙◌, subst}
-use Rattle.pv_pattern.specs.Patterns.{Axiom}
-use Rattle.pv_axioms.specs.Entries.{NumbersOnce}
-use Rattle.pv_axioms.proofs.Numbers.{numbers_once}
 use Rattle.pv_heights.specs.Searches.{OneClass}
 use Rattle.pv_instances.specs.Classes.{JoinedHaveOneSort}
-use Rattle.pv_match.specs.Reading.{AreReadable}
 use Rattle.pv_witness.specs.Numbered.{numbered}
 use Rattle.pv_saturate.specs.declared.decoding.Decoded.{Decoded}
 use Rattle.pv_saturate.specs.Decoding.{decoded_seen}
 use Rattle.pv_rounds.specs.declared.owed.Owed.{Owed}
-use Rattle.pv_rounds.specs.Decoded.{AreShown}
 use Rattle.pv_rounds.specs.Owed.{AreMatches}
 use Rattle.pv_rounds.specs.Joining.{AreWithin, JoinsAll}
-use Rattle.pv_rounds.proofs.Searching.{all_readable, are_shown, all_decoded, sorts_numbered, are_matches, adds_here, first_known, sides_within, next_search}
+use Rattle.pv_rounds.specs.Searching.{axioms_of}
+use Rattle.pv_rounds.proofs.Searching.{readable, are_shown, all_decoded, sorts_numbered, are_matches, adds_here, first_known, sides_within, next_search}
 use Rattle.pv_rounds.proofs.search.Search.grow.Goals as goal
 
 pub decode_all-requires-clause-readable : goal.decode_all-requires-clause-readable
-decode_all-requires-clause-readable c = let (g, k, is) = c.requires.begun in subst AreReadable (sym is.table_) all_readable
+decode_all-requires-clause-readable c = let (g, k, is) = c.requires.begun in readable g k c.args.self.now is
 
 pub decode_all-requires-clause-once : goal.decode_all-requires-clause-once
-decode_all-requires-clause-once c = let (g, k, is) = c.requires.begun in subst NumbersOnce (sym is.table_) numbers_once
+decode_all-requires-clause-once c = let (g, k, is) = c.requires.begun in is.table_.once
 
 pub decode_all-requires-clause-shown : goal.decode_all-requires-clause-shown
 decode_all-requires-clause-shown c =
-    let (g, k, is) = c.requires.begun in
     let s = c.args.self.now in
-    subst (λ (t : List Axiom). AreShown t c.args.list.now) (sym is.table_) (are_shown s.graph s.classes.numbers s.endings.items c.args.list.now c.requires.all)
+    are_shown s.graph s.classes.numbers s.endings.items (axioms_of s) c.args.list.now c.requires.all
 
 pub add_all-requires-clause-sorts : goal.add_all-requires-clause-sorts
 add_all-requires-clause-sorts c =
@@ -70,6 +65,7 @@ returns-clause-goes c =
       next = λ g k is.
           next_search g k s (record { graph = c.add_all.new.graph; classes = c.induct.new.c; table = s.table; endings = s.endings; marks = s.marks; budget = s.budget }) is (map decoded_seen ds) owed c.grow.new.self c.join_all.new.classes c.in_ok-induct.field-0
           c.len-here.ensures.graph (all_decoded g k s is c.args.list.now (map decoded_seen ds) c.requires.all c.in_ok-all.ensures.same) adds c.in_ok-grow.ensures joined c.in_ok-induct.ensures refl refl refl;
+      table_ = refl;
       endings_ = refl;
       budget_ = refl;
     }

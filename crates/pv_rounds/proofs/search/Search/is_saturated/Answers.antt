@@ -1,28 +1,22 @@
 use Rattle.std.proofs.Common.{◌↔◌, Bool, List, IsTrue, map, sym, subst}
-use Rattle.pv_pattern.specs.Patterns.{Axiom}
-use Rattle.pv_axioms.specs.Entries.{NumbersOnce}
-use Rattle.pv_axioms.proofs.Numbers.{numbers_once}
 use Rattle.pv_instances.proofs.Cited.{if_ok_more}
-use Rattle.pv_match.specs.Reading.{AreReadable}
 use Rattle.pv_saturate.specs.declared.decoding.Decoded.{Decoded}
 use Rattle.pv_saturate.specs.Decoding.{decoded_seen}
-use Rattle.pv_rounds.specs.Decoded.{AreShown}
 use Rattle.pv_rounds.specs.Standing.{AllStand, AreOver}
-use Rattle.pv_rounds.specs.Searching.{IsSaturatedNow}
-use Rattle.pv_rounds.proofs.Searching.{all_readable, are_shown, congruence, all_decoded, are_over, saturated_by}
+use Rattle.pv_rounds.specs.Searching.{axioms_of, IsSaturatedNow}
+use Rattle.pv_rounds.proofs.Searching.{readable, are_shown, congruence, all_decoded, are_over, saturated_by}
 use Rattle.pv_rounds.proofs.search.Search.is_saturated.Goals as goal
 
 pub decode_all-requires-clause-readable : goal.decode_all-requires-clause-readable
-decode_all-requires-clause-readable c = let (g, k, is) = c.requires.begun in subst AreReadable (sym is.table_) all_readable
+decode_all-requires-clause-readable c = let (g, k, is) = c.requires.begun in readable g k c.args.self.now is
 
 pub decode_all-requires-clause-once : goal.decode_all-requires-clause-once
-decode_all-requires-clause-once c = let (g, k, is) = c.requires.begun in subst NumbersOnce (sym is.table_) numbers_once
+decode_all-requires-clause-once c = let (g, k, is) = c.requires.begun in is.table_.once
 
 pub decode_all-requires-clause-shown : goal.decode_all-requires-clause-shown
 decode_all-requires-clause-shown c =
-    let (g, k, is) = c.requires.begun in
     let s = c.args.self.now in
-    subst (λ (t : List Axiom). AreShown t c.args.list.now) (sym is.table_) (are_shown s.graph s.classes.numbers s.endings.items c.args.list.now c.requires.all)
+    are_shown s.graph s.classes.numbers s.endings.items (axioms_of s) c.args.list.now c.requires.all
 
 pub all_stand-requires-clause-congruence : goal.all_stand-requires-clause-congruence
 all_stand-requires-clause-congruence c = let (g, k, is) = c.requires.begun in congruence g k c.args.self.now is

@@ -10,6 +10,7 @@ returns c = record {
   found = c.in_ok-induct.field-0;
   fresh = c.in_ok-classes.ensures;
   inducts = c.in_ok-induct.ensures;
+  table_ = refl;
   endings_ = refl;
   budget_ = refl;
 }

@@ -1,5 +1,5 @@
 -- What two runs on a try show, and what is found by the first of them.
-use Rattle.std.proofs.Common.{◌≡◌, ◌↔◌, ℕ, ◌+◌, ◌<◌, ◌≤◌, Bool, true, false, Some, refl, sym, ap, subst, ◌∙◌, arith}
+use Rattle.std.proofs.Common.{◌≡◌, ◌↔◌, ℕ, ◌+◌, ◌<◌, ◌≤◌, Bool, true, false, refl, sym, ap, subst, ◌∙◌, arith}
 use Rattle.std.specs.Prelude.{IsTrue, not}
 use borrow.Author.Count.{below_more}
 use Rattle.pv_value.specs.declared.outcome.Input.{Input}
@@ -7,19 +7,18 @@ use Rattle.pv_value.specs.declared.outcome.Outcome.{Outcome}
 use Rattle.pv_value.specs.declared.world.World.{World}
 use Rattle.pv_frame.specs.declared.program.Program.{Program}
 use Rattle.pv_machine.specs.Machine.{ended}
-use Rattle.pv_machine.specs.Steps.{HasEndedAfter}
 use Rattle.pv_refute.specs.declared.refuting.Found.{Found}
 use Rattle.pv_refute.specs.declared.refuting.Found.TheVariants.{Differs, Tried}
 use Rattle.pv_refute.specs.Tries.{try_input, try_world}
-use Rattle.pv_refute.specs.Differences.{Trial, DifferWithin, DifferOn, IsFound}
+use Rattle.pv_refute.specs.Differences.{Trial, EndsWithin, DifferWithin, DifferOn, IsFound}
 
 -- ---- two runs
 
-end_once : (p : Program) (w : World) (x : Input) (n : ℕ) (o q : Outcome) → HasEndedAfter p w x n (Some o) → HasEndedAfter p w x n (Some q) → o ≡ q
+end_once : (p : Program) (w : World) (x : Input) (n : ℕ) (o q : Outcome) → EndsWithin n p w x o → EndsWithin n p w x q → o ≡ q
 end_once p w x n o q e d = let both : ended o ≡ ended q = sym e ∙ d in cc both
 
 -- where both have ended, they differ exactly where the outcomes do
-pub both_end : (n : ℕ) (p q : Program) (w : World) (x : Input) (one two : Outcome) (same : Bool) → HasEndedAfter p w x n (Some one) → HasEndedAfter q w x n (Some two) → (IsTrue same ↔ (one ≡ two)) → IsTrue (not same) ↔ DifferWithin n p q w x
+pub both_end : (n : ℕ) (p q : Program) (w : World) (x : Input) (one two : Outcome) (same : Bool) → EndsWithin n p w x one → EndsWithin n q w x two → (IsTrue same ↔ (one ≡ two)) → IsTrue (not same) ↔ DifferWithin n p q w x
 both_end n p q w x one two true e d is = (
   λ no. absurd (cc no),
   λ h. absurd (h.apart (end_once p w x n h.one one h.first_ends e ∙ is.0 refl ∙ end_once q w x n two h.two d h.second_ends)),

@@ -1,5 +1,5 @@
 -- Tries on which two methods end in different ways.
-use Rattle.std.specs.Prelude.{◌≡◌, ◌≢◌, ℕ, ◌≤◌, Some}
+use Rattle.std.specs.Prelude.{◌≡◌, ◌≢◌, ℕ, ◌≤◌}
 use Rattle.pv_value.specs.declared.descriptor.Descriptor.{Descriptor}
 use Rattle.pv_value.specs.declared.outcome.Input.{Input}
 use Rattle.pv_value.specs.declared.outcome.Outcome.{Outcome}
@@ -7,8 +7,7 @@ use Rattle.pv_value.specs.declared.world.World.{World}
 use Rattle.pv_class.specs.declared.file.ClassFile.{ClassFile}
 use Rattle.pv_class.specs.declared.file.Method.{Method}
 use Rattle.pv_frame.specs.declared.program.Program.{Program}
-use Rattle.pv_machine.specs.Machine.{Ends}
-use Rattle.pv_machine.specs.Steps.{HasEndedAfter}
+use Rattle.pv_machine.specs.Machine.{Ends, start, after, ended}
 use Rattle.pv_refute.specs.declared.refuting.Found.{Found}
 use Rattle.pv_refute.specs.declared.refuting.Found.TheVariants.{Differs, Tried}
 use Rattle.pv_refute.specs.Tries.{try_world, try_input}
@@ -21,12 +20,16 @@ pub record Trial : Type 0 where
   pub tries : ℕ
   pub steps : ℕ
 
+-- the run of a program from its start ends so within so many steps
+abbrev pub EndsWithin : ℕ → Program → World → Input → Outcome → Type 0
+EndsWithin steps p w input o = after p w (start p input) steps ≡ ended o
+
 -- both programs end within so many steps, with different outcomes
 pub record DifferWithin (steps : ℕ) (first second : Program) (w : World) (input : Input) : Type 0 where
   pub one : Outcome
   pub two : Outcome
-  pub first_ends : HasEndedAfter first w input steps (Some one)
-  pub second_ends : HasEndedAfter second w input steps (Some two)
+  pub first_ends : EndsWithin steps first w input one
+  pub second_ends : EndsWithin steps second w input two
   pub apart : one ≢ two
 
 -- .. so they do on try t

@@ -5,13 +5,13 @@ use Rattle.pv_base.specs.Stored.{Stored, AreBytes}
 use Rattle.pv_report.specs.declared.pair.Fetched.{Fetched}
 use Rattle.pv_report.specs.declared.status.Status.{Status}
 use Rattle.pv_top.specs.declared.words.Command.{Command}
-use Rattle.pv_top.specs.declared.words.Command.TheVariants.{Validate, Check}
+use Rattle.pv_top.specs.declared.words.Command.TheVariants.{Validate, Check, Refute}
 use Rattle.pv_top.specs.Words.{fetches, first_of, second_of}
 use Rattle.pv_top.specs.Run.{Says, SaidOf, Answered, IsAnswer}
 use Rattle.pv_top.specs.Promise.{EachEquivalent, Holds}
 use Rattle.pv_top.specs.Fetching.{HoldAll, AreFetched, AnswersFetched}
 use Rattle.pv_top.proofs.Saying.{answer_said, each_equivalent, result_said, said_lines, is_said, IsTrueOf}
-use Rattle.pv_top.proofs.TrueLines.{judged_line, ruled_line}
+use Rattle.pv_top.proofs.TrueLines.{judged_line, refuted_line, ruled_line}
 
 -- the bytes that were fetched
 pub record Contents (held : Option Stored) (all : List (List ℕ × ℕ)) (fetched : List Fetched) : Type 0 where
@@ -43,8 +43,9 @@ said_result held c old new rose result s = result_said old new s.text s.meant re
 
 -- each whole line that says `equivalent` is true
 answer_lines : (held : Option Stored) (c : Command (List ℕ)) (contents : List (List ℕ)) (text : List ℕ) (s : Status) → AllZip (λ (f : List ℕ × ℕ) (bytes : List ℕ). Holds held f.0 bytes) (fetches c) contents → AllByRecursion AreBytes contents → IsAnswer c contents text s → IsTrueOf held (first_of c) (second_of c) text
-answer_lines held (Validate a b rounds budget cert) (x ∷ y ∷ []) text s h bytes is = judged_line held (record { rounds = rounds; budget = budget }) a b x y text s (record { first_held = h.0; second_held = h.1.0; first_bytes = bytes.0; second_bytes = bytes.1.0 }) is
+answer_lines held (Validate a b axioms rounds budget cert) (x ∷ y ∷ []) text s h bytes is = judged_line held (record { axioms = axioms; rounds = rounds; budget = budget }) a b x y text s (record { first_held = h.0; second_held = h.1.0; first_bytes = bytes.0; second_bytes = bytes.1.0 }) is
 answer_lines held (Check a b c) (x ∷ y ∷ z ∷ []) text s h bytes is = ruled_line held a b x y z text s (record { first_held = h.0; second_held = h.1.0; first_bytes = bytes.0; second_bytes = bytes.1.0 }) is
+answer_lines held (Refute a b tries steps) (x ∷ y ∷ []) text s h bytes is = refuted_line held (record { tries = tries; steps = steps }) a b x y text s is
 answer_lines held _ _ text s h bytes is = absurd is
 
 pub answered_equivalent : (held : Option Stored) (c : Command (List ℕ)) (old new : Option (List ℕ)) (files_rose write_rose : Type 0) (result : Status) → Answered held (Some c) old new files_rose write_rose result → EachEquivalent held (first_of c) (second_of c) old new

@@ -5,14 +5,16 @@ use Rattle.std.specs.Borrow.{Bor}
 use Rattle.std.specs.Str.{bytes_eq}
 use Rattle.std.proofs.lemmas.Slice.Eq.{bytes_eq-Decides}
 use Rattle.pv_value.specs.declared.memory.Memory.{Memory}
+use Rattle.pv_prove.specs.declared.table.AxiomSet.{AxiomSet}
+use Rattle.pv_prove.specs.declared.table.AxiomSet.TheVariants.{Core, All}
 use Rattle.pv_words.specs.Answers.{texts}
 use Rattle.pv_words.specs.Words.{Give}
 use Rattle.pv_words.proofs.Cited.{is_one, one_number}
-use Rattle.pv_top.specs.declared.words.TheConstants.{DEFAULT_ROUNDS, MOST_ROUNDS, DEFAULT_BUDGET, MOST_BUDGET}
+use Rattle.pv_top.specs.declared.words.TheConstants.{DEFAULT_ROUNDS, MOST_ROUNDS, DEFAULT_BUDGET, MOST_BUDGET, DEFAULT_TRIES, MOST_TRIES, DEFAULT_STEPS, MOST_STEPS}
 use Rattle.pv_top.specs.declared.words.Command.{Command}
-use Rattle.pv_top.specs.declared.words.Command.TheVariants.{Validate, Check}
+use Rattle.pv_top.specs.declared.words.Command.TheVariants.{Validate, Check, Refute}
 use Rattle.pv_top.specs.Commands.{named}
-use Rattle.pv_top.specs.Words.{AreOf, IsCommand, IsLimit, check_words, validate_words}
+use Rattle.pv_top.specs.Words.{AreOf, IsCommand, IsLimit, IsSet, set_word, check_words, refute_words, validate_words}
 
 -- ---- the words are one command at most
 
@@ -20,18 +22,30 @@ limit_once : (least most default : ℕ) (given : Option (List ℕ)) (m n : ℕ) 
 limit_once least most default None m n lt p q = p ∙ sym q
 limit_once least most default (Some text) m n lt p q = one_number least most text m n lt p q
 
+one_word : (s t : AxiomSet) → set_word s ≡ set_word t → s ≡ t
+one_word Core Core e = refl
+one_word All All e = refl
+one_word Core All e = absurd (cc e)
+one_word All Core e = absurd (cc e)
+
+set_once : (given : Option (List ℕ)) (s t : AxiomSet) → IsSet given s → IsSet given t → s ≡ t
+set_once None s t p q = p ∙ sym q
+set_once (Some text) s t p q = one_word s t (sym p ∙ q)
+
 words_once : (words : List (List ℕ)) (c d : Command (List ℕ)) → AreOf words c → AreOf words d → c ≡ d
-words_once words (Validate a b r k cert) (Validate x y s l file) (rest, is, p) (more, are, q) =
+words_once words (Validate a b t r k cert) (Validate x y u s l file) (rest, is, p) (more, are, q) =
     let same : rest ≡ more = let e = sym is ∙ are in cc e in
-    let one = is_one validate_words refl more _ _ _ _ (subst (λ (w : List (List ℕ)). Give validate_words w (p.rounds_word ∷ p.budget_word ∷ cert ∷ []) (a ∷ b ∷ [])) same p.given) q.given in
+    let one = is_one validate_words refl more _ _ _ _ (subst (λ (w : List (List ℕ)). Give validate_words w (p.axioms_word ∷ p.rounds_word ∷ p.budget_word ∷ cert ∷ []) (a ∷ b ∷ [])) same p.given) q.given in
+    let name : p.axioms_word ≡ q.axioms_word = let e = one.0 in cc e in
     let words : p.rounds_word ≡ q.rounds_word = let e = one.0 in cc e in
     let text : p.budget_word ≡ q.budget_word = let e = one.0 in cc e in
     let third : cert ≡ file = let e = one.0 in cc e in
     let first : a ≡ x = let e = one.1 in cc e in
     let second : b ≡ y = let e = one.1 in cc e in
+    let axioms : t ≡ u = set_once q.axioms_word t u (subst (λ (o : Option (List ℕ)). IsSet o t) name p.axioms_are) q.axioms_are in
     let rounds : r ≡ s = limit_once 0 MOST_ROUNDS DEFAULT_ROUNDS q.rounds_word r s (omega arith) (subst (λ (o : Option (List ℕ)). IsLimit 0 MOST_ROUNDS DEFAULT_ROUNDS o r) words p.rounds_are) q.rounds_are in
     let budget : k ≡ l = limit_once 1 MOST_BUDGET DEFAULT_BUDGET q.budget_word k l (omega arith) (subst (λ (o : Option (List ℕ)). IsLimit 1 MOST_BUDGET DEFAULT_BUDGET o k) text p.budget_is) q.budget_is in
-    cc (first, second, rounds, budget, third)
+    cc (first, second, axioms, rounds, budget, third)
 words_once words (Check a b c) (Check x y z) (rest, is, p) (more, are, q) =
     let same : rest ≡ more = let e = sym is ∙ are in cc e in
     let one = is_one check_words refl more _ _ _ _ (subst (λ (w : List (List ℕ)). Give check_words w [] (a ∷ b ∷ c ∷ [])) same p) q in
@@ -39,8 +53,17 @@ words_once words (Check a b c) (Check x y z) (rest, is, p) (more, are, q) =
     let second : b ≡ y = let e = one.1 in cc e in
     let third : c ≡ z = let e = one.1 in cc e in
     cc (first, second, third)
-words_once words (Validate a b r k cert) (Check x y z) (rest, is, p) (more, are, q) = absurd (let e = sym is ∙ are in cc e)
-words_once words (Check x y z) (Validate a b r k cert) (rest, is, p) (more, are, q) = absurd (let e = sym is ∙ are in cc e)
+words_once words (Refute a b r k) (Refute x y s l) (rest, is, p) (more, are, q) =
+    let same : rest ≡ more = let e = sym is ∙ are in cc e in
+    let one = is_one refute_words refl more _ _ _ _ (subst (λ (w : List (List ℕ)). Give refute_words w (p.tries_word ∷ p.steps_word ∷ []) (a ∷ b ∷ [])) same p.given) q.given in
+    let words : p.tries_word ≡ q.tries_word = let e = one.0 in cc e in
+    let text : p.steps_word ≡ q.steps_word = let e = one.0 in cc e in
+    let first : a ≡ x = let e = one.1 in cc e in
+    let second : b ≡ y = let e = one.1 in cc e in
+    let tries : r ≡ s = limit_once 1 MOST_TRIES DEFAULT_TRIES q.tries_word r s (omega arith) (subst (λ (o : Option (List ℕ)). IsLimit 1 MOST_TRIES DEFAULT_TRIES o r) words p.tries_are) q.tries_are in
+    let steps : k ≡ l = limit_once 1 MOST_STEPS DEFAULT_STEPS q.steps_word k l (omega arith) (subst (λ (o : Option (List ℕ)). IsLimit 1 MOST_STEPS DEFAULT_STEPS o k) text p.steps_are) q.steps_are in
+    cc (first, second, tries, steps)
+words_once words _ _ (rest, is, p) (more, are, q) = absurd (let e = sym is ∙ are in cc e)
 
 pub one_command : (words : List (List ℕ)) (c d : Option (Command (List ℕ))) → IsCommand words c → IsCommand words d → c ≡ d
 one_command words None None p q = refl
@@ -60,41 +83,76 @@ whole_words whole words r e h = subst (λ (ws : List (List ℕ)). IfOk r (λ c. 
 -- words that give `check` nothing are no command
 pub no_check : (rest : List (List ℕ)) → ((o : List (Option (List ℕ))) (a : List (List ℕ)) → Give check_words rest o a → ⊥) → (c : Command (List ℕ)) → AreOf (codes "check" ∷ rest) c → ⊥
 no_check rest none (Check a b cert) (more, e, g) = none [] (a ∷ b ∷ cert ∷ []) (subst (λ (w : List (List ℕ)). Give check_words w [] (a ∷ b ∷ cert ∷ [])) (let same : more ≡ rest = cc (sym e) in same) g)
-no_check rest none (Validate a b rounds budget cert) (more, e, g) = absurd (cc e)
+no_check rest none _ (more, e, g) = absurd (cc e)
 
 -- nor are words that give `validate` nothing
 pub no_validate : (rest : List (List ℕ)) → ((o : List (Option (List ℕ))) (a : List (List ℕ)) → Give validate_words rest o a → ⊥) → (c : Command (List ℕ)) → AreOf (codes "validate" ∷ rest) c → ⊥
-no_validate rest none (Validate a b rounds budget cert) (more, e, g) =
-    none (g.rounds_word ∷ g.budget_word ∷ cert ∷ []) (a ∷ b ∷ []) (subst (λ (w : List (List ℕ)). Give validate_words w (g.rounds_word ∷ g.budget_word ∷ cert ∷ []) (a ∷ b ∷ [])) (let same : more ≡ rest = cc (sym e) in same) g.given)
-no_validate rest none (Check a b cert) (more, e, g) = absurd (cc e)
+no_validate rest none (Validate a b axioms rounds budget cert) (more, e, g) =
+    none (g.axioms_word ∷ g.rounds_word ∷ g.budget_word ∷ cert ∷ []) (a ∷ b ∷ []) (subst (λ (w : List (List ℕ)). Give validate_words w (g.axioms_word ∷ g.rounds_word ∷ g.budget_word ∷ cert ∷ []) (a ∷ b ∷ [])) (let same : more ≡ rest = cc (sym e) in same) g.given)
+no_validate rest none _ (more, e, g) = absurd (cc e)
 
--- nor those of which a limit is no number within its bounds
-pub no_limit : (rest : List (List ℕ)) (r k cert : Option (List ℕ)) (a : List (List ℕ)) → Give validate_words rest (r ∷ k ∷ cert ∷ []) a → (((n : ℕ) → IsLimit 0 MOST_ROUNDS DEFAULT_ROUNDS r n → ⊥) ⊎ ((n : ℕ) → IsLimit 1 MOST_BUDGET DEFAULT_BUDGET k n → ⊥))
-    → (c : Command (List ℕ)) → AreOf (codes "validate" ∷ rest) c → ⊥
-no_limit rest r k cert a given none (Check x y z) (more, e, g) = absurd (cc e)
-no_limit rest r k cert a given none (Validate x y rounds budget file) (more, e, g) =
+-- nor are words that give `refute` nothing
+pub no_refute : (rest : List (List ℕ)) → ((o : List (Option (List ℕ))) (a : List (List ℕ)) → Give refute_words rest o a → ⊥) → (c : Command (List ℕ)) → AreOf (codes "refute" ∷ rest) c → ⊥
+no_refute rest none (Refute a b tries steps) (more, e, g) =
+    none (g.tries_word ∷ g.steps_word ∷ []) (a ∷ b ∷ []) (subst (λ (w : List (List ℕ)). Give refute_words w (g.tries_word ∷ g.steps_word ∷ []) (a ∷ b ∷ [])) (let same : more ≡ rest = cc (sym e) in same) g.given)
+no_refute rest none _ (more, e, g) = absurd (cc e)
+
+-- nor those of which an option names no axioms, or a limit is no number within its bounds
+abbrev pub IsNoValue : (t r k : Option (List ℕ)) → Type 0
+IsNoValue t r k = ((s : AxiomSet) → IsSet t s → ⊥) ⊎ (((n : ℕ) → IsLimit 0 MOST_ROUNDS DEFAULT_ROUNDS r n → ⊥) ⊎ ((n : ℕ) → IsLimit 1 MOST_BUDGET DEFAULT_BUDGET k n → ⊥))
+
+no_value : (rest : List (List ℕ)) (t r k cert : Option (List ℕ)) (a : List (List ℕ)) → Give validate_words rest (t ∷ r ∷ k ∷ cert ∷ []) a → IsNoValue t r k → (c : Command (List ℕ)) → AreOf (codes "validate" ∷ rest) c → ⊥
+no_value rest t r k cert a given none (Validate x y axioms rounds budget file) (more, e, g) =
     let same : more ≡ rest = cc (sym e) in
-    let one = is_one validate_words refl rest _ _ _ _ given (subst (λ (w : List (List ℕ)). Give validate_words w (g.rounds_word ∷ g.budget_word ∷ file ∷ []) (x ∷ y ∷ [])) same g.given) in
+    let one = is_one validate_words refl rest _ _ _ _ given (subst (λ (w : List (List ℕ)). Give validate_words w (g.axioms_word ∷ g.rounds_word ∷ g.budget_word ∷ file ∷ []) (x ∷ y ∷ [])) same g.given) in
+    let name : t ≡ g.axioms_word = let f = one.0 in cc f in
     let words : r ≡ g.rounds_word = let f = one.0 in cc f in
     let text : k ≡ g.budget_word = let f = one.0 in cc f in
     elim none [
-      | inl n ↦ n rounds (subst (λ (o : Option (List ℕ)). IsLimit 0 MOST_ROUNDS DEFAULT_ROUNDS o rounds) (sym words) g.rounds_are)
-      | inr n ↦ n budget (subst (λ (o : Option (List ℕ)). IsLimit 1 MOST_BUDGET DEFAULT_BUDGET o budget) (sym text) g.budget_is)
+      | inl n ↦ n axioms (subst (λ (o : Option (List ℕ)). IsSet o axioms) (sym name) g.axioms_are)
+      | inr (inl n) ↦ n rounds (subst (λ (o : Option (List ℕ)). IsLimit 0 MOST_ROUNDS DEFAULT_ROUNDS o rounds) (sym words) g.rounds_are)
+      | inr (inr n) ↦ n budget (subst (λ (o : Option (List ℕ)). IsLimit 1 MOST_BUDGET DEFAULT_BUDGET o budget) (sym text) g.budget_is)
     ]
+no_value rest t r k cert a given none _ (more, e, g) = absurd (cc e)
+
+no_try_limit : (rest : List (List ℕ)) (r k : Option (List ℕ)) (a : List (List ℕ)) → Give refute_words rest (r ∷ k ∷ []) a → (((n : ℕ) → IsLimit 1 MOST_TRIES DEFAULT_TRIES r n → ⊥) ⊎ ((n : ℕ) → IsLimit 1 MOST_STEPS DEFAULT_STEPS k n → ⊥))
+    → (c : Command (List ℕ)) → AreOf (codes "refute" ∷ rest) c → ⊥
+no_try_limit rest r k a given none (Refute x y tries steps) (more, e, g) =
+    let same : more ≡ rest = cc (sym e) in
+    let one = is_one refute_words refl rest _ _ _ _ given (subst (λ (w : List (List ℕ)). Give refute_words w (g.tries_word ∷ g.steps_word ∷ []) (x ∷ y ∷ [])) same g.given) in
+    let words : r ≡ g.tries_word = let f = one.0 in cc f in
+    let text : k ≡ g.steps_word = let f = one.0 in cc f in
+    elim none [
+      | inl n ↦ n tries (subst (λ (o : Option (List ℕ)). IsLimit 1 MOST_TRIES DEFAULT_TRIES o tries) (sym words) g.tries_are)
+      | inr n ↦ n steps (subst (λ (o : Option (List ℕ)). IsLimit 1 MOST_STEPS DEFAULT_STEPS o steps) (sym text) g.steps_are)
+    ]
+no_try_limit rest r k a given none _ (more, e, g) = absurd (cc e)
 
 -- the same, by what was read
 abbrev pub text_of : Option (Bor (List ℕ)) → Option (List ℕ)
 text_of o = option_map (λ s. s.now) o
 
 module _ (rest : List (List ℕ)) where
-  pub no_limit_at : (options : List (Option (Bor (List ℕ)))) (arguments : List (Bor (List ℕ))) → Give validate_words rest (map text_of options) (texts arguments) → length options ≡ 3
-      → (((n : ℕ) → IsLimit 0 MOST_ROUNDS DEFAULT_ROUNDS (text_of (slice_index_or options 0 None)) n → ⊥) ⊎ ((n : ℕ) → IsLimit 1 MOST_BUDGET DEFAULT_BUDGET (text_of (slice_index_or options 1 None)) n → ⊥))
-      → (c : Command (List ℕ)) → AreOf (codes "validate" ∷ rest) c → ⊥
-  no_limit_at (r ∷ k ∷ cert ∷ []) arguments given long none = no_limit rest (text_of r) (text_of k) (text_of cert) (texts arguments) given none
-  no_limit_at _ arguments given long none = absurd (omega (arith, long))
+  pub no_value_at : (options : List (Option (Bor (List ℕ)))) (arguments : List (Bor (List ℕ))) → Give validate_words rest (map text_of options) (texts arguments) → length options ≡ 4
+      → IsNoValue (text_of (slice_index_or options 0 None)) (text_of (slice_index_or options 1 None)) (text_of (slice_index_or options 2 None)) → (c : Command (List ℕ)) → AreOf (codes "validate" ∷ rest) c → ⊥
+  no_value_at (t ∷ r ∷ k ∷ cert ∷ []) arguments given long none = no_value rest (text_of t) (text_of r) (text_of k) (text_of cert) (texts arguments) given none
+  no_value_at _ arguments given long none = absurd (omega (arith, long))
 
-  pub is_validate : (options : List (Option (Bor (List ℕ)))) (arguments : List (Bor (List ℕ))) (d : Bor (List ℕ)) (rounds budget : ℕ) → Give validate_words rest (map text_of options) (texts arguments) → length options ≡ 3 → length arguments ≡ 2
-      → IsLimit 0 MOST_ROUNDS DEFAULT_ROUNDS (text_of (slice_index_or options 0 None)) rounds → IsLimit 1 MOST_BUDGET DEFAULT_BUDGET (text_of (slice_index_or options 1 None)) budget
-      → AreOf (codes "validate" ∷ rest) (Validate (slice_index_or arguments 0 d).now (slice_index_or arguments 1 d).now rounds budget (text_of (slice_index_or options 2 None)))
-  is_validate (r ∷ k ∷ cert ∷ []) (a ∷ b ∷ []) d rounds budget given long two p q = (rest, refl, record { rounds_word = text_of r; budget_word = text_of k; given = given; rounds_are = p; budget_is = q })
-  is_validate _ _ d rounds budget given long two p q = absurd (omega (arith, long, two))
+  pub is_validate : (options : List (Option (Bor (List ℕ)))) (arguments : List (Bor (List ℕ))) (d : Bor (List ℕ)) (axioms : AxiomSet) (rounds budget : ℕ) → Give validate_words rest (map text_of options) (texts arguments) → length options ≡ 4 → length arguments ≡ 2
+      → IsSet (text_of (slice_index_or options 0 None)) axioms → IsLimit 0 MOST_ROUNDS DEFAULT_ROUNDS (text_of (slice_index_or options 1 None)) rounds → IsLimit 1 MOST_BUDGET DEFAULT_BUDGET (text_of (slice_index_or options 2 None)) budget
+      → AreOf (codes "validate" ∷ rest) (Validate (slice_index_or arguments 0 d).now (slice_index_or arguments 1 d).now axioms rounds budget (text_of (slice_index_or options 3 None)))
+  is_validate (t ∷ r ∷ k ∷ cert ∷ []) (a ∷ b ∷ []) d axioms rounds budget given long two h p q =
+      (rest, refl, record { axioms_word = text_of t; rounds_word = text_of r; budget_word = text_of k; given = given; axioms_are = h; rounds_are = p; budget_is = q })
+  is_validate _ _ d axioms rounds budget given long two h p q = absurd (omega (arith, long, two))
+
+  pub no_try_limit_at : (options : List (Option (Bor (List ℕ)))) (arguments : List (Bor (List ℕ))) → Give refute_words rest (map text_of options) (texts arguments) → length options ≡ 2
+      → (((n : ℕ) → IsLimit 1 MOST_TRIES DEFAULT_TRIES (text_of (slice_index_or options 0 None)) n → ⊥) ⊎ ((n : ℕ) → IsLimit 1 MOST_STEPS DEFAULT_STEPS (text_of (slice_index_or options 1 None)) n → ⊥))
+      → (c : Command (List ℕ)) → AreOf (codes "refute" ∷ rest) c → ⊥
+  no_try_limit_at (r ∷ k ∷ []) arguments given long none = no_try_limit rest (text_of r) (text_of k) (texts arguments) given none
+  no_try_limit_at _ arguments given long none = absurd (omega (arith, long))
+
+  pub is_refute : (options : List (Option (Bor (List ℕ)))) (arguments : List (Bor (List ℕ))) (d : Bor (List ℕ)) (tries steps : ℕ) → Give refute_words rest (map text_of options) (texts arguments) → length options ≡ 2 → length arguments ≡ 2
+      → IsLimit 1 MOST_TRIES DEFAULT_TRIES (text_of (slice_index_or options 0 None)) tries → IsLimit 1 MOST_STEPS DEFAULT_STEPS (text_of (slice_index_or options 1 None)) steps
+      → AreOf (codes "refute" ∷ rest) (Refute (slice_index_or arguments 0 d).now (slice_index_or arguments 1 d).now tries steps)
+  is_refute (r ∷ k ∷ []) (a ∷ b ∷ []) d tries steps given long two p q = (rest, refl, record { tries_word = text_of r; steps_word = text_of k; given = given; tries_are = p; steps_are = q })
+  is_refute _ _ d tries steps given long two p q = absurd (omega (arith, long, two))

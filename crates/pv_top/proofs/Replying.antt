@@ -51,7 +51,7 @@ judged_report limits a b text status.BadClass other h = absurd (other refl)
 judged_report limits a b text _ other h = absurd h.2
 
 placed_report : (c : Command (List ℕ)) (contents : List (List ℕ)) (p : List ℕ × List ℕ) (text : List ℕ) (s : Status) → IsAnswer c contents text s → Places c contents s (Some p) → is_report s ≡ true
-placed_report (Validate a b rounds budget cert) (x ∷ y ∷ []) p text s answer places = judged_report (record { rounds = rounds; budget = budget }) x y text s places.2 answer
+placed_report (Validate a b axioms rounds budget cert) (x ∷ y ∷ []) p text s answer places = judged_report (record { axioms = axioms; rounds = rounds; budget = budget }) x y text s places.2 answer
 placed_report _ _ p text s answer places = absurd places.1
 
 -- what is said has its own status, or that of a fault of the sink

@@ -5,12 +5,14 @@ use Rattle.std.proofs.lemmas.List.{append_cancel_left, append-nil, take-append-d
 use Rattle.pv_base.specs.Stored.{Stored}
 use Rattle.pv_base.specs.Outside.{more}
 use Rattle.pv_prove.specs.declared.outcome.Limits.{Limits}
+use Rattle.pv_differences.specs.declared.finding.RunLimits.{RunLimits}
+use Rattle.pv_differences.specs.Refuted.{Refuted}
 use Rattle.pv_report.specs.declared.status.Status.{Status}
 use Rattle.pv_report.specs.declared.status.Status.TheVariants as status
 use Rattle.pv_report.specs.Report.{Judged}
 use Rattle.pv_sections.specs.Ruled.{Ruled}
 use Rattle.pv_top.specs.declared.words.Command.{Command}
-use Rattle.pv_top.specs.declared.words.Command.TheVariants.{Validate, Check}
+use Rattle.pv_top.specs.declared.words.Command.TheVariants.{Validate, Check, Refute}
 use Rattle.pv_top.specs.Run.{Puts, Says, Answered, IsAnswer, SaidOf}
 use Rattle.pv_top.specs.Fetching.{ReadFailed}
 use Rattle.pv_top.specs.Promise.{IsLineOf, EndsWith, HaveOneMeaning, EachEquivalent}
@@ -44,9 +46,16 @@ ruled_said a b cert text status.BadClass h = refl
 ruled_said a b cert text status.BadCert h = refl
 ruled_said a b cert text _ (fs, r, is) = absurd is
 
+refuted_said : (limits : RunLimits) (a b text : List ℕ) (s : Status) → Refuted limits a b text s → is_said s ≡ true
+refuted_said limits a b text status.AllEquivalent h = refl
+refuted_said limits a b text status.Others h = refl
+refuted_said limits a b text status.BadClass h = refl
+refuted_said limits a b text _ (fs, r, is) = absurd is
+
 pub answer_said : (c : Command (List ℕ)) (contents : List (List ℕ)) (text : List ℕ) (s : Status) → IsAnswer c contents text s → is_said s ≡ true
-answer_said (Validate a b rounds budget cert) (x ∷ y ∷ []) text s h = judged_said (record { rounds = rounds; budget = budget }) x y text s h
+answer_said (Validate a b axioms rounds budget cert) (x ∷ y ∷ []) text s h = judged_said (record { axioms = axioms; rounds = rounds; budget = budget }) x y text s h
 answer_said (Check a b c) (x ∷ y ∷ z ∷ []) text s h = ruled_said x y z text s h
+answer_said (Refute a b tries steps) (x ∷ y ∷ []) text s h = refuted_said (record { tries = tries; steps = steps }) x y text s h
 answer_said _ _ text s h = absurd h
 
 pub result_said : (old new : Option (List ℕ)) (text : List ℕ) (meant result : Status) (rose : Type 0) → is_said meant ≡ true → Says old new text meant result rose → is_said result ≡ true

@@ -2,6 +2,12 @@
 use Rattle.std.proofs.Common.{◌≡◌, ℕ, List, ◌∷◌, ◌++◌, Option, inl, inr, sym, ap, subst, ◌∙◌}
 use Rattle.std.specs.Prelude.{codes}
 use Rattle.pv_base.specs.Stored.{Stored}
+use Rattle.pv_differences.specs.declared.finding.Finding.{Finding as Difference}
+use Rattle.pv_differences.specs.declared.finding.RunLimits.{RunLimits}
+use Rattle.pv_differences.specs.Findings as differences
+use Rattle.pv_differences.specs.Lines as difference
+use Rattle.pv_differences.specs.Refuted as refuted
+use Rattle.pv_differences.proofs.Cited.{no_equivalent, whole_finding}
 use Rattle.pv_prove.specs.declared.outcome.Limits.{Limits}
 use Rattle.pv_report.specs.declared.status.Status.{Status}
 use Rattle.pv_report.specs.declared.status.Status.TheVariants as status
@@ -106,3 +112,17 @@ ruled_line held a b first second cert text status.BadCert h bad = flaw_line held
 ruled_line held a b first second cert text status.AllEquivalent h (fs, r, is) = finding_line held a b first second cert text fs h r
 ruled_line held a b first second cert text status.Others h (fs, r, is) = finding_line held a b first second cert text fs h r
 ruled_line held a b first second cert text _ h (fs, r, is) = absurd is
+
+-- ---- a report on differences
+
+-- no line of it says `equivalent`
+difference_line : (held : Option Stored) (limits : RunLimits) (a b first second text : List ℕ) (findings : List Difference) → refuted.IsReport limits first second findings text → IsTrueOf held a b text
+difference_line held limits a b first second text findings r line l ends =
+    let found = line_among (differences.IsFinding limits r.first r.second) difference.line_of whole_finding r.first.methods findings line r.lines.each (subst (λ (t : List ℕ). IsLineOf t line) r.lines.text_is l) in
+    absurd (no_equivalent found.thing found.answer ends.0 (sym found.says ∙ ends.1))
+
+pub refuted_line : (held : Option Stored) (limits : RunLimits) (a b first second text : List ℕ) (s : Status) → refuted.Refuted limits first second text s → IsTrueOf held a b text
+refuted_line held limits a b first second text status.BadClass bad = bad_pair held a b first second text bad
+refuted_line held limits a b first second text status.AllEquivalent (fs, r, is) = difference_line held limits a b first second text fs r
+refuted_line held limits a b first second text status.Others (fs, r, is) = difference_line held limits a b first second text fs r
+refuted_line held limits a b first second text _ (fs, r, is) = absurd is

@@ -1,15 +1,17 @@
 -- The command that was read from words.
 use Rattle.std.specs.Prelude.{ℕ, List, ◌∷◌, Option, Some, None, codes, option_map}
 use Rattle.std.specs.Borrow.{Bor}
+use Rattle.pv_prove.specs.declared.table.AxiomSet.{AxiomSet}
 use Rattle.pv_words.specs.Answers.{texts}
 use Rattle.pv_top.specs.declared.words.Command.{Command}
-use Rattle.pv_top.specs.declared.words.Command.TheVariants.{Validate, Check}
-use Rattle.pv_top.specs.Words.{IsCommand, IsLimit}
+use Rattle.pv_top.specs.declared.words.Command.TheVariants.{Validate, Check, Refute}
+use Rattle.pv_top.specs.Words.{IsCommand, IsLimit, IsSet}
 
 -- a command by its names
 abbrev pub named : Command (Bor (List ℕ)) → Command (List ℕ)
-named (Validate a b rounds budget cert) = Validate a.now b.now rounds budget (option_map (λ name. name.now) cert)
+named (Validate a b axioms rounds budget cert) = Validate a.now b.now axioms rounds budget (option_map (λ name. name.now) cert)
 named (Check a b cert) = Check a.now b.now cert.now
+named (Refute a b tries steps) = Refute a.now b.now tries steps
 
 abbrev pub IsRead : List (Bor (List ℕ)) → Option (Command (Bor (List ℕ))) → Type 0
 IsRead words command = IsCommand (texts words) (option_map named command)
@@ -21,7 +23,15 @@ IsReadValidate words command = IsCommand (codes "validate" ∷ texts words) (opt
 abbrev pub IsReadCheck : List (Bor (List ℕ)) → Option (Command (Bor (List ℕ))) → Type 0
 IsReadCheck words command = IsCommand (codes "check" ∷ texts words) (option_map named command)
 
+abbrev pub IsReadRefute : List (Bor (List ℕ)) → Option (Command (Bor (List ℕ))) → Type 0
+IsReadRefute words command = IsCommand (codes "refute" ∷ texts words) (option_map named command)
+
 -- the limit that an option gives, None where its text is none
 abbrev pub ReadsLimit : (least most default : ℕ) → Option (Bor (List ℕ)) → Option ℕ → Type 0
 ReadsLimit least most default given (Some n) = IsLimit least most default (option_map (λ text. text.now) given) n
 ReadsLimit least most default given None = (n : ℕ) → IsLimit least most default (option_map (λ text. text.now) given) n → ⊥
+
+-- the set of axioms that an option gives, None where its text is the word of none
+abbrev pub ReadsSet : Option (Bor (List ℕ)) → Option AxiomSet → Type 0
+ReadsSet given (Some set) = IsSet (option_map (λ text. text.now) given) set
+ReadsSet given None = (set : AxiomSet) → IsSet (option_map (λ text. text.now) given) set → ⊥

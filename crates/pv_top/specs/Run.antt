@@ -9,10 +9,11 @@ use Rattle.pv_base.specs.declared.outside.Asked.TheVariants.{Fetch, Place}
 use Rattle.pv_report.specs.declared.status.Status.{Status}
 use Rattle.pv_report.specs.declared.status.Status.TheVariants as status
 use Rattle.pv_report.specs.Report.{Judged}
+use Rattle.pv_differences.specs.Refuted.{Refuted}
 use Rattle.pv_sections.specs.Certified.{IsCertificateFor}
 use Rattle.pv_sections.specs.Ruled.{Ruled}
 use Rattle.pv_top.specs.declared.words.Command.{Command}
-use Rattle.pv_top.specs.declared.words.Command.TheVariants.{Validate, Check}
+use Rattle.pv_top.specs.declared.words.Command.TheVariants.{Validate, Check, Refute}
 use Rattle.pv_top.specs.Words.{fetches, names_of, placed_name, bad_words}
 use Rattle.pv_top.specs.Promise.{Holds}
 
@@ -29,8 +30,9 @@ Says old new (b ∷ text) meant result rose = Puts old new (b ∷ text) meant re
 
 -- the text that a command answers to the bytes of its files, and the status that goes with it
 abbrev pub IsAnswer : Command (List ℕ) → List (List ℕ) → List ℕ → Status → Type 0
-IsAnswer (Validate a b rounds budget cert) (x ∷ y ∷ []) text s = Judged (record { rounds = rounds; budget = budget }) x y text s
+IsAnswer (Validate a b axioms rounds budget cert) (x ∷ y ∷ []) text s = Judged (record { axioms = axioms; rounds = rounds; budget = budget }) x y text s
 IsAnswer (Check a b cert) (x ∷ y ∷ z ∷ []) text s = Ruled x y z text s
+IsAnswer (Refute a b tries steps) (x ∷ y ∷ []) text s = Refuted (record { tries = tries; steps = steps }) x y text s
 IsAnswer c contents text s = ⊥
 
 -- the bytes that the store had under the names of a command's files
@@ -108,7 +110,7 @@ CallsFor held (Some c) old new write_rose result = AskedFor held c old new write
 
 -- the bytes that a command places, by the bytes of its files
 abbrev pub IsPlaced : Command (List ℕ) → List (List ℕ) → List ℕ → Type 0
-IsPlaced (Validate a b rounds budget cert) (x ∷ y ∷ []) bytes = IsCertificateFor (record { rounds = rounds; budget = budget }) x y bytes
+IsPlaced (Validate a b axioms rounds budget cert) (x ∷ y ∷ []) bytes = IsCertificateFor (record { axioms = axioms; rounds = rounds; budget = budget }) x y bytes
 IsPlaced c contents bytes = ⊥
 
 -- the name holds what the command places for what the store had under the names of its files, and nothing else changed

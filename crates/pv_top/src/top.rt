@@ -17,6 +17,7 @@ ghost use Rattle.pv_top.specs.declared.words.Command as commands;
 use crate::words::{Command, command_of};
 use pv_base::{FileFault, Files, Gate, Sink};
 use pv_class::LONGEST_FILE;
+use pv_differences::{RunLimits, refute_all};
 use pv_prove::Limits;
 use pv_report::{Answer, Detail, Fetched, Status, judge};
 use pv_sections::{LONGEST_CERT, Shown, rule, show};
@@ -47,11 +48,12 @@ pub(crate) struct Placed<'a> {
 
 /// Does what the words of a command line say, and answers how that went.
 ///
-/// `words` are the words after the program's name. `validate [--rounds N] [--budget N] [--cert FILE] A B` fetches the class files A
+/// `words` are the words after the program's name. `validate [--axioms core|all] [--rounds N] [--budget N] [--cert FILE] A B` fetches the class files A
 /// and B and says, in a line for each method of A, whether a search shows that its partner in B has the same meaning; with `--cert`
 /// it places under FILE, before that, the certificate of what is equivalent.
 /// `check A B CERT` fetches a certificate too, and says, in a line for each of its sections, whether
-/// the steps of the section show this of the two methods that it names. The gate is passed before each step, and by a search
+/// the steps of the section show this of the two methods that it names. `refute [--tries N] [--steps N] A B` says, in a line for each
+/// method of A, whether runs of it and its partner end with different outcomes. The gate is passed before each step, and by a search
 /// before each node at which the left side of an axiom may start.
 pub fn run<R: Threads + Sync, F: Files, K: Sink, G: Gate>(
     _rt: &R,
@@ -113,6 +115,7 @@ fn reply_to<'a, G: Gate>(
 {
     match command {
         Command::Validate {
+            axioms,
             rounds,
             budget,
             cert,
@@ -121,7 +124,11 @@ fn reply_to<'a, G: Gate>(
             let [first, second] = fetched else {
                 unreachable!();
             };
-            let limits = Limits { rounds, budget };
+            let limits = Limits {
+                axioms,
+                rounds,
+                budget,
+            };
             match cert {
                 Some(name) => show_in(alloc, gate, limits, name, first, second),
                 None => {
@@ -135,6 +142,14 @@ fn reply_to<'a, G: Gate>(
                 unreachable!();
             };
             let answer = rule(alloc, gate, first, second, cert)?;
+            Ok(said(answer))
+        }
+        Command::Refute { tries, steps, .. } => {
+            let [first, second] = fetched else {
+                unreachable!();
+            };
+            let limits = RunLimits { tries, steps };
+            let answer = refute_all(alloc, limits, first, second)?;
             Ok(said(answer))
         }
     }
@@ -226,7 +241,7 @@ fn fetch_files<F: Files>(
     ensures held { F.held files.new ≡ F.held files.old }
 {
     match command {
-        Command::Validate { first, second, .. } => {
+        Command::Validate { first, second, .. } | Command::Refute { first, second, .. } => {
             let all = [
                 Wanted {
                     name: first,

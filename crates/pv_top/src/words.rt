@@ -1,8 +1,9 @@
 //! The words of the command line.
 
 ghost use Rattle.std.specs.Prelude.{IfOk};
-ghost use Rattle.pv_top.specs.Commands.{IsRead, IsReadCheck, IsReadValidate, ReadsLimit};
+ghost use Rattle.pv_top.specs.Commands.{IsRead, IsReadCheck, IsReadRefute, IsReadValidate, ReadsLimit, ReadsSet};
 
+use pv_prove::AxiomSet;
 use pv_value::Memory;
 use pv_words::{Shape, number_in, read_words};
 use std::alloc::Global;
@@ -19,14 +20,27 @@ pub const DEFAULT_BUDGET: u32 = 200_000;
 /// The most matches that the words may allow. The least is 1.
 pub const MOST_BUDGET: u32 = 500_000;
 
+/// The tries that are made of two methods, where the words don't say.
+pub const DEFAULT_TRIES: u32 = 512;
+
+/// The most tries that the words may ask for. The least is 1.
+pub const MOST_TRIES: u32 = 100_000;
+
+/// The most steps of a run, where the words don't say.
+pub const DEFAULT_STEPS: u32 = 10_000;
+
+/// The most steps that the words may allow. The least is 1.
+pub const MOST_STEPS: u32 = 100_000;
+
 /// A command, by the names of its files.
 #[derive(Clone, Copy, Debug)]
 pub enum Command<N> {
-    /// Compare two class files, by searches of at most `rounds` rounds, each of at most `budget` matches, and place the
-    /// certificate of what is equivalent, where it has a name.
+    /// Compare two class files, by searches with these axioms, of at most `rounds` rounds, each of at most `budget` matches, and
+    /// place the certificate of what is equivalent, where it has a name.
     Validate {
         first: N,
         second: N,
+        axioms: AxiomSet,
         rounds: u32,
         budget: u32,
         cert: Option<N>,
@@ -36,6 +50,13 @@ pub enum Command<N> {
         first: N,
         second: N,
         cert: N,
+    },
+    /// Run the methods of two class files, by `tries` tries of at most `steps` steps each.
+    Refute {
+        first: N,
+        second: N,
+        tries: u32,
+        steps: u32,
     },
 }
 
@@ -54,6 +75,8 @@ pub(crate) fn command_of<'a>(
         validate_of(alloc, rest)
     } else if name == "check" {
         check_of(alloc, rest)
+    } else if name == "refute" {
+        refute_of(alloc, rest)
     } else {
         Ok(None)
     }
@@ -64,17 +87,20 @@ fn validate_of<'a>(alloc: Global, words: &'a [&'a str]) -> Result<Option<Command
     ensures { IfOk result (λ command. IsReadValidate words.now command) }
 {
     let shape = Shape {
-        options: &["rounds", "budget", "cert"],
+        options: &["axioms", "rounds", "budget", "cert"],
         arguments: 2,
     };
     let Some(given) = read_words(alloc, &shape, words)? else {
         return Ok(None);
     };
-    let ([rounds, budget, cert], [first, second]) = (
+    let ([axioms, rounds, budget, cert], [first, second]) = (
         given.options.as_slice(),
         given.arguments.as_slice(),
     ) else {
         unreachable!();
+    };
+    let Some(axioms) = set_of(*axioms) else {
+        return Ok(None);
     };
     let Some(rounds) = limit(*rounds, 0, MOST_ROUNDS, DEFAULT_ROUNDS) else {
         return Ok(None);
@@ -85,6 +111,7 @@ fn validate_of<'a>(alloc: Global, words: &'a [&'a str]) -> Result<Option<Command
     Ok(Some(Command::Validate {
         first: *first,
         second: *second,
+        axioms,
         rounds,
         budget,
         cert: *cert,
@@ -112,6 +139,35 @@ fn check_of<'a>(alloc: Global, words: &'a [&'a str]) -> Result<Option<Command<&'
     }))
 }
 
+// The command `refute` with these words after its name.
+fn refute_of<'a>(alloc: Global, words: &'a [&'a str]) -> Result<Option<Command<&'a str>>, Memory>
+    ensures { IfOk result (λ command. IsReadRefute words.now command) }
+{
+    let shape = Shape {
+        options: &["tries", "steps"],
+        arguments: 2,
+    };
+    let Some(given) = read_words(alloc, &shape, words)? else {
+        return Ok(None);
+    };
+    let ([tries, steps], [first, second]) = (given.options.as_slice(), given.arguments.as_slice())
+    else {
+        unreachable!();
+    };
+    let Some(tries) = limit(*tries, 1, MOST_TRIES, DEFAULT_TRIES) else {
+        return Ok(None);
+    };
+    let Some(steps) = limit(*steps, 1, MOST_STEPS, DEFAULT_STEPS) else {
+        return Ok(None);
+    };
+    Ok(Some(Command::Refute {
+        first: *first,
+        second: *second,
+        tries,
+        steps,
+    }))
+}
+
 // The limit that an option gives: its number within its bounds, or the default; None, where its text is no such number.
 fn limit(given: Option<&str>, least: u32, most: u32, default: u32) -> Option<u32>
     ensures { ReadsLimit least most default given.entry result }
@@ -119,5 +175,21 @@ fn limit(given: Option<&str>, least: u32, most: u32, default: u32) -> Option<u32
     match given {
         Some(text) => number_in(text, least, most),
         None => Some(default),
+    }
+}
+
+// The set of axioms that an option gives: that of its word, or the core; None, where its text is the word of none.
+fn set_of(given: Option<&str>) -> Option<AxiomSet>
+    ensures { ReadsSet given.entry result }
+{
+    let Some(word) = given else {
+        return Some(AxiomSet::Core);
+    };
+    if word == "core" {
+        Some(AxiomSet::Core)
+    } else if word == "all" {
+        Some(AxiomSet::All)
+    } else {
+        None
     }
 }

@@ -1,0 +1,11 @@
+pub mod Ends
+pub mod CountedValues
+pub mod ClearedValues
+pub mod Least
+pub mod Examples
+pub mod Shapes
+pub mod Recognizing
+pub mod Ascending
+pub mod Finding
+pub mod Folds
+pub mod ClearedLeast

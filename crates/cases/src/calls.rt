@@ -7,6 +7,7 @@ use cases_files::pools::Asked;
 use cases_files::{classes, codes, pools};
 use cases_graphs::{axioms, bases, graphs, leasts, loops, trees};
 use cases_methods::{flows, frames, machine, roots};
+use cases_search::{joined, searching};
 use cases_words::answers::{Answer, NoAnswer};
 use cases_words::bench::Bench;
 use cases_words::values;
@@ -49,6 +50,9 @@ pub fn answer<R: Files + Threads + Sync>(rt: &R, bench: &Bench, line: &str) -> A
         "base" => bases::base(bench, rest),
         "chain" => leasts::chain(bench, rest),
         "classes" => node_classes::classes(bench, rest),
+        "matches" => joined::joined_matches(bench, rest),
+        "search" => searching::search(bench, rest),
+        "search-methods" => searching::search_methods(bench, rest),
 
         "axioms" => axioms::axioms(bench),
         "axiom" => axioms::equation(bench, rest),
@@ -69,6 +73,7 @@ pub fn answer<R: Files + Threads + Sync>(rt: &R, bench: &Bench, line: &str) -> A
 
         "run" => runs::running(rt, bench, rest),
         "validate" => runs::validation(rt, bench, rest),
+        "refute" => runs::refutation(rt, bench, rest),
         "one-line" => runs::one_line(rt, bench, rest),
         "placed" => runs::placing(rt, bench, rest),
         "certified" => runs::certified(rt, bench, rest),

@@ -3,10 +3,11 @@
 //! | Line | Answer |
 //! |---|---|
 //! | `run WORD ..; SETTING` | the status, what was sent, the calls that the store got, and whether it holds what it held |
-//! | `validate BYTES BYTES` | the status and what was sent, where the words are `validate A B` and these are the files A and B |
-//! | `one-line BYTES BYTES` | whether the status is at most 2 and what was sent is one line |
+//! | `validate BYTES BYTES WORD ..` | the status and what was sent, where the words are `validate A B WORD ..` and these are the files A and B |
+//! | `refute BYTES BYTES WORD ..` | the same, where the words are `refute A B WORD ..` |
+//! | `one-line BYTES BYTES WORD ..` | whether by `validate A B WORD ..` the status is at most 2 and what was sent is one line |
 //! | `placed NAME WORD ..; SETTING` | the status, the calls that the store got, and the text that it holds under the name afterwards |
-//! | `certified BYTES BYTES` | the statuses and what was sent, by `validate --cert C A B` and by `check A B C` after it |
+//! | `certified BYTES BYTES WORD ..` | the statuses and what was sent, by `validate --cert C A B WORD ..` and by `check A B C` after it |
 //!
 //! A WORD is `""` for the empty one. A SETTING is words `NAME=BYTES`, which are files, `fail=2,6`, the
 //! numbers of the calls that fail, and first `room=9`, the bytes that the sink has room for.
@@ -100,34 +101,43 @@ fn two_files(bench: &Bench, first: &str, second: &str) -> Result<MemFiles, NoAns
     Ok(MemFiles::new(alloc, entries, Vec::new(alloc)))
 }
 
-// What a run over two files answers and sends.
-fn validated<R: Threads + Sync>(
+// What a run over the files A and B answers and sends, where these words are its name and what comes after the names of the files.
+fn said_of<'a, R: Threads + Sync>(
     rt: &R,
     bench: &Bench,
-    rest: &str,
+    name: &'a str,
+    rest: &'a str,
 ) -> Result<(Status, MemSink), NoAnswer> {
     let alloc = bench.alloc();
     let words = words(alloc, rest)?;
-    let [first, second] = *words.as_slice() else {
+    let [first, second, options @ ..] = words.as_slice() else {
         return Err(NoAnswer::Unreadable);
     };
     let mut files = two_files(bench, first, second)?;
     let mut out = MemSink::new(alloc, ROOM)?;
-    let command = ["validate", "A", "B"];
+    let mut command = vec![in alloc; name, "A", "B"]?;
+    command.extend_from_slice(options)?;
     let status = run(rt, alloc, &command, &mut files, &mut out, &OpenGate);
     Ok((status, out))
 }
 
-/// `validate BYTES BYTES`
+/// `validate BYTES BYTES WORD ..`
 pub fn validation<R: Threads + Sync>(rt: &R, bench: &Bench, rest: &str) -> Answer {
-    let (status, out) = validated(rt, bench, rest)?;
+    let (status, out) = said_of(rt, bench, "validate", rest)?;
     let sent = sent_text(&out)?;
     Ok(format!(in bench.alloc(); "{status:?} {sent:?}")?)
 }
 
-/// `one-line BYTES BYTES`
+/// `refute BYTES BYTES WORD ..`
+pub fn refutation<R: Threads + Sync>(rt: &R, bench: &Bench, rest: &str) -> Answer {
+    let (status, out) = said_of(rt, bench, "refute", rest)?;
+    let sent = sent_text(&out)?;
+    Ok(format!(in bench.alloc(); "{status:?} {sent:?}")?)
+}
+
+/// `one-line BYTES BYTES WORD ..`
 pub fn one_line<R: Threads + Sync>(rt: &R, bench: &Bench, rest: &str) -> Answer {
-    let (status, out) = validated(rt, bench, rest)?;
+    let (status, out) = said_of(rt, bench, "validate", rest)?;
     let feeds = out.taken().iter().filter(|b| **b == b'\n').count();
     let is_one = status.number() <= 2 && feeds == 1 && out.taken().ends_with(b"\n");
     shown(bench.alloc(), is_one)
@@ -153,32 +163,21 @@ pub fn placing<R: Threads + Sync>(rt: &R, bench: &Bench, rest: &str) -> Answer {
     Ok(format!(in alloc; "{status:?} {asked}; {text:?}")?)
 }
 
-/// `certified BYTES BYTES`
+/// `certified BYTES BYTES WORD ..`
 pub fn certified<R: Threads + Sync>(rt: &R, bench: &Bench, rest: &str) -> Answer {
     let alloc = bench.alloc();
     let words = words(alloc, rest)?;
-    let [first, second] = *words.as_slice() else {
+    let [first, second, options @ ..] = words.as_slice() else {
         return Err(NoAnswer::Unreadable);
     };
     let mut files = two_files(bench, first, second)?;
     let mut out = MemSink::new(alloc, ROOM)?;
-    let made = run(
-        rt,
-        alloc,
-        &["validate", "--cert", "C", "A", "B"],
-        &mut files,
-        &mut out,
-        &OpenGate,
-    );
+    let mut command = vec![in alloc; "validate", "--cert", "C", "A", "B"]?;
+    command.extend_from_slice(options)?;
+    let made = run(rt, alloc, &command, &mut files, &mut out, &OpenGate);
     let mut checked = MemSink::new(alloc, ROOM)?;
-    let seen = run(
-        rt,
-        alloc,
-        &["check", "A", "B", "C"],
-        &mut files,
-        &mut checked,
-        &OpenGate,
-    );
+    let command = ["check", "A", "B", "C"];
+    let seen = run(rt, alloc, &command, &mut files, &mut checked, &OpenGate);
     let (sent, said) = (sent_text(&out)?, sent_text(&checked)?);
     Ok(format!(in alloc; "{made:?} {sent:?}; {seen:?} {said:?}")?)
 }

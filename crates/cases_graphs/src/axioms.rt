@@ -1,5 +1,5 @@
-//! Calls of `pv_pattern` on the tables of `pv_scalar`, `pv_loopax` and `pv_heapax`: two lines, and a step of a line
-//! `graph`.
+//! Calls of `pv_pattern` on the tables of `pv_scalar`, `pv_loopax`, `pv_heapax` and `pv_choiceax`: two lines, and a
+//! step of a line `graph`.
 //!
 //! | Line | Answer |
 //! |---|---|
@@ -26,6 +26,8 @@ use crate::graphs::{prepared, read_numbers};
 use cases_words::answers::{Answer, List, NoAnswer, said, shown};
 use cases_words::bench::{Bench, number};
 use cases_words::values::OPERATIONS;
+use pv_choiceax::choice_axioms;
+use pv_choiceax::laws::law_choice_names;
 use pv_graph::{Graph, NodeId};
 use pv_heapax::heap_axioms;
 use pv_heapax::laws::law_heap_names;
@@ -44,6 +46,7 @@ pub fn axioms(bench: &Bench) -> Answer {
     list.add(numbers_text(alloc, &scalar_axioms(alloc)?)?.as_str())?;
     list.add(numbers_text(alloc, &loop_axioms(alloc)?)?.as_str())?;
     list.add(numbers_text(alloc, &heap_axioms(alloc)?)?.as_str())?;
+    list.add(numbers_text(alloc, &choice_axioms(alloc)?)?.as_str())?;
     list.into_text()
 }
 
@@ -110,7 +113,11 @@ fn table_of(alloc: Global, n: u32) -> Result<Vec<Axiom>, Memory>
     ensures { IfOk result (λ table. AllByRecursion BindsItsNames (map axiom_seen table.items)) }
 {
     match n {
-        301..=399 | 1000.. => {
+        3000.. => {
+            law_choice_names();
+            choice_axioms(alloc)
+        }
+        301..=399 | 1000..=2999 => {
             law_loop_names();
             loop_axioms(alloc)
         }

@@ -1,0 +1,253 @@
+//! Calls of `pv_match` and `pv_rounds`.
+//!
+//! | Line | Answer |
+//! |---|---|
+//! | `search FIRST SECOND; STEP; .. \| BEGINNING; STEP; ..` | what each step on a search answers, which begins with the least graph of two nodes of the graph that the steps before the bar make, as those of a line `graph` |
+//! | `search-methods BYTES PLACE BYTES PLACE \| BEGINNING; STEP; ..` | the same, with the least graph of the roots of two methods, each at its place in a class file |
+//!
+//! A BEGINNING is the greatest number of matches of a round, and after it `endings` where the nodes count as ending for which the first root
+//! waits. The axioms are those of the core.
+//!
+//! | Step | Answer |
+//! |---|---|
+//! | `matches LIMIT` | all matches, with commas between them, or `more` and one more than the limit |
+//! | `scalar LIMIT` | the same, by the axioms on numbers, choices and tokens alone |
+//! | `scalar-starts LIMIT` | at how many nodes matching by these looked: how often it passed the gate as piece 0 |
+//! | `look` | `over` and one more than the greatest number of matches; `saturated`, where no match joins more; or `open` and how many matches there are |
+//! | `round` | what `look` answers; after `open` it makes a round |
+//! | `joined FIRST SECOND` | whether two nodes are in one class |
+//! | `numbers` | for each node the number of its class |
+//! | `count` | how many nodes there are |
+//! | `node NUMBER` | the operation and the kids of a node |
+//! | `nodes` | those of all nodes, with commas between them |
+//! | `endings` | the nodes that count as ending |
+//!
+//! A match is the number of its axiom, its parameters in brackets (`depth 1`, `C f I`, `int[]`, `int 5` or `long 5`), in the order in which
+//! the left side names them, and class numbers: for each kid of its family and then for each variable.
+
+ghost use Rattle.std.specs.Prelude.{◌≡◌, IfOk, OnOk, map};
+ghost use Rattle.pv_axioms.specs.Entries.{AreAxioms, NumbersOnce};
+ghost use Rattle.pv_match.specs.Reading.{AreReadable};
+ghost use Rattle.pv_pattern.specs.Seen.{axiom_seen};
+ghost use Rattle.pv_rounds.specs.Searching.{IsBegun, IsLeastGraph, Looks};
+
+use crate::gates::CountingGate;
+use crate::methods::{least_of_methods, read_placed};
+use crate::nodes::least_of_nodes;
+use crate::showing::{looked_text, matches_answer, read_member};
+use crate::tables::core_axioms;
+use cases_graphs::graphs::{node_text, read_node};
+use cases_words::answers::{Answer, List, NoAnswer, shown};
+use cases_words::bench::{Bench, number, words};
+use pv_alike::Least;
+use pv_base::{Gate, OpenGate};
+use pv_classes::Classes;
+use pv_endings::endings;
+use pv_graph::{Graph, NodeId};
+use pv_match::{Matches, matches};
+use pv_pattern::Axiom;
+use pv_rounds::{Looked, Search};
+use pv_scalar::scalar_axioms;
+use pv_value::Memory;
+use std::alloc::Global;
+
+/// `search FIRST SECOND; STEP; .. | BEGINNING; STEP; ..`
+pub fn search(bench: &Bench, rest: &str) -> Answer {
+    let alloc = bench.alloc();
+    let (making, asking) = rest.split_once('|').ok_or(NoAnswer::Unreadable)?;
+    let (nodes, steps) = making.split_once(';').ok_or(NoAnswer::Unreadable)?;
+    let least = least_of_nodes(alloc, nodes, steps)?;
+    searched(alloc, &least, asking)
+}
+
+/// `search-methods BYTES PLACE BYTES PLACE | BEGINNING; STEP; ..`
+pub fn search_methods(bench: &Bench, rest: &str) -> Answer {
+    let alloc = bench.alloc();
+    let (methods, asking) = rest.split_once('|').ok_or(NoAnswer::Unreadable)?;
+    let words = words(alloc, methods)?;
+    let [first, place, second, other] = *words.as_slice() else {
+        return Err(NoAnswer::Unreadable);
+    };
+    let first = read_placed(alloc, &bench.bytes(first)?, number(place)?)?;
+    let second = read_placed(alloc, &bench.bytes(second)?, number(other)?)?;
+    let least = least_of_methods(alloc, &first, &second)?;
+    searched(alloc, &least, asking)
+}
+
+// What the steps of a search answer.
+fn searched(alloc: Global, least: &Least, asking: &str) -> Answer
+    requires { IsLeastGraph least.now.graph }
+{
+    let (beginning, steps) = asking.split_once(';').ok_or(NoAnswer::Unreadable)?;
+    let table = core_axioms(alloc)?;
+    let mut search = begin(alloc, least, &table, beginning)?;
+    let mut list = List::new(alloc);
+    for step in steps.split(';') {
+        let words = words(alloc, step)?;
+        let answer = search_step(alloc, &mut search, &words)?;
+        list.add(answer.as_str())?;
+    }
+    list.into_text()
+}
+
+fn begin<'a>(
+    alloc: Global,
+    least: &Least,
+    table: &'a [Axiom],
+    beginning: &str,
+) -> Result<Search<'a>, NoAnswer>
+    requires least { IsLeastGraph least.now.graph }
+    requires table { AreAxioms (map axiom_seen table.now) }
+    ensures { IfOk result (λ search. IsBegun search) }
+{
+    let words = words(alloc, beginning)?;
+    let (budget, nodes) = match *words.as_slice() {
+        [budget] => (budget, Vec::new(alloc)),
+        [budget, "endings"] => (budget, endings(alloc, least.graph(), least.first())?),
+        _ => return Err(NoAnswer::Unreadable),
+    };
+    let search = Search::new(alloc, least.graph(), table, nodes, number(budget)?)?;
+    Ok(search)
+}
+
+fn search_step(alloc: Global, search: &mut Search, words: &[&str]) -> Answer
+    requires { IsBegun search.old }
+    ensures { IfOk result (λ text. IsBegun search.new) }
+{
+    match *words {
+        ["round"] => round(alloc, search),
+        _ => asked(alloc, search, words),
+    }
+}
+
+// What a step asks of a search.
+fn asked(alloc: Global, search: &Search, words: &[&str]) -> Answer
+    requires { IsBegun search.now }
+{
+    match *words {
+        ["look"] => looked_text(alloc, &search.look(alloc, &OpenGate)?),
+        ["matches", limit] => all_matches(alloc, search, limit),
+        ["scalar", limit] => scalar_matches(alloc, search, limit),
+        ["scalar-starts", limit] => scalar_starts(alloc, search, limit),
+        ["endings"] => nodes_text(alloc, &search.endings),
+        ["numbers"] => nodes_text(alloc, &search.classes.numbers(alloc)?),
+        ["joined", first, second] => joined_text(alloc, &search.classes, first, second),
+        _ => graph_text(alloc, &search.graph, words),
+    }
+}
+
+// What a step asks of the graph of a search.
+fn graph_text(alloc: Global, graph: &Graph, words: &[&str]) -> Answer {
+    match *words {
+        ["count"] => shown(alloc, graph.len()),
+        ["node", n] => node_text(alloc, graph.node(read_node(graph, n)?)),
+        ["nodes"] => all_nodes_text(alloc, graph),
+        _ => Err(NoAnswer::Unreadable),
+    }
+}
+
+// Looks, and makes a round where some match joins more.
+fn round(alloc: Global, search: &mut Search) -> Answer
+    requires { IsBegun search.old }
+    ensures { IfOk result (λ text. IsBegun search.new) }
+{
+    let looked = search.look(alloc, &OpenGate)?;
+    go_on(alloc, search, &looked)?;
+    looked_text(alloc, &looked)
+}
+
+fn go_on(alloc: Global, search: &mut Search, looked: &Looked) -> Result<(), Memory>
+    requires begun { IsBegun search.old }
+    requires looked { Looks search.old looked.now }
+    ensures { OnOk result (IsBegun search.new) }
+{
+    match looked {
+        Looked::Open(list) => search.grow(alloc, list),
+        _ => Ok(()),
+    }
+}
+
+// All matches by the axioms of the search.
+fn all_matches(alloc: Global, search: &Search, limit: &str) -> Answer
+    requires { IsBegun search.now }
+{
+    let answer = matches_by(alloc, &OpenGate, search, search.table, limit)?;
+    matches_answer(alloc, &answer)
+}
+
+// All matches by the axioms on numbers, choices and tokens.
+fn scalar_matches(alloc: Global, search: &Search, limit: &str) -> Answer
+    requires { IsBegun search.now }
+{
+    let answer = matches_by_scalar(alloc, &OpenGate, search, limit)?;
+    matches_answer(alloc, &answer)
+}
+
+// How often matching by these axioms passes the gate.
+fn scalar_starts(alloc: Global, search: &Search, limit: &str) -> Answer
+    requires { IsBegun search.now }
+{
+    let gate = CountingGate::new();
+    let _answer = matches_by_scalar(alloc, &gate, search, limit)?;
+    shown(alloc, gate.count())
+}
+
+fn matches_by_scalar<G: Gate>(
+    alloc: Global,
+    gate: &G,
+    search: &Search,
+    limit: &str,
+) -> Result<Matches, NoAnswer>
+    requires { IsBegun search.now }
+{
+    let table = scalar_axioms(alloc)?;
+    matches_by(alloc, gate, search, &table, limit)
+}
+
+// All matches by a table, or that there are more than a limit.
+fn matches_by<G: Gate>(
+    alloc: Global,
+    gate: &G,
+    search: &Search,
+    table: &[Axiom],
+    limit: &str,
+) -> Result<Matches, NoAnswer>
+    requires begun { IsBegun search.now }
+    requires readable { AreReadable (map axiom_seen table.now) }
+    requires once { NumbersOnce (map axiom_seen table.now) }
+{
+    let limit = number(limit)?;
+    let _count = search.graph.len();
+    let answer = matches(
+        alloc,
+        gate,
+        &search.graph,
+        &search.classes,
+        &search.marks,
+        table,
+        limit,
+    )?;
+    Ok(answer)
+}
+
+fn joined_text(alloc: Global, classes: &Classes, first: &str, second: &str) -> Answer {
+    let first = read_member(classes, first)?;
+    let second = read_member(classes, second)?;
+    shown(alloc, classes.joined(first, second))
+}
+
+// The nodes of a graph, with commas between them.
+fn all_nodes_text(alloc: Global, graph: &Graph) -> Answer {
+    let mut text = String::new(alloc);
+    for n in 0..graph.len() {
+        if n > 0 {
+            text.push_str(", ")?;
+        }
+        text.push_str(node_text(alloc, graph.node(n))?.as_str())?;
+    }
+    Ok(text)
+}
+
+fn nodes_text(alloc: Global, nodes: &[NodeId]) -> Answer {
+    Ok(format!(in alloc; "{nodes:?}")?)
+}

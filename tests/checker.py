@@ -1,6 +1,6 @@
 """A second checker of certificates' sections, written from the definition and not from the program's code.
 
-It has the operations with their sorts, graphs, the 251 axioms, and when a step is right. An operation is a tuple of the words
+It has the operations with their sorts, graphs, the 348 axioms, and when a step is right. An operation is a tuple of the words
 that spell it in a certificate, as ("int", "-5") or ("theta", "1"). A node is an operation and its kids. The tables below are
 written out by hand, so that they can differ from the program's.
 """
@@ -346,10 +346,36 @@ SINGLE = """
 513 load_K(store_K(h,a,k,v),a,m) = load_K(h,a,m) {k,m differ} [v]
 514 putstatic_s(putstatic_s(h,v),w) = putstatic_s(h,w) [v]
 515 putfield_s(putfield_s(h,o,v),o,w) = putfield_s(h,o,w) [v]
+
+4001 phi(c,a,phi(x,p,q)) = phi(c,a,phi(x,phi(c,a,p),phi(c,a,q)))
+4002 phi(c,phi(x,p,q),b) = phi(c,phi(x,phi(c,p,b),phi(c,q,b)),b)
+4003 phi(ieq(c,0i),a,b) = phi(c,b,a)
+4004 ilt(0i,x) = ieq(ilt(x,1i),0i)
+4005 ilt(x,0i) = ieq(ilt(-1i,x),0i)
+4014 l2i(ladd(x,y)) = iadd(l2i(x),l2i(y))
+4015 l2i(lsub(x,y)) = isub(l2i(x),l2i(y))
+4016 l2i(lmul(x,y)) = imul(l2i(x),l2i(y))
+4017 l2i(land(x,y)) = iand(l2i(x),l2i(y))
+4018 l2i(lor(x,y)) = ior(l2i(x),l2i(y))
+4019 l2i(lxor(x,y)) = ixor(l2i(x),l2i(y))
+4020 l2i(lneg(x)) = ineg(l2i(x))
+4021 i2b(iand(x,255i)) = i2b(x)
+4022 i2s(iand(x,65535i)) = i2s(x)
+4023 i2c(iand(x,65535i)) = i2c(x)
+4024 i2c(x) = iand(x,65535i)
+4025 phi(x,1i,0i) = ieq(ieq(x,0i),0i)
+4026 phi(x,0i,1i) = ieq(x,0i)
 """
+
+# The tests, in the order of the axioms that say of each that it is 0 or 1: by 4006 to 4009, and by 4010 to 4013.
+TESTS = ("ieq(x,y)", "ilt(x,y)", "aeq(x,y)", "leq(x,y)")
 
 # The operations over which shift_d, by 1000 more, and eval_d, by 2000 more, go.
 IN_FAMILIES = [*range(14, 19), *range(30, 48), *range(50, 66), *range(70, 77), *range(80, 84)]
+
+# The operations that go into both arms of a choice, with the name that those over a field or an element have, and how many kids these have.
+OVER_CHOICES = [14, 15, 16, *range(30, 48), *range(50, 66), 70, 72, 74, 76]
+READS = {"getstatic": ("_s", 1), "getfield": ("_s", 2), "load": ("_K", 3)}
 
 CONSTANT = re.compile(r"(-?\d+)([il])")
 NARROWING = {"B": "i2b", "C": "i2c", "S": "i2s", "Char": "i2c", "Short": "i2s", "Byte": "i2b"}
@@ -484,6 +510,17 @@ def folds():
         yield number, f"{call} = fold({call})"
 
 
+def over_choices():
+    """The axioms that an operation over a choice is the choice between the operation over each arm, for each place of the choice."""
+    words = {number: word for word, number in NUMBERS.items()}
+    for number in OVER_CHOICES:
+        word = words[number]
+        name, count = READS.get(word) or ("", len(FIXED[word][0]))
+        for place in range(count):
+            over = [f"{word}{name}({','.join([*'xyz'[:place], kid, *'xyz'[place + 1 : count]])})" for kid in ("phi(c,a,b)", "a", "b")]
+            yield 3000 + 10 * number + place, f"{over[0]} = phi(c,{over[1]},{over[2]})"
+
+
 def all_equations():
     """The number and the equation of each axiom, but for the families."""
     for number, row in (line.split(" ", 1) for line in TWINS.strip().splitlines()):
@@ -493,7 +530,11 @@ def all_equations():
         if line:
             number, row = line.split(" ", 1)
             yield int(number), row
+    for place, test in enumerate(TESTS):
+        yield 4006 + place, f"ieq(ieq({test},0i),0i) = {test}"
+        yield 4010 + place, f"iand({test},1i) = {test}"
     yield from folds()
+    yield from over_choices()
 
 
 EQUATIONS = dict(all_equations())

@@ -23,6 +23,7 @@ from pairs import PROGRAM, called, check
 ARGUMENTS = 24
 RUNNER = """
 import java.lang.reflect.*;
+import java.nio.file.*;
 import java.util.*;
 
 public class Runner {
@@ -34,13 +35,24 @@ public class Runner {
         }
     }
 
+    static String within(long most, Method method, int[] a) throws Exception {
+        for (int times = 0; times < 3; times++) {
+            long begin = System.nanoTime();
+            String result = result(method, a);
+            if (System.nanoTime() - begin <= most)
+                return result;
+        }
+        return "slow";
+    }
+
+    static int[] numbers(String line) {
+        return Arrays.stream(line.split(" ")).mapToInt(Integer::parseInt).toArray();
+    }
+
     @SuppressWarnings("removal")
     public static void main(String[] words) throws Exception {
-        int[][] arguments = new int[Integer.parseInt(words[1])][3];
-        Random random = new Random(Long.parseLong(words[2]));
-        for (int[] list : arguments)
-            for (int i = 0; i < 3; i++)
-                list[i] = random.nextInt(3) == 0 ? random.nextInt() : random.nextInt(21) - 10;
+        int[][] arguments = Files.readAllLines(Path.of(words[1])).stream().map(Runner::numbers).toArray(int[][]::new);
+        long most = Long.parseLong(words[2]);
         for (int number = 0; number < Integer.parseInt(words[0]); number++) {
             Method[] methods = Class.forName("C" + number).getDeclaredMethods();
             for (Method method : methods) {
@@ -48,7 +60,7 @@ public class Runner {
                 Thread thread = new Thread(() -> {
                     try {
                         for (int[] list : arguments)
-                            results.add(result(method, list));
+                            results.add(within(most, method, list));
                     } catch (Exception e) {
                         throw new IllegalStateException(e);
                     }
@@ -177,11 +189,25 @@ def written_classes(seed, classes, methods, one, other, mutants):
             to.write(mutated(file.read(), random.Random(f"{seed} mutant {number}")))
 
 
-def results(place, runner, classes, seed):
-    """What each method gives for the lists of arguments, as far as it came within its time."""
-    words = ["java", "-cp", os.pathsep.join([runner, place]), "Runner", str(classes), str(ARGUMENTS), str(seed)]
+def compiled_runner(runner, lists):
+    """Writes into a folder the program that runs methods on the JVM, and the lists of arguments on which it does."""
+    with open(os.path.join(runner, "Runner.java"), "w", encoding="ascii") as file:
+        file.write(RUNNER)
+    with open(os.path.join(runner, "arguments"), "w", encoding="ascii") as file:
+        file.writelines(" ".join(map(str, it)) + "\n" for it in lists)
+    subprocess.run(["javac", "-nowarn", "-d", runner, os.path.join(runner, "Runner.java")], check=True, stderr=subprocess.DEVNULL)
+
+
+def random_lists(seed):
+    chance = random.Random(seed)
+    return [[chance.randint(-(2**31), 2**31 - 1) if chance.randrange(3) == 0 else chance.randint(-10, 10) for _ in range(3)] for _ in range(ARGUMENTS)]
+
+
+def results(place, runner, classes, most=10**12, *flags):
+    """What each method gives for the lists of arguments, as far as it came within its time: `slow` where it took more than so many nanoseconds."""
+    words = ["java", *flags, "-cp", os.pathsep.join([runner, place]), "Runner", str(classes), os.path.join(runner, "arguments"), str(most)]
     lines = subprocess.run(words, check=True, capture_output=True, text=True).stdout.splitlines()
-    return {line.split(" ")[0]: line.split(" ")[1:] for line in lines}
+    return {name: results for name, *results in map(str.split, lines)}
 
 
 def compare(number, one, other, left, right):
@@ -220,11 +246,9 @@ def main():
         one, other, mutants, runner = places = [os.path.join(work, it) for it in ("one", "other", "mutants", "runner")]
         for place in places:
             os.mkdir(place)
-        with open(os.path.join(runner, "Runner.java"), "w", encoding="ascii") as file:
-            file.write(RUNNER)
-        subprocess.run(["javac", "-nowarn", "-d", runner, os.path.join(runner, "Runner.java")], check=True, stderr=subprocess.DEVNULL)
+        compiled_runner(runner, random_lists(seed))
         written_classes(seed, classes, methods, one, other, mutants)
-        left, right, changed = (results(it, runner, classes, seed) for it in (one, other, mutants))
+        left, right, changed = (results(it, runner, classes) for it in (one, other, mutants))
         wrong = report("written otherwise", classes, one, other, left, right)
         wrong |= report("one instruction exchanged", classes, one, mutants, left, changed)
     sys.exit(wrong)

@@ -154,6 +154,14 @@ methods: 6 equivalent, 0 unknown, 0 refused, 0 missing, 0 without code
   jars 'two JARs that differ' 1 "$different" a.jar 'b [1].jar'
   jars 'some kinds are allowed' 1 "$different" --allow unknown --allow only-first a.jar 'b [1].jar'
   jars 'all that differs is allowed' 0 "$different" --allow unknown --allow only-first --allow only-second a.jar 'b [1].jar'
+  jars 'runs show a difference' 1 'p/A$B.class: f ()I unknown apart
+p/A$B.class: f ()I differs try 1 args
+p/Old.class: only in the first JAR
+p/New.class: only in the second JAR
+classes: 5 in both, 1 only in the first, 1 only in the second, 0 bad, 0 failed
+methods: 4 equivalent, 1 unknown, 0 refused, 0 missing, 0 without code
+runs: 1 of the unknown methods differ
+' --refute --allow unknown --allow only-first --allow only-second a.jar 'b [1].jar'
   jars 'a JAR with a class that is cut' 2 'p/A$B.class: f ()I unknown apart
 p/Cut.class: bad class second truncated at 50
 p/Old.class: only in the first JAR
@@ -161,6 +169,9 @@ p/New.class: only in the second JAR
 classes: 5 in both, 1 only in the first, 1 only in the second, 1 bad, 0 failed
 methods: 3 equivalent, 1 unknown, 0 refused, 0 missing, 0 without code
 ' a.jar cut.jar
+  jars 'by the core alone' 1 "$different" --axioms core a.jar 'b [1].jar'
+  jars 'by all axioms' 0 "$different" --allow unknown --axioms all --allow only-first --allow only-second a.jar 'b [1].jar'
+  jars 'no such axioms' 2 '' --axioms both a.jar a.jar
   jars 'a file that is no JAR' 2 '' a.jar A
   jars 'no such kind' 2 '' --allow all a.jar a.jar
   jars 'a JAR too few' 2 '' a.jar

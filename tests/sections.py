@@ -83,7 +83,7 @@ def table_faults():
 
 def in_tables(number):
     """The table in which an axiom stands, and its number."""
-    return (2 if 501 <= number <= 515 else 0 if number < 300 else 1), number
+    return (3 if number >= 3000 else 2 if 501 <= number <= 515 else 0 if number < 300 else 1), number
 
 
 # ---- sections that grow

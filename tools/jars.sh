@@ -1,12 +1,14 @@
 #!/bin/sh
 # Compares two JARs class by class, with `punthizha validate`.
 #
-#   tools/jars.sh [--allow KIND].. A.jar B.jar
+#   tools/jars.sh [--axioms core|all] [--allow KIND].. [--refute] A.jar B.jar
 #
 # It prints a line for each method of A.jar that isn't `equivalent` to its namesake in B.jar: the path of the class, a
 # colon, and what the program says of the method. So it does for a class file that can't be read or that only one of the
 # two JARs has. A summary ends it. A class stands under its whole path in the JAR, so that a class of
 # META-INF/versions/N is compared with the one of the same N.
+#
+# The search goes by all axioms, where `--axioms core` doesn't say otherwise.
 #
 # KIND is the word that a line is counted under: unknown, refused, missing, nocode, only-first or only-second. A line of
 # an allowed kind is printed and counted, and doesn't change the status.
@@ -14,6 +16,9 @@
 #   0  every method is equivalent, but for lines of allowed kinds
 #   1  some line is of a kind that isn't allowed
 #   2  a JAR or a class file can't be read, or the program failed, or the words are others than above
+#
+# With --refute, after each `unknown` line comes the line `differs` that `punthizha refute` prints for the method, if it does. Such
+# methods are counted, and the status is then 1 at least, whatever is allowed.
 #
 # It runs the program that `cd crates/punthizha && rt run` leaves, or the one that the environment variable PUNTHIZHA
 # names, and needs unzip.
@@ -29,9 +34,24 @@ fail() {
   exit 2
 }
 
-usage='usage: jars.sh [--allow KIND].. A.jar B.jar'
+usage='usage: jars.sh [--axioms core|all] [--allow KIND].. [--refute] A.jar B.jar'
+axioms=all
 allowed=' '
+refute=no
 while [ $# -gt 2 ]; do
+  if [ "$1" = --refute ]; then
+    refute=yes
+    shift
+    continue
+  fi
+  if [ "$1" = --axioms ]; then
+    case "$2" in
+      core | all) axioms=$2 ;;
+      *) fail "no axioms $2: core or all" ;;
+    esac
+    shift 2
+    continue
+  fi
   [ "$1" = --allow ] || fail "$usage"
   case " $kinds " in
     *" $2 "*) allowed="$allowed$2 " ;;
@@ -72,19 +92,39 @@ found() {
   printf '%s\t%s\n' "$1" "$2" >>"$work/found"
 }
 
-# The lines of a report, each with its kind: the third word of a line, since a blank in a name is printed as %20.
+# The lines of a report, each with its kind: the third word of a line, since a blank in a name is printed as %20. After one
+# that says `unknown` comes what runs of the method show, where they were asked for.
 report() {
   while IFS=' ' read -r method type kind rest; do
     found "$kind" "$1: $method $type $kind${rest:+ $rest}"
+    [ "$kind" = unknown ] && [ "$refute" = yes ] && difference "$1" "$method $type differs "
   done <"$work/said"
+}
+
+# difference CLASS FRONT: the line that begins so of what `refute` says of a class.
+difference() {
+  while IFS= read -r line; do
+    case "$line" in
+      "$2"*) found differs "$1: $line" ;;
+    esac
+  done <"$work/run"
+}
+
+# What runs show of a class of which a line says `unknown`.
+run() {
+  : >"$work/run"
+  [ "$refute" = yes ] && grep -q ' unknown ' "$work/said" || return 0
+  "$program" refute "$work/first/$1" "$work/second/$1" >"$work/run" 2>/dev/null </dev/null
+  status=$?
+  [ "$status" -eq 1 ] || found failed "$1: refute ended with status $status"
 }
 
 comm -12 "$work/first.list" "$work/second.list" >"$work/both"
 while IFS= read -r class; do
-  "$program" validate "$work/first/$class" "$work/second/$class" >"$work/said" 2>/dev/null </dev/null
+  "$program" validate --axioms "$axioms" "$work/first/$class" "$work/second/$class" >"$work/said" 2>/dev/null </dev/null
   status=$?
   case $status in
-    0 | 1) report "$class" ;;
+    0 | 1) run "$class"; report "$class" ;;
     2) found bad "$class: $(cat "$work/said")" ;;
     *) found failed "$class: the program ended with status $status" ;;
   esac
@@ -106,6 +146,7 @@ echo "classes: $(wc -l <"$work/both" | tr -d ' ') in both, $(count only-first) o
   "$(count bad) bad, $(count failed) failed"
 echo "methods: $(count equivalent) equivalent, $(count unknown) unknown, $(count refused) refused, $(count missing) missing," \
   "$(count nocode) without code"
+[ "$refute" = no ] || echo "runs: $(count differs) of the unknown methods differ"
 
 [ "$(count bad)" -eq 0 ] && [ "$(count failed)" -eq 0 ] || exit 2
 for kind in $kinds; do
@@ -114,4 +155,5 @@ for kind in $kinds; do
     *) [ "$(count "$kind")" -eq 0 ] || exit 1 ;;
   esac
 done
+[ "$(count differs)" -eq 0 ] || exit 1
 exit 0

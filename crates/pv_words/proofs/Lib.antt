@@ -6,6 +6,7 @@ pub mod Turns
 pub mod Settling
 pub mod Sound
 pub mod Complete
+pub mod Defaults
 pub mod Exact
 pub mod Building
 pub mod Lists

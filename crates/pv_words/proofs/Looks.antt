@@ -14,13 +14,13 @@ dashes = 45 ∷ 45 ∷ []
 
 pub data Look (word : Text) : Type 0 where
   ends : word ≡ dashes → Look word
-  flag : (t : Text) → bytes_eq word dashes ≡ false → word ≡ 45 ∷ 45 ∷ t → long_of word ≡ Some (name_and_value t) → Look word
+  long : (t : Text) → bytes_eq word dashes ≡ false → word ≡ 45 ∷ 45 ∷ t → long_of word ≡ Some (name_and_value t) → Look word
   short : (b : ℕ) (t : Text) → bytes_eq word dashes ≡ false → word ≡ 45 ∷ b ∷ t → long_of word ≡ None → short_of word ≡ Some (b ∷ t) → Look word
   other : bytes_eq word dashes ≡ false → (BeginsWithDash word → word ≡ codes "-") → long_of word ≡ None → short_of word ≡ None → Look word
 
 dash_other : (b : ℕ) (t : Text) (d : Bool) → (b == 45) ≡ d → Look (45 ∷ b ∷ t)
 dash_other b [] true e = let is : b ≡ 45 = eqb-true b 45 e in ends (ap (λ x. 45 ∷ x ∷ []) is)
-dash_other b (x ∷ t) true e = let is : b ≡ 45 = eqb-true b 45 e in flag (x ∷ t) (rw is refl) (ap (λ y. 45 ∷ y ∷ x ∷ t) is) (rw is refl)
+dash_other b (x ∷ t) true e = let is : b ≡ 45 = eqb-true b 45 e in long (x ∷ t) (rw is refl) (ap (λ y. 45 ∷ y ∷ x ∷ t) is) (rw is refl)
 dash_other b t false e = short b t (rw e refl) refl (rw e refl) (rw e refl)
 
 first_other : (b : ℕ) (t : Text) (d : Bool) → (b == 45) ≡ d → Look (b ∷ t)
@@ -41,7 +41,7 @@ plain_look word no_dash = go (look_of word)
 
     go : Look word → (bytes_eq word dashes ≡ false) × (long_of word ≡ None) × (short_of word ≡ None)
     go (ends is) = absurd (dash (45 ∷ []) is)
-    go (flag t not_end is long) = absurd (dash (45 ∷ t) is)
+    go (long t not_end is some_long) = absurd (dash (45 ∷ t) is)
     go (short b t not_end is no_long some) = absurd (dash (b ∷ t) is)
     go (other not_end is no_long no_short) = (not_end, no_long, no_short)
 

@@ -1,5 +1,5 @@
--- The rows of clap after uses of options and arguments, and what they hold.
-use Rattle.std.proofs.Common.{◌≡◌, ◌∙◌, ◌||◌, Bool, true, false, cond, refl, sym, ap, List, [], ◌∷◌, ◌++◌, slice_get, append_assoc, Option, Some, None, is_some, option_map, option_and_then, true≢false}
+-- The rows of clap after uses of flags, options and arguments, and what they hold.
+use Rattle.std.proofs.Common.{◌≡◌, ◌∙◌, ◌||◌, Bool, true, false, cond, codes, refl, sym, ap, List, [], ◌∷◌, ◌++◌, slice_get, append_assoc, Option, Some, None, is_some, option_map, option_and_then, true≢false}
 use Rattle.std.specs.Prelude.{⊤}
 use Rattle.std.specs.Option.{unwrap_or}
 use Rattle.std.specs.List.{find}
@@ -8,35 +8,46 @@ use Rattle.clap.specs.Walk.{Row, Rule, Text, all_of, first_of, has_row, reading_
 use Rattle.clap.specs.declared.builder.value_parser.Reading.{Reading}
 use Rattle.clap.specs.declared.parser.matches.ValueSource.{ValueSource}
 use Rattle.clap.specs.declared.parser.matches.ValueSource.TheVariants.{CommandLine}
-use Rattle.pv_words.specs.Words.{Part, option, argument}
-use Rattle.pv_words.proofs.Rules.{built_arguments, built_option, same_text, text_same}
+use Rattle.pv_words.specs.Words.{Part, option, argument, flag}
+use Rattle.pv_words.proofs.Rules.{built_arguments, built_flag, built_option, same_text, text_same}
 
 -- ---- parts as uses of rules
 
 abbrev pub id_of : Part → Text
 id_of (option n value) = n
 id_of (argument text) = []
+id_of (flag n) = n
 
+-- the text that the rows hold of it
 abbrev pub text_of : Part → Text
 text_of (option n value) = value
 text_of (argument text) = text
+text_of (flag n) = codes "true"
 
 abbrev pub rule_for : Part → Rule
 rule_for (option n value) = built_option n
 rule_for (argument text) = built_arguments
+rule_for (flag n) = built_flag n
+
+-- the values that its words have
+abbrev pub given_of : Part → List Text
+given_of (option n value) = value ∷ []
+given_of (argument text) = text ∷ []
+given_of (flag n) = []
 
 abbrev pub use_part : Part → List Row → List Row
-use_part p rows = used (rule_for p) (text_of p ∷ []) rows
+use_part p rows = used (rule_for p) (given_of p) rows
 
 -- the rows after these parts
 abbrev pub rows_with : List Row → List Part → List Row
 rows_with rows [] = rows
 rows_with rows (p ∷ parts) = rows_with (use_part p rows) parts
 
--- an option that has no value yet
+-- an option or a flag that isn't given yet
 abbrev pub IsNew : List Row → Part → Type 0
 IsNew rows (option n value) = has_row n rows ≡ false
 IsNew rows (argument text) = ⊤
+IsNew rows (flag n) = has_row n rows ≡ false
 
 abbrev pub AreNew : List Row → List Part → Type 0
 AreNew rows [] = ⊤
@@ -69,10 +80,10 @@ other_text a b c not_b is_c = go (bytes_eq b c) refl
     go false e = refl
     go true e = absurd (true≢false (sym (text_same a b (same_text a c is_c ∙ sym (same_text b c e))) ∙ not_b))
 
-abbrev more_of : Text → Text → List Text → Option (List Text) → Option (List Text) → Option (List Text)
+abbrev pub more_of : Text → Text → List Text → Option (List Text) → Option (List Text) → Option (List Text)
 more_of key id values old other = cond (bytes_eq key id) (Some (unwrap_or old [] ++ values)) other
 
-values_in : (key id : Text) (how : Reading) (s : ValueSource) (values : List Text) (rows : List Row)
+pub values_in : (key id : Text) (how : Reading) (s : ValueSource) (values : List Text) (rows : List Row)
     → all_of id (with_values key how s values rows) ≡ more_of key id values (all_of key rows) (all_of id rows)
 values_in key id how s values [] = go (bytes_eq key id)
   where
@@ -111,6 +122,8 @@ pub part_in : (p : Part) (id : Text) (rows : List Row) → IsNew rows p → all_
 part_in (option n value) id rows new =
     ap (λ rs. all_of id (with_values n (reading_by (built_option n)) CommandLine (value ∷ []) rs)) (without_none n rows new) ∙ values_in n id _ CommandLine (value ∷ []) rows
 part_in (argument text) id rows new = values_in [] id _ CommandLine (text ∷ []) rows
+part_in (flag n) id rows new =
+    ap (λ rs. all_of id (with_values n (reading_by (built_flag n)) CommandLine (codes "true" ∷ []) rs)) (without_none n rows new) ∙ values_in n id _ CommandLine (codes "true" ∷ []) rows
 
 -- ---- the values of an id after parts
 
@@ -140,18 +153,22 @@ rows_hold (p ∷ parts) rows id new =
         ∙ ap (λ k. Some (unwrap_or (all_of k rows) [] ++ text_of p ∷ texts_of id parts)) (same_text (id_of p) id is)
     go false is = refl
 
--- the first value of an option, and all arguments
-pub first_is : (parts : List Part) (name : Text) → AreNew [] parts → first_of name (rows_with [] parts) ≡ slice_get (texts_of name parts) 0
-first_is parts name new = first (find (λ r. bytes_eq r.id name) (rows_with [] parts)) ∙ ap (option_and_then (λ ts. slice_get ts 0)) (rows_hold parts [] name new) ∙ last (texts_of name parts)
+-- the first value of an id
+pub first_by : (id : Text) (rows : List Row) → first_of id rows ≡ option_and_then (λ ts. slice_get ts 0) (all_of id rows)
+first_by id rows = go (find (λ r. bytes_eq r.id id) rows)
   where
-    first : (o : Option Row) → option_and_then (λ (r : Row). slice_get r.values 0) o ≡ option_and_then (λ ts. slice_get ts 0) (option_map (λ (r : Row). r.values) o)
-    first None = refl
-    first (Some r) = refl
+    go : (o : Option Row) → option_and_then (λ (r : Row). slice_get r.values 0) o ≡ option_and_then (λ ts. slice_get ts 0) (option_map (λ (r : Row). r.values) o)
+    go None = refl
+    go (Some r) = refl
 
+pub first_is : (parts : List Part) (name : Text) → AreNew [] parts → first_of name (rows_with [] parts) ≡ slice_get (texts_of name parts) 0
+first_is parts name new = first_by name (rows_with [] parts) ∙ ap (option_and_then (λ ts. slice_get ts 0)) (rows_hold parts [] name new) ∙ last (texts_of name parts)
+  where
     last : (ts : List Text) → option_and_then (λ (us : List Text). slice_get us 0) (grown None ts) ≡ slice_get ts 0
     last [] = refl
     last (t ∷ ts) = refl
 
+-- and all
 pub all_is : (parts : List Part) (name : Text) → AreNew [] parts → unwrap_or (all_of name (rows_with [] parts)) [] ≡ texts_of name parts
 all_is parts name new = ap (λ o. unwrap_or o []) (rows_hold parts [] name new) ∙ go (texts_of name parts)
   where

@@ -1,19 +1,19 @@
-//! The words of a command: its options and its arguments.
+//! The words of a command: its flags, its options and its arguments.
 //!
 //! This layer stands on `clap`, which walks over the words, on `pv_token` for numbers, and on `pv_value` and `pv_list`.
 //! The definitions that it meets are `Give` (`specs/Words`) and `IsNumber` (`specs/Numbers`). The word that names the
 //! command is not among the words.
 //!
-//! The layer above uses `read_words`. For a `Shape`, which has the names of the options and the number of arguments, it
-//! gives exactly the options and arguments that the words give, and None where they give none (`Reads`). Out of memory
-//! is the one error. `number_in` reads the number that is the value of an option. `laws` says what some words give, and
-//! that words give one thing at most.
+//! The layer above uses `read_words`. For a `Shape`, which has the names of the flags and options and the number of
+//! arguments, it gives exactly the flags, options and arguments that the words give, and None where they give none
+//! (`Reads`). Out of memory is the one error. `number_in` reads the number that is the value of an option. `laws` says
+//! what some words give, and that words give one thing at most.
 //!
 //! Where clap by itself would do something else:
 //!
 //! - It would take `--help`, `--version`, and the first word as the name of the program. These are turned off. The
-//!   command has no subcommand, so `help` is a word like others. Names are not abbreviated, and no option stands twice,
-//!   because clap does both only where it is asked to.
+//!   command has no subcommand, so `help` is a word like others. Names are not abbreviated, and no option or flag stands
+//!   twice, because clap does both only where it is asked to.
 //! - A positional with a fixed number of values must have them in a row. So that options may stand between arguments,
 //!   the command of clap has one positional that takes a word at each use, any number of times. The number of
 //!   arguments is tested after clap.

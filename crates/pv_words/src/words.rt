@@ -4,7 +4,7 @@ ghost use Rattle.std.specs.Prelude.{◌≡◌, IfOk, map, option_map};
 ghost use Rattle.clap.specs.Words.{first_value, found_of};
 ghost use Rattle.pv_words.specs.Words.{AreNames};
 ghost use Rattle.pv_words.specs.Answers.{Reads, command_of, texts};
-ghost use Rattle.pv_words.specs.Matches.{AreArguments, option_values};
+ghost use Rattle.pv_words.specs.Matches.{AreArguments, flag_values, option_values};
 
 use crate::command::{ARGUMENTS, clap_command};
 use crate::texts::{are_file_names, are_values, law_texts};
@@ -14,18 +14,37 @@ use pv_list::Listed;
 use pv_value::Memory;
 use std::alloc::{AllocError, Global};
 
-/// What a command takes: the names of its options, which aren't empty and have no `=`, and how many arguments it has.
+/// What a command takes: the names of its flags and of its options, which aren't empty and have no `=`, and how many
+/// arguments it has. No flag has the name of an option.
 #[derive(Clone, Copy, Debug)]
 pub struct Shape<'a> {
+    pub flags: &'a [&'a str],
     pub options: &'a [&'a str],
     pub arguments: usize,
 }
 
-/// What words give a command: the value of each option, in the order of its shape, and the arguments.
+/// What words give a command: whether each flag is given and the value of each option, in the order of its shape, and the
+/// arguments.
 #[derive(Debug, Drop)]
 pub struct Words<'a> {
+    pub flags: Listed<bool>,
     pub options: Listed<Option<&'a str>>,
     pub arguments: Listed<&'a str>,
+}
+
+// Whether each flag is given, by the matches.
+fn flag_values(
+    alloc: Global,
+    flags: &[&str],
+    matches: &ArgMatches<'_>,
+) -> Result<Vec<bool>, AllocError>
+    ensures { IfOk result (λ values. values.items ≡ flag_values (texts flags.now) (found_of matches.now)) }
+{
+    let mut values = Vec::new(alloc);
+    for name in flags {
+        values.push(matches.get_str(*name) == Some("true"))?;
+    }
+    Ok(values)
 }
 
 // The value of each option in the matches.
@@ -55,24 +74,25 @@ fn arguments<'a>(alloc: Global, matches: &ArgMatches<'a>) -> Result<Vec<&'a str>
     Ok(arguments)
 }
 
-/// The options and arguments that the words of a command give, None where they give none. Out of memory is the one error.
+/// The flags, options and arguments that the words of a command give, None where they give none. Out of memory is the one error.
 pub fn read_words<'a>(
     alloc: Global,
     shape: &Shape<'a>,
     words: &'a [&'a str],
 ) -> Result<Option<Words<'a>>, Memory>
-    requires names { AreNames (command_of shape.now).names }
+    requires names { AreNames (command_of shape.now) }
     ensures { IfOk result (Reads (command_of shape.now) (texts words.now)) }
 {
     // clap finds a character after each `-`, because words are UTF-8.
     law_texts(words);
-    let command = clap_command(alloc, shape.options)?;
+    let command = clap_command(alloc, shape.flags, shape.options)?;
     match command.try_get_matches_from(words) {
         Err(error) => match error.kind() {
             ErrorKind::OutOfMemory => Err(Memory),
             _ => Ok(None),
         },
         Ok(matches) => {
+            let flags = flag_values(alloc, shape.flags, &matches)?;
             let options = option_values(alloc, shape.options, &matches)?;
             let arguments = arguments(alloc, &matches)?;
             if arguments.len() == shape.arguments
@@ -80,6 +100,7 @@ pub fn read_words<'a>(
                 && are_file_names(&arguments)
             {
                 Ok(Some(Words {
+                    flags: Listed::from(flags),
                     options: Listed::from(options),
                     arguments: Listed::from(arguments),
                 }))

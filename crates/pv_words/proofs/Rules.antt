@@ -1,5 +1,5 @@
 -- The command of clap as it is built: the rule of the arguments, then that of each flag, and then that of each option.
-use Rattle.std.proofs.Common.{◌≡◌, ◌∙◌, ℕ, ◌+◌, ◌&&◌, ◌||◌, Bool, true, false, not, cond, refl, sym, ap, List, [], ◌∷◌, ◌++◌, map, Some, None, Option, is_some, fold, true≢false}
+use Rattle.std.proofs.Common.{◌≡◌, ◌∙◌, ℕ, ◌+◌, ◌&&◌, ◌||◌, Bool, true, false, not, cond, refl, sym, ap, List, [], ◌∷◌, ◌++◌, map, Some, None, is_some, fold, true≢false}
 use Rattle.std.specs.List.{count_by, find, list_all, list_any}
 use Rattle.std.specs.Str.{bytes_eq}
 use Rattle.std.proofs.lemmas.Bool.{and_parts, not-true}

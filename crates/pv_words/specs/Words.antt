@@ -1,5 +1,5 @@
 -- What the words of a command are: `--NAME VALUE` and `--NAME=VALUE` give an option, `--NAME` gives a flag, and `--` ends both.
-use Rattle.std.specs.Prelude.{◌≡◌, ◌≢◌, ◌==◌, ◌+◌, ◌&&◌, ℕ, Bool, true, false, not, List, [], ◌∷◌, ◌++◌, map, length, if◌then◌else◌, Option, codes, bytes_eq, option_to_list}
+use Rattle.std.specs.Prelude.{◌≡◌, ◌≢◌, ◌==◌, ◌+◌, ◌&&◌, ℕ, Bool, true, not, List, [], ◌∷◌, ◌++◌, map, length, if◌then◌else◌, Option, codes, bytes_eq, option_to_list}
 use Rattle.std.specs.List.{AllByRecursion, list_all, list_any}
 
 abbrev pub Text : Type 0

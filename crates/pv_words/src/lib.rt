@@ -14,11 +14,12 @@
 //! - It would take `--help`, `--version`, and the first word as the name of the program. These are turned off. The
 //!   command has no subcommand, so `help` is a word like others. Names are not abbreviated, and no option or flag stands
 //!   twice, because clap does both only where it is asked to.
-//! - A positional with a fixed number of values must have them in a row. So that options may stand between arguments,
-//!   the command of clap has one positional that takes a word at each use, any number of times. The number of
-//!   arguments is tested after clap.
+//! - A positional with a fixed number of values must have them in a row. So that options and flags may stand between
+//!   arguments, the command of clap has one positional that takes a word at each use, any number of times. The number
+//!   of arguments is tested after clap.
 //! - It takes an empty value or one that begins with `-` after `--NAME=`, and `-` after `--NAME`. Values are tested
 //!   after clap. It takes no other word that begins with `-` as the value of `--NAME`: it reads such a word as a flag.
+//! - A flag that isn't given has a value for clap all the same, `false`. That of a flag that is given is `true`.
 //! - It takes an empty word and `-` as arguments. These are tested after clap too.
 //! - `--` after `--NAME` ends the options for clap as well, and then it refuses the words, because the option has no
 //!   value.

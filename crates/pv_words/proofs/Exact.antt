@@ -4,7 +4,6 @@ use Rattle.std.specs.Option.{option_map_or, unwrap_or}
 use Rattle.std.specs.List.{AllByRecursion}
 use Rattle.std.specs.Str.{bytes_eq}
 use Rattle.std.proofs.lemmas.Bool.{or_from, or_left, or_right}
-use Rattle.std.proofs.lemmas.List.{length-replicate}
 use Rattle.clap.specs.Kinds.{Kinds, or_else}
 use Rattle.clap.specs.Simple.{App, matches_of, names_of}
 use Rattle.clap.specs.Faults.{built_fault, fault_of, settle_fault, walk_fault}
@@ -14,7 +13,7 @@ use Rattle.pv_words.specs.Words.{AreNames, Command, Give, Part, option, argument
 use Rattle.pv_words.specs.Matches.{AreFileNames, AreValues, IsOptionValue, app_with}
 use Rattle.pv_words.proofs.Rules.{Kind, a_flag, an_option, built_app, built_is, built_rules, empty_no_flag, flag_is_name, kind_of, neither, option_is_name, option_no_flag, same_text, text_same}
 use Rattle.pv_words.proofs.Rows.{AreNew, all_is, first_by, first_is, grown, row_there, rows_hold, rows_with, texts_of}
-use Rattle.pv_words.proofs.Once.{AreNamed, are_new, each_flag_once, each_once, firsts_of, flag_once_each, is_given, is_known, is_positive, new_fits, once_each, once_firsts, once_given, texts_arguments, texts_times, texts_values}
+use Rattle.pv_words.proofs.Once.{AreNamed, are_new, each_flag_once, each_once, firsts_of, flag_once_each, is_given, is_known, is_positive, new_fits, once_each, once_firsts, once_given, texts_arguments, texts_times, texts_values, times_are}
 use Rattle.pv_words.proofs.Turns.{at, ended, shape_with, tail_fault, tail_rows}
 use Rattle.pv_words.proofs.Sound.{sound}
 use Rattle.pv_words.proofs.Complete.{takes}
@@ -82,7 +81,7 @@ module _ (c : Command) (are : AreNames c) (parts : List Part) (named : AreNamed 
 
   flags_once : (m : Text) → is_among c.flags m ≡ true → times_of parts m ≤ 1
   flags_once m among =
-      subst (λ (k : ℕ). k ≤ 1) (ap (λ (ts : List Text). length ts) (texts_times c are parts m named among) ∙ length-replicate (times_of parts m) (codes "true"))
+      subst (λ (k : ℕ). k ≤ 1) (times_are c are parts m named among)
       (new_fits parts [] m (flag_is_name c are m among) new)
 
 names_known : (c : Command) (parts : List Part) → AllByRecursion (IsPart c) parts → AreNamed c parts
@@ -192,9 +191,8 @@ module _ (c : Command) (words : List Text) (names : AreNames c) where
     where
       go : Kind c m → length (texts_of m g.parts) ≤ 1
       go (a_flag among) =
-          subst (λ (k : ℕ). k ≤ 1) (sym (ap (λ (ts : List Text). length ts) (texts_times c names g.parts m named among) ∙ length-replicate (times_of g.parts m) (codes "true")))
-          (flag_once_each g.parts c.flags flags m g.flagged among)
-      go (an_option no_flag among) = subst (λ (ts : List Text). length ts ≤ 1) (sym (texts_values c names g.parts m named among)) (once_each g.parts c.names options m g.once among)
+          subst (λ (k : ℕ). k ≤ 1) (sym (times_are c names g.parts m named among)) (flag_once_each g.parts c.flags flags g.flagged m among)
+      go (an_option no_flag among) = subst (λ (ts : List Text). length ts ≤ 1) (sym (texts_values c names g.parts m named among)) (once_each g.parts c.names options g.once m among)
       go (neither no_flag no_option) = absurd (true≢false (sym known ∙ or_from (is_among c.flags m) (is_among c.names m) no_flag no_option))
 
   pub given : (flags : List Bool) (options : List (Option Text)) (arguments : List Text) → Give c words flags options arguments → Given flags options arguments

@@ -1,10 +1,11 @@
 -- An option or a flag that stands at most once among the parts is new at each use, and the other way round.
-use Rattle.std.proofs.Common.{◌≡◌, ◌∙◌, ◌+◌, ◌≤◌, ◌||◌, ℕ, zero, suc, Bool, true, false, cond, codes, refl, sym, ap, subst, arith, List, [], ◌∷◌, ◌++◌, map, length, replicate, slice_get, Option, Some, None, is_some, option_to_list, true≢false}
+use Rattle.std.proofs.Common.{◌≡◌, ◌∙◌, ◌+◌, ◌≤◌, ◌||◌, ℕ, zero, suc, Bool, true, false, cond, codes, refl, sym, ap, ap₂, subst, arith, List, [], ◌∷◌, ◌++◌, map, length, replicate, slice_get, Option, Some, None, is_some, option_to_list, true≢false}
 use Rattle.std.specs.Prelude.{⊤}
 use Rattle.std.specs.List.{AllByRecursion}
 use Rattle.std.specs.Option.{unwrap_or}
 use Rattle.std.specs.Str.{bytes_eq}
 use Rattle.std.proofs.lemmas.Bool.{or_left, or_right}
+use Rattle.std.proofs.lemmas.List.{length-replicate}
 use Rattle.clap.specs.Walk.{Row, Text, all_of, has_row}
 use Rattle.pv_words.specs.Words.{AreNames, Command, Part, option, argument, flag, arguments_of, is_among, is_name, once_or_never, times_of, values_of}
 use Rattle.pv_words.proofs.Rules.{flag_is_name, flag_other, option_is_name, option_other, same_text, text_same}
@@ -128,114 +129,108 @@ module _ (c : Command) (are : AreNames c) where
       go true later = let e : 1 + times_of parts m ≡ suc (times_of parts m) = omega arith in rw e (ap (λ ts. codes "true" ∷ ts) later)
       go false later = later
 
+  pub times_are : (parts : List Part) (m : Text) → AreNamed c parts → is_among c.flags m ≡ true → length (texts_of m parts) ≡ times_of parts m
+  times_are parts m named among = ap (λ (ts : List Text). length ts) (texts_times parts m named among) ∙ length-replicate (times_of parts m) (codes "true")
+
   pub texts_arguments : (parts : List Part) → AreNamed c parts → texts_of [] parts ≡ arguments_of parts
   texts_arguments [] named = refl
   texts_arguments (option n value ∷ parts) named = rw (no_name n (option_is_name c are n named.0)) (texts_arguments parts named.1)
   texts_arguments (argument text ∷ parts) named = ap (λ ts. text ∷ ts) (texts_arguments parts named.1)
   texts_arguments (flag n ∷ parts) named = rw (no_name n (flag_is_name c are n named.0)) (texts_arguments parts named.1)
 
--- ---- at most one value
+-- ---- each at most once
 
-at_most_one : (ts : List Text) → length ts ≤ 1 → ts ≡ option_to_list (slice_get ts 0)
-at_most_one [] le = refl
-at_most_one (t ∷ []) le = refl
-at_most_one (t ∷ u ∷ us) le = absurd (omega arith)
+-- what names have are images under `to`, which `back` undoes
+module _ {X Y : Type 0} (of : Text → X) (to : Y → X) (back : X → Y) where
+  each_image : (names : List Text) → ((m : Text) → is_among names m ≡ true → of m ≡ to (back (of m))) → map of names ≡ map to (map (λ n. back (of n)) names)
+  each_image [] are = refl
+  each_image (n ∷ names) are =
+      ap₂ (λ x xs. x ∷ xs) (are n (or_left (bytes_eq n n) (is_among names n) (text_same n n refl))) (each_image names (λ m e. are m (or_right (bytes_eq n m) (is_among names m) e)))
+
+  image_at : (names : List Text) (ys : List Y) (m : Text) → map of names ≡ map to ys → is_among names m ≡ true → (y : Y) × (of m ≡ to y)
+  image_at [] ys m e among = absurd (cc)
+  image_at (n ∷ names) [] m e among = absurd (cc)
+  image_at (n ∷ names) (y ∷ ys) m e among =
+      let rest : map of names ≡ map to ys = cc in
+      let first : of n ≡ to y = cc in
+      go first (bytes_eq n m) refl among (image_at names ys m rest)
+    where
+      go : of n ≡ to y → (b : Bool) → bytes_eq n m ≡ b → (b || is_among names m) ≡ true → (is_among names m ≡ true → (z : Y) × (of m ≡ to z)) → (z : Y) × (of m ≡ to z)
+      go first true same here again = (y, ap of (sym (same_text n m same)) ∙ first)
+      go first false same here again = again here
+
+  images_back : ((y : Y) → y ≡ back (to y)) → (names : List Text) (ys : List Y) → map of names ≡ map to ys → ys ≡ map (λ n. back (of n)) names
+  images_back undoes [] [] e = refl
+  images_back undoes [] (y ∷ ys) e = absurd (cc)
+  images_back undoes (n ∷ names) [] e = absurd (cc)
+  images_back undoes (n ∷ names) (y ∷ ys) e =
+      let rest : map of names ≡ map to ys = cc in
+      let first : of n ≡ to y = cc in
+      ap₂ (λ x xs. x ∷ xs) (undoes y ∙ ap back (sym first)) (images_back undoes names ys rest)
+
+-- an option, which has one value or none
+abbrev first_value : List Text → Option Text
+first_value ts = slice_get ts 0
+
+one_or_none : (ts : List Text) → length ts ≤ 1 → ts ≡ option_to_list (first_value ts)
+one_or_none [] le = refl
+one_or_none (t ∷ []) le = refl
+one_or_none (t ∷ u ∷ us) le = absurd (omega arith)
+
+option_is_one : (o : Option Text) → length (option_to_list o) ≤ 1
+option_is_one None = omega arith
+option_is_one (Some t) = omega arith
+
+option_back : (o : Option Text) → o ≡ first_value (option_to_list o)
+option_back None = refl
+option_back (Some t) = refl
 
 abbrev pub firsts_of : List Part → List Text → List (Option Text)
 firsts_of parts names = map (λ n. slice_get (values_of parts n) 0) names
 
-pub each_once : (parts : List Part) (names : List Text) → ((m : Text) → is_among names m ≡ true → length (values_of parts m) ≤ 1) → map (values_of parts) names ≡ map option_to_list (firsts_of parts names)
-each_once parts [] le = refl
-each_once parts (n ∷ names) le =
-    let first = at_most_one (values_of parts n) (le n (rw (text_same n n refl) refl)) in
-    let rest = each_once parts names (λ m e. le m (later (bytes_eq n m) (is_among names m) e)) in
-    cc
-  where
-    later : (a b : Bool) → b ≡ true → (a || b) ≡ true
-    later true b e = refl
-    later false b e = e
+module _ (parts : List Part) (names : List Text) where
+  pub each_once : ((m : Text) → is_among names m ≡ true → length (values_of parts m) ≤ 1) → map (values_of parts) names ≡ map option_to_list (firsts_of parts names)
+  each_once le = each_image (values_of parts) option_to_list first_value names (λ m among. one_or_none (values_of parts m) (le m among))
 
-pub once_each : (parts : List Part) (names : List Text) (options : List (Option Text)) (m : Text) → map (values_of parts) names ≡ map option_to_list options → is_among names m ≡ true → length (values_of parts m) ≤ 1
-once_each parts [] options m e among = absurd (cc)
-once_each parts (n ∷ names) [] m e among = absurd (cc)
-once_each parts (n ∷ names) (o ∷ options) m e among =
-    let rest : map (values_of parts) names ≡ map option_to_list options = cc in
-    go (bytes_eq n m) refl among (once_each parts names options m rest)
-  where
-    one : (x : Option Text) → length (option_to_list x) ≤ 1
-    one None = omega arith
-    one (Some t) = omega arith
+  module _ (options : List (Option Text)) (are : map (values_of parts) names ≡ map option_to_list options) where
+    pub once_each : (m : Text) → is_among names m ≡ true → length (values_of parts m) ≤ 1
+    once_each m among =
+        let one = image_at (values_of parts) option_to_list first_value names options m are among in
+        subst (λ (ts : List Text). length ts ≤ 1) (sym one.1) (option_is_one one.0)
 
-    go : (b : Bool) → bytes_eq n m ≡ b → (b || is_among names m) ≡ true → (is_among names m ≡ true → length (values_of parts m) ≤ 1) → length (values_of parts m) ≤ 1
-    go true same here again =
-        let first : values_of parts n ≡ option_to_list o = cc in
-        subst (λ k. length (values_of parts k) ≤ 1) (same_text n m same) (subst (λ (ts : List Text). length ts ≤ 1) (sym first) (one o))
-    go false same here again = again here
+    pub once_firsts : options ≡ firsts_of parts names
+    once_firsts = images_back (values_of parts) option_to_list first_value option_back names options are
 
-pub once_firsts : (parts : List Part) (names : List Text) (options : List (Option Text)) → map (values_of parts) names ≡ map option_to_list options → options ≡ firsts_of parts names
-once_firsts parts [] [] e = refl
-once_firsts parts [] (o ∷ options) e = absurd (cc)
-once_firsts parts (n ∷ names) [] e = absurd (cc)
-once_firsts parts (n ∷ names) (o ∷ options) e =
-    let rest : map (values_of parts) names ≡ map option_to_list options = cc in
-    let first : values_of parts n ≡ option_to_list o = cc in
-    let same = once_firsts parts names options rest in
-    let one : o ≡ slice_get (values_of parts n) 0 = back o ∙ ap (λ (ts : List Text). slice_get ts 0) (sym first) in
-    cc
-  where
-    back : (x : Option Text) → x ≡ slice_get (option_to_list x) 0
-    back None = refl
-    back (Some t) = refl
-
--- ---- a flag at most once
-
+-- a flag, which is given once or never
 abbrev pub is_positive : ℕ → Bool
 is_positive zero = false
 is_positive (suc n) = true
-
-abbrev pub is_given : List Part → Text → Bool
-is_given parts n = is_positive (times_of parts n)
 
 never_or_once : (n : ℕ) → n ≤ 1 → n ≡ once_or_never (is_positive n)
 never_or_once zero le = refl
 never_or_once (suc zero) le = refl
 never_or_once (suc (suc n)) le = absurd (omega arith)
 
-pub each_flag_once : (parts : List Part) (names : List Text) → ((m : Text) → is_among names m ≡ true → times_of parts m ≤ 1) → map (times_of parts) names ≡ map once_or_never (map (is_given parts) names)
-each_flag_once parts [] le = refl
-each_flag_once parts (n ∷ names) le =
-    let first = never_or_once (times_of parts n) (le n (rw (text_same n n refl) refl)) in
-    let rest = each_flag_once parts names (λ m e. le m (or_right (bytes_eq n m) (is_among names m) e)) in
-    cc
+flag_is_one : (b : Bool) → once_or_never b ≤ 1
+flag_is_one true = omega arith
+flag_is_one false = omega arith
 
-pub flag_once_each : (parts : List Part) (names : List Text) (flags : List Bool) (m : Text) → map (times_of parts) names ≡ map once_or_never flags → is_among names m ≡ true → times_of parts m ≤ 1
-flag_once_each parts [] flags m e among = absurd (cc)
-flag_once_each parts (n ∷ names) [] m e among = absurd (cc)
-flag_once_each parts (n ∷ names) (x ∷ flags) m e among =
-    let rest : map (times_of parts) names ≡ map once_or_never flags = cc in
-    go (bytes_eq n m) refl among (flag_once_each parts names flags m rest)
-  where
-    one : (y : Bool) → once_or_never y ≤ 1
-    one true = omega arith
-    one false = omega arith
+flag_back : (b : Bool) → b ≡ is_positive (once_or_never b)
+flag_back true = refl
+flag_back false = refl
 
-    go : (b : Bool) → bytes_eq n m ≡ b → (b || is_among names m) ≡ true → (is_among names m ≡ true → times_of parts m ≤ 1) → times_of parts m ≤ 1
-    go true same here again =
-        let first : times_of parts n ≡ once_or_never x = cc in
-        subst (λ k. times_of parts k ≤ 1) (same_text n m same) (subst (λ (t : ℕ). t ≤ 1) (sym first) (one x))
-    go false same here again = again here
+abbrev pub is_given : List Part → Text → Bool
+is_given parts n = is_positive (times_of parts n)
 
-pub once_given : (parts : List Part) (names : List Text) (flags : List Bool) → map (times_of parts) names ≡ map once_or_never flags → flags ≡ map (is_given parts) names
-once_given parts [] [] e = refl
-once_given parts [] (x ∷ flags) e = absurd (cc)
-once_given parts (n ∷ names) [] e = absurd (cc)
-once_given parts (n ∷ names) (x ∷ flags) e =
-    let rest : map (times_of parts) names ≡ map once_or_never flags = cc in
-    let first : times_of parts n ≡ once_or_never x = cc in
-    let same = once_given parts names flags rest in
-    let one : x ≡ is_given parts n = back x ∙ ap is_positive (sym first) in
-    cc
-  where
-    back : (y : Bool) → y ≡ is_positive (once_or_never y)
-    back true = refl
-    back false = refl
+module _ (parts : List Part) (names : List Text) where
+  pub each_flag_once : ((m : Text) → is_among names m ≡ true → times_of parts m ≤ 1) → map (times_of parts) names ≡ map once_or_never (map (is_given parts) names)
+  each_flag_once le = each_image (times_of parts) once_or_never is_positive names (λ m among. never_or_once (times_of parts m) (le m among))
+
+  module _ (flags : List Bool) (are : map (times_of parts) names ≡ map once_or_never flags) where
+    pub flag_once_each : (m : Text) → is_among names m ≡ true → times_of parts m ≤ 1
+    flag_once_each m among =
+        let one = image_at (times_of parts) once_or_never is_positive names flags m are among in
+        subst (λ (k : ℕ). k ≤ 1) (sym one.1) (flag_is_one one.0)
+
+    pub once_given : flags ≡ map (is_given parts) names
+    once_given = images_back (times_of parts) once_or_never is_positive flag_back names flags are

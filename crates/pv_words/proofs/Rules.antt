@@ -1,8 +1,10 @@
 -- The command of clap as it is built: the rule of the arguments, then that of each flag, and then that of each option.
 use Rattle.std.proofs.Common.{◌≡◌, ◌∙◌, ℕ, ◌+◌, ◌&&◌, ◌||◌, Bool, true, false, not, cond, refl, sym, ap, List, [], ◌∷◌, ◌++◌, map, Some, None, is_some, fold, true≢false}
+use Rattle.std.specs.Option.{option_or}
 use Rattle.std.specs.List.{count_by, find, list_all, list_any}
 use Rattle.std.specs.Str.{bytes_eq}
 use Rattle.std.proofs.lemmas.Bool.{and_parts, not-true}
+use Rattle.std.proofs.lemmas.List.Folds.{find-append}
 use Rattle.std.proofs.lemmas.Slice.Eq.{bytes_eq-Decides}
 use Rattle.clap.specs.Walk.{Rule, Text, arg_by_id, arg_by_long, arg_by_short, has_long, has_short, is_early_multiple}
 use Rattle.clap.specs.Simple.{App, built, filled, filled_from, with_index}
@@ -99,29 +101,16 @@ module _ (p : Rule → Bool) (rule : Text → Rule) (name : Text) (asks : (n : T
       go true is e later = absurd (cc)
       go false is e later = rw is (later e)
 
-found_first : (p : Rule → Bool) (r : Rule) (rules more : List Rule) → find p rules ≡ Some r → find p (rules ++ more) ≡ Some r
-found_first p r [] more e = absurd (cc)
-found_first p r (x ∷ rules) more e = go (p x) e (found_first p r rules more)
-  where
-    go : (b : Bool) → cond b (Some x) (find p rules) ≡ Some r → (find p rules ≡ Some r → find p (rules ++ more) ≡ Some r) → cond b (Some x) (find p (rules ++ more)) ≡ Some r
-    go true e later = e
-    go false e later = later e
-
-found_later : (p : Rule → Bool) (rules more : List Rule) → find p rules ≡ None → find p (rules ++ more) ≡ find p more
-found_later p [] more e = refl
-found_later p (x ∷ rules) more e = go (p x) e (found_later p rules more)
-  where
-    go : (b : Bool) → cond b (Some x) (find p rules) ≡ None → (find p rules ≡ None → find p (rules ++ more) ≡ find p more) → cond b (Some x) (find p (rules ++ more)) ≡ find p more
-    go true e later = absurd (cc)
-    go false e later = later e
-
 -- the rule of a flag, of an option, or none
 module _ (c : Command) (p : Rule → Bool) (name : Text) (flag_asks : (n : Text) → p (built_flag n) ≡ bytes_eq n name) (option_asks : (n : Text) → p (built_option n) ≡ bytes_eq n name) where
+  flags_first : find p (named_rules c) ≡ option_or (find p (map built_flag c.flags)) (find p (map built_option c.names))
+  flags_first = find-append p (map built_flag c.flags) (map built_option c.names)
+
   flag_found : is_among c.flags name ≡ true → find p (named_rules c) ≡ Some (built_flag name)
-  flag_found e = found_first p (built_flag name) (map built_flag c.flags) (map built_option c.names) (found p built_flag name flag_asks c.flags e)
+  flag_found e = flags_first ∙ ap (λ o. option_or o (find p (map built_option c.names))) (found p built_flag name flag_asks c.flags e)
 
   past_flags : is_among c.flags name ≡ false → find p (named_rules c) ≡ find p (map built_option c.names)
-  past_flags e = found_later p (map built_flag c.flags) (map built_option c.names) (missing p built_flag name flag_asks c.flags e)
+  past_flags e = flags_first ∙ ap (λ o. option_or o (find p (map built_option c.names))) (missing p built_flag name flag_asks c.flags e)
 
   option_found : is_among c.flags name ≡ false → is_among c.names name ≡ true → find p (named_rules c) ≡ Some (built_option name)
   option_found no_flag e = past_flags no_flag ∙ found p built_option name option_asks c.names e
@@ -165,23 +154,13 @@ short_missing c x = no_rule_found (λ a. not (is_some a.index) && has_short a x)
 
 -- ---- the names of a command
 
-pub among_is_name : (names : List Text) (n : Text) → list_all is_name names ≡ true → is_among names n ≡ true → is_name n ≡ true
-among_is_name [] n all e = absurd (cc)
-among_is_name (m ∷ names) n all e = go (bytes_eq m n) refl e (among_is_name names n)
+all_among : (p : Text → Bool) (names : List Text) (n : Text) → list_all p names ≡ true → is_among names n ≡ true → p n ≡ true
+all_among p [] n all e = absurd (cc)
+all_among p (m ∷ names) n all e = go (bytes_eq m n) refl e (all_among p names n)
   where
-    go : (b : Bool) → bytes_eq m n ≡ b → (b || is_among names n) ≡ true → (list_all is_name names ≡ true → is_among names n ≡ true → is_name n ≡ true) → is_name n ≡ true
-    go true same e again = ap is_name (sym (same_text m n same)) ∙ (and_parts (is_name m) _ all).0
-    go false same e again = again (and_parts (is_name m) _ all).1 e
-
--- what holds of none doesn't hold of one
-none_among : (p : Text → Bool) (names : List Text) (n : Text) → list_any p names ≡ false → is_among names n ≡ true → p n ≡ false
-none_among p [] n none e = absurd (cc)
-none_among p (m ∷ names) n none e = go (bytes_eq m n) (p m) refl refl e none (none_among p names n)
-  where
-    go : (b d : Bool) → bytes_eq m n ≡ b → p m ≡ d → (b || is_among names n) ≡ true → (d || list_any p names) ≡ false → (list_any p names ≡ false → is_among names n ≡ true → p n ≡ false) → p n ≡ false
-    go b true same is e none again = absurd (cc)
-    go true false same is e none again = ap p (sym (same_text m n same)) ∙ is
-    go false false same is e none again = again none e
+    go : (b : Bool) → bytes_eq m n ≡ b → (b || is_among names n) ≡ true → (list_all p names ≡ true → is_among names n ≡ true → p n ≡ true) → p n ≡ true
+    go true same e again = ap p (sym (same_text m n same)) ∙ (and_parts (p m) (list_all p names) all).0
+    go false same e again = again (and_parts (p m) (list_all p names) all).1 e
 
 differs : (a b : Text) → (a ≡ b → ⊥) → bytes_eq a b ≡ false
 differs a b other = go (bytes_eq a b) refl
@@ -191,17 +170,17 @@ differs a b other = go (bytes_eq a b) refl
     go false same = refl
 
 module _ (c : Command) (are : AreNames c) where
-  abbrev is_overlapping : Bool
-  is_overlapping = list_any (is_among c.names) c.flags
+  abbrev is_flag : Text → Bool
+  is_flag n = is_name n && not (is_among c.names n)
 
-  named_apart : ((list_all is_name c.flags && list_all is_name c.names) ≡ true) × (not is_overlapping ≡ true)
-  named_apart = and_parts (list_all is_name c.flags && list_all is_name c.names) (not is_overlapping) are
+  both : (list_all is_name c.names ≡ true) × (list_all is_flag c.flags ≡ true)
+  both = and_parts (list_all is_name c.names) (list_all is_flag c.flags) are
 
-  named : (list_all is_name c.flags ≡ true) × (list_all is_name c.names ≡ true)
-  named = and_parts (list_all is_name c.flags) (list_all is_name c.names) named_apart.0
+  flag_parts : (n : Text) → is_among c.flags n ≡ true → (is_name n ≡ true) × (not (is_among c.names n) ≡ true)
+  flag_parts n e = and_parts (is_name n) (not (is_among c.names n)) (all_among is_flag c.flags n both.1 e)
 
   pub flag_is_name : (n : Text) → is_among c.flags n ≡ true → is_name n ≡ true
-  flag_is_name n = among_is_name c.flags n named.0
+  flag_is_name n e = (flag_parts n e).0
 
   -- the empty text, which is the id of the arguments, is no flag
   pub empty_no_flag : is_among c.flags [] ≡ false
@@ -212,16 +191,13 @@ module _ (c : Command) (are : AreNames c) where
       go false among = refl
 
   pub option_is_name : (n : Text) → is_among c.names n ≡ true → is_name n ≡ true
-  option_is_name n = among_is_name c.names n named.1
-
-  not_both : (n : Text) → is_among c.flags n ≡ true → is_among c.names n ≡ false
-  not_both n e = none_among (is_among c.names) c.flags n (not-true is_overlapping named_apart.1) e
+  option_is_name n = all_among is_name c.names n both.0
 
   pub option_no_flag : (n : Text) → is_among c.names n ≡ true → is_among c.flags n ≡ false
   option_no_flag n e = go (is_among c.flags n) refl
     where
       go : (b : Bool) → is_among c.flags n ≡ b → b ≡ false
-      go true is = absurd (true≢false (sym e ∙ not_both n is))
+      go true is = absurd (true≢false (sym e ∙ not-true (is_among c.names n) (flag_parts n is).1))
       go false is = refl
 
   no_flag_is_option : (n m : Text) → is_among c.flags n ≡ true → is_among c.names m ≡ true → n ≡ m → ⊥

@@ -92,6 +92,6 @@ pub record Give (c : Command) (words : List Text) (flags : List Bool) (options :
 abbrev pub is_name : Text → Bool
 is_name name = not (bytes_eq name []) && list_all (λ b. not (b == 61)) name
 
--- flags and options have names, and no flag has that of an option
+-- options and flags have names, and no flag has that of an option
 abbrev pub AreNames : Command → Type 0
-AreNames c = (list_all is_name c.flags && list_all is_name c.names && not (list_any (is_among c.names) c.flags)) ≡ true
+AreNames c = (list_all is_name c.names && list_all (λ name. is_name name && not (is_among c.names name)) c.flags) ≡ true

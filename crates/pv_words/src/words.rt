@@ -32,7 +32,7 @@ pub struct Words<'a> {
     pub arguments: Listed<&'a str>,
 }
 
-// Whether each flag is given, by the matches.
+// Whether each flag is given, by the matches. (What `get_flag` says of a text other than `true` and `false` no clause pins.)
 fn flag_values(
     alloc: Global,
     flags: &[&str],

@@ -46,6 +46,7 @@ pub record Command : Type 0 where
   pub names : List Text
   pub count : ℕ
 
+-- the name is one of these
 abbrev pub is_among : List Text → Text → Bool
 is_among names name = list_any (λ n. bytes_eq n name) names
 

@@ -9,3 +9,5 @@ pub mod Ascending
 pub mod Finding
 pub mod Folds
 pub mod ClearedLeast
+pub mod ClearedOnce
+pub mod Cited

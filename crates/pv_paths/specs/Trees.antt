@@ -8,7 +8,7 @@ use Rattle.pv_paths.specs.declared.forest.Leg.{Leg}
 use Rattle.pv_paths.specs.declared.forest.Leg.TheVariants.{Reach, Cross}
 use Rattle.pv_paths.specs.declared.forest.Next.{Next}
 use Rattle.pv_paths.specs.declared.forest.Next.TheVariants.{Left, Right, Neither}
-use Rattle.pv_paths.specs.Paths.{Way, Forth, Back, Crosses}
+use Rattle.pv_paths.specs.Paths.{Way, Forth, Back, Crosses, join_of}
 
 abbrev pub Links : Type 0
 Links = List (Option Link)
@@ -77,11 +77,6 @@ pub record IsMiddle (links : Links) (ends : List (ℕ × ℕ)) (a b : ℕ) (m : 
   pub before_ : AreMet links i a m.from
   pub after : AreMet links i m.to b
   pub newest : (t : ℕ) → AreMet links t a b → i < t
-
--- the number of the join
-abbrev pub join_of : Way → ℕ
-join_of (Forth i) = i
-join_of (Back i) = i
 
 -- the way from one node to another: nothing where they are one, else a part, a join and a part, the first on top of a stack
 abbrev pub IsSplit : Links → List (ℕ × ℕ) → ℕ → ℕ → List Leg → List Leg → Type 0

@@ -1,8 +1,8 @@
 //! The trees of linked nodes.
 
 ghost use Rattle.std.specs.Prelude.{◌≡◌, ◌≢◌, ◌<◌, ◌≤◌, ◌+◌, ◌∷◌, ◌++◌, [], ℕ, suc, length, slice_get, slice_set, Some, None, IfOk, OnOk, OnErr, IsTrue, ◌↔◌, vec_len};
-ghost use Rattle.pv_paths.specs.Paths.{AreLinked, Crosses, Joined, Leads};
-ghost use Rattle.pv_paths.specs.Trees.{AreBare, AreMet, Climbs, IsForest, IsKept, IsMiddle, IsOlder, IsRoot, IsSplit, IsWithin, Rises, down_way, join_of, labels, up_way};
+ghost use Rattle.pv_paths.specs.Paths.{AreLinked, Crosses, Joined, Leads, join_of};
+ghost use Rattle.pv_paths.specs.Trees.{AreBare, AreMet, Climbs, IsForest, IsKept, IsMiddle, IsOlder, IsRoot, IsSplit, IsWithin, Rises, down_way, labels, up_way};
 
 use pv_value::Memory;
 use std::alloc::Global;
@@ -16,8 +16,8 @@ pub enum Way {
 }
 
 impl Way {
-    // The number of the join.
-    fn join(self) -> usize
+    /// The number of the join.
+    pub fn join(self) -> usize
         ensures { result ≡ join_of self }
     {
         match self {

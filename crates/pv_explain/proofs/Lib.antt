@@ -16,12 +16,15 @@ mod Inductions
 mod Iterating
 -- 9. The pairs of an induction: what is stated of them outside its block, inside it, and after it.
 mod Beginning
--- 10. The whole section.
+-- 10. The joins that are needed: marks on the joins of paths, and what rests on marked joins.
+mod Marking
+mod Marked
+-- 11. The whole section.
 mod Concluding
--- 11. Reasons for pairs of nodes.
+-- 12. Reasons for pairs of nodes.
 mod Pairing
--- 12. Ending blocks.
+-- 13. Ending blocks.
 mod EndingBlocks
--- 13. More axioms keep the grounds of joins; what other crates cite.
+-- 14. More axioms keep the grounds of joins; what other crates cite.
 mod Giving
 pub mod Cited

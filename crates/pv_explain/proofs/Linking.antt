@@ -40,7 +40,7 @@ ends_at (k ∷ joins) zero j e = ap (λ (q : Join). Some (q.first, q.second)) (s
 ends_at (k ∷ joins) (suc i) j e = ends_at joins i j e
 
 -- nodes that joins link have a path
-linked_path : (n : ℕ) (joins : List Join) (a b : ℕ) → Linked n joins a b → AreLinked (ends_of joins) (length joins) a b
+pub linked_path : (n : ℕ) (joins : List Join) (a b : ℕ) → Linked n joins a b → AreLinked (ends_of joins) (length joins) a b
 linked_path n joins a b (joined c d j there first second) =
     let e = at_index joins there.0 j there.1 (sym there.2) in
     (Forth there.0 ∷ [], (b, (slice_get_within joins there.0 j e, ends_at joins there.0 j e ∙ ap (λ (p : ℕ × ℕ). Some p) (pair c d j first second)), refl))

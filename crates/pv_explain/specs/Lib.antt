@@ -8,3 +8,4 @@ pub mod Levels
 pub mod Iterations
 pub mod Pairs
 pub mod Endings
+pub mod Needed

@@ -17,6 +17,7 @@ use crate::copy::copy_nodes;
 use crate::joins::state_joins;
 use crate::kids::kid_reason;
 use crate::level::Level;
+use crate::needed::needed_joins;
 use crate::source::{Search, Source};
 use pv_graph::{Graph, NodeId};
 use pv_list::Listed;
@@ -109,12 +110,18 @@ pub(crate) fn explain_all(
     ensures reasons { IfOk result (λ reasons. GiveEach writer.new reasons.items pairs.now) }
     ensures goes { IfOk result (λ reasons. GoesOn writer.old writer.new) }
 {
+    let joins = needed_joins(alloc, search, pairs)?;
+    let needed = Search {
+        graph: search.graph,
+        blocks: search.blocks,
+        joins: &joins,
+    };
     let map = copy_nodes(alloc, writer, search.graph, base)?;
     let source = Source {
         graph: search.graph,
         map: &map,
     };
-    let level = state_all(alloc, writer, &source, search)?;
+    let level = state_all(alloc, writer, &source, &needed)?;
     let reasons = pair_reasons(alloc, writer, &source, &level, pairs)?;
     Ok(reasons)
 }

@@ -7,8 +7,10 @@
 //! A certificate has a graph of its own, into which the nodes of the search are copied (`copy_nodes`; `specs/Copies`).
 //! For each join a line says by which fact the copies of its two nodes are equal (`specs/Lines`). A line is stated
 //! by an axiom, or by the kids, which earlier lines link. Lines on a path are put together by flips and chains. A level is the outside
-//! of all inductions, or the inside of one, with the lines of its joins (`specs/Levels`). `explain_all` copies the nodes of a search and
-//! states its joins once, and gives a reason for each pair of nodes that is asked for (`specs/Pairs`).
+//! of all inductions, or the inside of one, with the lines of its joins (`specs/Levels`). `explain_all` copies the nodes of a search,
+//! states each join that is needed once, and gives a reason for each pair of nodes that is asked for (`specs/Pairs`). Which joins are
+//! needed is marked first, from the last one back (`needed_joins`; `specs/Needed`): those on the paths between the nodes of the pairs, and
+//! those on which a marked one rests. So the marked joins, in order, have their grounds without the others.
 //!
 //! A join by an induction cites a block. Outside the block each of its pairs is stated at iteration 0; inside it, where the
 //! pairs are known, its joins have lines of their own, and so has each pair one iteration later (`specs/Iterations`). The
@@ -30,6 +32,7 @@ mod iteration;
 mod joins;
 mod kids;
 mod level;
+mod needed;
 mod source;
 
 pub use conclude::section;

@@ -1,0 +1,9 @@
+use Rattle.std.proofs.Common.{ℕ, ◌+◌, ◌≤◌}
+use Rattle.pv_explain.specs.Needed.{IsMarked, MarksMore, RestsOnMarked}
+use Rattle.pv_explain.proofs.needed.mark_grounds.Given as goal
+
+abbrev pub invariant-loop-k : goal.invariant-loop-k
+invariant-loop-k l = record {
+  more : MarksMore l.joins l.initial.needed.items l.needed.items;
+  rests : (i : ℕ) → l.joins ≤ i + l.k → IsMarked l.needed.items i → RestsOnMarked l.search l.needed.items i;
+}

@@ -50,6 +50,9 @@ expect 'an option' 4 'bad words
 ' validate --help
 expect 'a certificate' 0 "$line" validate --rounds=3 --cert "$work/cert" "$work/A" "$work/B"
 expect 'the certificate is checked' 0 "$line" check "$work/A" "$work/B" "$work/cert"
+expect 'a flag' 0 "$line" validate --counted "$work/A" "$work/B"
+expect 'a flag beside a certificate' 4 'bad words
+' validate --counted --cert "$work/cert" "$work/A" "$work/B"
 expect 'a certificate in no folder' 6 '' validate --cert "$work/absent/cert" "$work/A" "$work/B"
 cp "$work/A" "$work/C"
 expect 'a certificate in the place of a file' 0 "$line" validate "$work/C" "$work/B" --cert "$work/C"
@@ -171,6 +174,7 @@ methods: 3 equivalent, 1 unknown, 0 refused, 0 missing, 0 without code
 ' a.jar cut.jar
   jars 'by the core alone' 1 "$different" --axioms core a.jar 'b [1].jar'
   jars 'by all axioms' 0 "$different" --allow unknown --axioms all --allow only-first --allow only-second a.jar 'b [1].jar'
+  jars 'where counted loops end' 1 "$different" --counted --axioms core a.jar 'b [1].jar'
   jars 'no such axioms' 2 '' --axioms both a.jar a.jar
   jars 'a file that is no JAR' 2 '' a.jar A
   jars 'no such kind' 2 '' --allow all a.jar a.jar

@@ -6,9 +6,10 @@ on ints, longs, an array, a field, a static field and calls, static ones and on 
 to later blocks, or returns or throws. With --loops it has loops up to three deep, tested at the top, at the bottom, or entered at a test below,
 which are left from inside too; each iteration counts itself in the static field. For random arguments, heaps and
 replies of one call the program says how the machine's run of the method ends (`machine`) and what the value of its
-root is (`root`): the two lines must be the same, and None where the call has no reply.
+root is (`root`): the two lines must be the same, and None where the call has no reply. With --cleared it is the root of the
+cleared graph, from which the tokens that end because of counted loops are gone (`cleared-root`): where the run ends, it must have that value too.
 
-    tests/roots.py [--loops] [SEED [METHODS [ARGUMENTS]]]      by default 1, 2000 methods, 10 lists of arguments each
+    tests/roots.py [--loops] [--cleared] [SEED [METHODS [ARGUMENTS]]]      by default 1, 2000 methods, 10 lists of arguments each
 """
 
 import os
@@ -352,9 +353,9 @@ def setting(r):
     return args, "; ".join(steps)
 
 
-def answers(lines):
-    """How the machine's run ends and what the root's value is, for each line, or None where that takes too long."""
-    given = "".join(f"machine {line}\nroot {line}\n" for line in lines)
+def answers(call, lines):
+    """How the machine's run ends and what the root's value is by this call, for each line, or None where that takes too long."""
+    given = "".join(f"machine {line}\n{call} {line}\n" for line in lines)
     try:
         ran = subprocess.run([PROGRAM], input=given, capture_output=True, text=True, timeout=SECONDS)
     except subprocess.TimeoutExpired:
@@ -370,8 +371,8 @@ def iterations(run):
 
 
 def main():
-    loops = sys.argv[1:2] == ["--loops"]
-    given = [int(word) for word in sys.argv[1 + loops:]]
+    loops, cleared = "--loops" in sys.argv, "--cleared" in sys.argv
+    given = [int(word) for word in sys.argv[1:] if not word.startswith("--")]
     seed, count, lists = given + [1, 2000, 10][len(given):]
     if not os.access(PROGRAM, os.X_OK):
         sys.exit("no program: run 'cd crates/cases && rt run < stdin' first")
@@ -385,11 +386,11 @@ def main():
             lines.append(f"{STEPS} {args}; {text}; {steps}")
     with ThreadPoolExecutor(max_workers=3) as pool:
         groups = [lines[k:k + lists] for k in range(0, len(lines), lists)]
-        found = list(pool.map(answers, groups))
+        found = list(pool.map(lambda group: answers("cleared-root" if cleared else "root", group), groups))
     left = sum(1 for pairs in found if pairs is None)
     lines = [line for group, pairs in zip(groups, found) if pairs is not None for line in group]
     pairs = [pair for pairs in found if pairs is not None for pair in pairs]
-    same = lambda m, v: m == v or (m == "running" and v == "None")
+    same = lambda m, v: m == v or (m == "running" and (cleared or v == "None"))
     wrong = [(line, pair) for line, pair in zip(lines, pairs) if not same(*pair)]
     for line, (run, value) in wrong[:5]:
         print(line, "|", run, "|", value)
@@ -403,6 +404,8 @@ def main():
     if loops:
         many = sum(1 for run, _ in pairs if iterations(run) > 3)
         print(f"{many} end after more than three iterations")
+    if cleared:
+        print(f"{sum(1 for run, value in pairs if run == 'running' and value != 'None')} have a value though the run hasn't ended")
     sys.exit(1 if wrong or len(pairs) != len(lines) else 0)
 
 

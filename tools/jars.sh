@@ -1,14 +1,15 @@
 #!/bin/sh
 # Compares two JARs class by class, with `punthizha validate`.
 #
-#   tools/jars.sh [--axioms core|all] [--allow KIND].. [--refute] A.jar B.jar
+#   tools/jars.sh [--axioms core|all] [--counted] [--allow KIND].. [--refute] A.jar B.jar
 #
 # It prints a line for each method of A.jar that isn't `equivalent` to its namesake in B.jar: the path of the class, a
 # colon, and what the program says of the method. So it does for a class file that can't be read or that only one of the
 # two JARs has. A summary ends it. A class stands under its whole path in the JAR, so that a class of
 # META-INF/versions/N is compared with the one of the same N.
 #
-# The search goes by all axioms, where `--axioms core` doesn't say otherwise.
+# The search goes by all axioms, where `--axioms core` doesn't say otherwise. With --counted it knows that counted loops end, as
+# `validate --counted` does.
 #
 # KIND is the word that a line is counted under: unknown, refused, missing, nocode, only-first or only-second. A line of
 # an allowed kind is printed and counted, and doesn't change the status.
@@ -34,13 +35,19 @@ fail() {
   exit 2
 }
 
-usage='usage: jars.sh [--axioms core|all] [--allow KIND].. [--refute] A.jar B.jar'
+usage='usage: jars.sh [--axioms core|all] [--counted] [--allow KIND].. [--refute] A.jar B.jar'
 axioms=all
+counted=
 allowed=' '
 refute=no
 while [ $# -gt 2 ]; do
   if [ "$1" = --refute ]; then
     refute=yes
+    shift
+    continue
+  fi
+  if [ "$1" = --counted ]; then
+    counted=--counted
     shift
     continue
   fi
@@ -121,7 +128,7 @@ run() {
 
 comm -12 "$work/first.list" "$work/second.list" >"$work/both"
 while IFS= read -r class; do
-  "$program" validate --axioms "$axioms" "$work/first/$class" "$work/second/$class" >"$work/said" 2>/dev/null </dev/null
+  "$program" validate --axioms "$axioms" ${counted:+--counted} "$work/first/$class" "$work/second/$class" >"$work/said" 2>/dev/null </dev/null
   status=$?
   case $status in
     0 | 1) run "$class"; report "$class" ;;

@@ -7,7 +7,7 @@ use cases_files::pools::Asked;
 use cases_files::{classes, codes, pools};
 use cases_graphs::{axioms, bases, graphs, leasts, loops, trees};
 use cases_methods::{flows, frames, machine, roots};
-use cases_search::{joined, searching};
+use cases_search::{counting, joined, searching};
 use cases_words::answers::{Answer, NoAnswer};
 use cases_words::bench::Bench;
 use cases_words::values;
@@ -51,6 +51,8 @@ pub fn answer<R: Files + Threads + Sync>(rt: &R, bench: &Bench, line: &str) -> A
         "chain" => leasts::chain(bench, rest),
         "classes" => node_classes::classes(bench, rest),
         "matches" => joined::joined_matches(bench, rest),
+        "cleared" => counting::cleared(bench, rest),
+        "counted" => counting::counted(bench, rest),
         "search" => searching::search(bench, rest),
         "search-methods" => searching::search_methods(bench, rest),
 
@@ -65,6 +67,7 @@ pub fn answer<R: Files + Threads + Sync>(rt: &R, bench: &Bench, line: &str) -> A
         "machine-step" => machine::machine(bench, true, rest),
 
         "root" => roots::root(bench, rest),
+        "cleared-root" => roots::cleared_root(bench, rest),
 
         "cert" => certs::cert(bench, rest),
         "section" => sections::section(bench, rest),

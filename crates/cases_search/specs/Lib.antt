@@ -1,1 +1,1 @@
-pub mod Methods
+pub mod Roots

@@ -1,77 +1,42 @@
 //! The least graph of the roots of two methods.
 
 ghost use Rattle.std.specs.Prelude.{◌≡◌, ◌<◌, Some, true, IfOk, IsTrue, length, slice_get};
-ghost use Rattle.pv_class.specs.declared.file.Method.{Method};
 ghost use Rattle.pv_frame.specs.Answers.{HasCode, HasReferences};
 ghost use Rattle.pv_graph.specs.Graphs.{IsWellMade};
 ghost use Rattle.pv_rounds.specs.Searching.{IsLeastGraph};
-ghost use Rattle.cases_search.specs.Methods.{IsRead, OwnsCode};
+ghost use Rattle.cases_search.specs.Roots.{HasRoots};
 
+use cases_methods::coded::{Placed, read_placed};
 use cases_words::answers::NoAnswer;
+use cases_words::bench::{Bench, number};
 use pv_alike::{Least, least};
 use pv_build::convert;
-use pv_class::{ClassFault, ClassFile, read_class};
 use pv_frame::Refused;
 use pv_graph::{Graph, NodeId};
 use std::alloc::Global;
 
-/// A class file, and the place of one of its methods, which has a code.
-#[derive(Drop)]
-pub(crate) struct Placed {
-    pub(crate) class: ClassFile,
-    pub(crate) place: usize,
-}
-
-/// The method at a place of the class file that these bytes are.
-pub(crate) fn read_placed(alloc: Global, bytes: &[u8], place: usize) -> Result<Placed, NoAnswer>
-    ensures code { IfOk result (λ p. HasCode p.class p.place) }
-    ensures references { IfOk result (λ p. HasReferences p.class) }
+/// The least graph of the roots of two methods, each at its place in the class file that some bytes are.
+pub(crate) fn least_of_two(bench: &Bench, words: &[&str]) -> Result<Least, NoAnswer>
+    ensures least { IfOk result (λ l. IsLeastGraph l.graph) }
+    ensures roots { IfOk result HasRoots }
 {
-    let class = read(alloc, bytes)?;
-    if is_coded(&class, place) {
-        Ok(Placed { class, place })
-    } else {
-        Err(NoAnswer::Unreadable)
-    }
+    let alloc = bench.alloc();
+    let [first, place, second, other] = *words else {
+        return Err(NoAnswer::Unreadable);
+    };
+    let first = read_placed(alloc, &bench.bytes(first)?, number(place)?)?;
+    let second = read_placed(alloc, &bench.bytes(second)?, number(other)?)?;
+    least_of_methods(alloc, &first, &second)
 }
 
-fn read(alloc: Global, bytes: &[u8]) -> Result<ClassFile, NoAnswer>
-    ensures { IfOk result (λ file. IsRead file) }
-{
-    match read_class(alloc, bytes) {
-        Ok(class) => Ok(class),
-        Err(ClassFault::Memory) => Err(NoAnswer::Memory),
-        Err(_) => Err(NoAnswer::Unreadable),
-    }
-}
-
-// Whether a class has a method at this place, and that has a code.
-fn is_coded(class: &ClassFile, place: usize) -> bool
-    requires { IsRead class.now }
-    ensures { IsTrue result → HasCode class.now place }
-{
-    place < class.methods.as_slice().len() && has_code(class, place)
-}
-
-// Whether the method at a place has a code.
-fn has_code(class: &ClassFile, place: usize) -> bool
-    requires { place < length class.now.methods }
-    ensures { (m : Method) → slice_get class.now.methods place ≡ Some m → IsTrue result → OwnsCode m }
-{
-    class.methods.as_slice()[place].code.is_some()
-}
-
-/// The least graph of the roots of two methods. A method that is refused can't be read.
-pub(crate) fn least_of_methods(
-    alloc: Global,
-    first: &Placed,
-    second: &Placed,
-) -> Result<Least, NoAnswer>
+// The least graph of the roots of two methods. A method that is refused can't be read.
+fn least_of_methods(alloc: Global, first: &Placed, second: &Placed) -> Result<Least, NoAnswer>
     requires code { HasCode first.now.class first.now.place }
     requires references { HasReferences first.now.class }
     requires other_code { HasCode second.now.class second.now.place }
     requires other_references { HasReferences second.now.class }
-    ensures { IfOk result (λ l. IsLeastGraph l.graph) }
+    ensures least { IfOk result (λ l. IsLeastGraph l.graph) }
+    ensures roots { IfOk result HasRoots }
 {
     let mut graph = Graph::new(alloc);
     let one = add_root(alloc, first, &mut graph)?;

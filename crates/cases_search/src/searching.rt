@@ -32,9 +32,9 @@ ghost use Rattle.pv_pattern.specs.Seen.{axiom_seen};
 ghost use Rattle.pv_rounds.specs.Searching.{IsBegun, IsLeastGraph, Looks};
 
 use crate::gates::CountingGate;
-use crate::methods::{least_of_methods, read_placed};
+use crate::methods::least_of_two;
 use crate::nodes::least_of_nodes;
-use crate::showing::{looked_text, matches_answer, read_member};
+use crate::showing::{all_nodes_text, looked_text, matches_answer, read_member};
 use crate::tables::core_axioms;
 use cases_graphs::graphs::{node_text, read_node};
 use cases_words::answers::{Answer, List, NoAnswer, shown};
@@ -64,13 +64,7 @@ pub fn search(bench: &Bench, rest: &str) -> Answer {
 pub fn search_methods(bench: &Bench, rest: &str) -> Answer {
     let alloc = bench.alloc();
     let (methods, asking) = rest.split_once('|').ok_or(NoAnswer::Unreadable)?;
-    let words = words(alloc, methods)?;
-    let [first, place, second, other] = *words.as_slice() else {
-        return Err(NoAnswer::Unreadable);
-    };
-    let first = read_placed(alloc, &bench.bytes(first)?, number(place)?)?;
-    let second = read_placed(alloc, &bench.bytes(second)?, number(other)?)?;
-    let least = least_of_methods(alloc, &first, &second)?;
+    let least = least_of_two(bench, &words(alloc, methods)?)?;
     searched(alloc, &least, asking)
 }
 
@@ -234,18 +228,6 @@ fn joined_text(alloc: Global, classes: &Classes, first: &str, second: &str) -> A
     let first = read_member(classes, first)?;
     let second = read_member(classes, second)?;
     shown(alloc, classes.joined(first, second))
-}
-
-// The nodes of a graph, with commas between them.
-fn all_nodes_text(alloc: Global, graph: &Graph) -> Answer {
-    let mut text = String::new(alloc);
-    for n in 0..graph.len() {
-        if n > 0 {
-            text.push_str(", ")?;
-        }
-        text.push_str(node_text(alloc, graph.node(n))?.as_str())?;
-    }
-    Ok(text)
 }
 
 fn nodes_text(alloc: Global, nodes: &[NodeId]) -> Answer {

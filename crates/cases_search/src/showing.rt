@@ -2,11 +2,12 @@
 
 ghost use Rattle.std.specs.Prelude.{◌<◌, IfOk, length};
 
+use cases_graphs::graphs::node_text;
 use cases_words::answers::{Answer, NoAnswer, said};
 use cases_words::bench::number;
 use cases_words::values::escaped;
 use pv_classes::Classes;
-use pv_graph::NodeId;
+use pv_graph::{Graph, NodeId};
 use pv_match::{Match, Matches, Param};
 use pv_rounds::Looked;
 use pv_value::{Kind, Sym};
@@ -104,4 +105,16 @@ pub(crate) fn read_member(classes: &Classes, word: &str) -> Result<NodeId, NoAns
     } else {
         Err(NoAnswer::Unreadable)
     }
+}
+
+/// The nodes of a graph, with commas between them.
+pub(crate) fn all_nodes_text(alloc: Global, graph: &Graph) -> Answer {
+    let mut text = String::new(alloc);
+    for n in 0..graph.len() {
+        if n > 0 {
+            text.push_str(", ")?;
+        }
+        text.push_str(node_text(alloc, graph.node(n))?.as_str())?;
+    }
+    Ok(text)
 }

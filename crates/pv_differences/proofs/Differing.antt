@@ -12,7 +12,6 @@ use Rattle.pv_class.specs.ClassFiles.{IsClass}
 use Rattle.pv_class.proofs.Cited.{HasBytes, class_bytes}
 use Rattle.pv_machine.specs.Machine.{IsProgram}
 use Rattle.pv_machine.specs.SameMeaning.{HaveSameMeaning}
-use Rattle.pv_prove.specs.declared.outcome.Limits.{Limits}
 use Rattle.pv_refute.specs.Tries.{try_world}
 use Rattle.pv_refute.specs.Differences.{EndApart}
 use Rattle.pv_refute.specs.Laws.{ApartInMeaning, TriesFit, TriesShow}
@@ -50,7 +49,7 @@ differences_show world fit show apart limits first second m input h =
 
 -- `equivalent` would say that they have
 pub never_both : DifferencesShow → NeverBoth
-never_both show limits first second m input h search (q, partner, (l, least, (found, same))) =
+never_both show limits first second m input h options (q, partner, (l, least, (found, same))) =
     let shown = show limits first second m input h in
     let one = partner_once m second.methods q shown.0 h.second_is.describes.distinct partner shown.1 in
     let first_bytes = has_bytes h.first_bytes first m h.first_are h.first_is h.among in

@@ -14,9 +14,7 @@ use Rattle.pv_report.specs.declared.status.Status.TheVariants as status
 use Rattle.pv_report.specs.Lines.{line_text}
 use Rattle.pv_report.specs.Listed.{lines_by}
 use Rattle.pv_report.specs.Report.{IsBadPair}
-use Rattle.pv_report.specs.Laws.{JudgedOnce}
-use Rattle.pv_report.proofs.Cited.{by_index}
-use Rattle.pv_prove.specs.declared.table.AxiomSet.TheVariants.{Core}
+use Rattle.pv_report.proofs.Cited.{bad_twice, by_index, classes_not_bad, file_once}
 use Rattle.pv_differences.specs.declared.finding.Finding.{Finding}
 use Rattle.pv_differences.specs.declared.finding.RunLimits.{RunLimits}
 use Rattle.pv_differences.specs.Findings.{IsFinding}
@@ -24,18 +22,6 @@ use Rattle.pv_differences.specs.Lines.{line_of}
 use Rattle.pv_differences.specs.Refuted.{IsReport, IsStatusOf, Refuted}
 use Rattle.pv_differences.specs.Laws.{RefutedOnce}
 use Rattle.pv_differences.proofs.FindingOnce.{finding_once}
-
--- ---- one reading of a file
-
-file_once : (bytes : List ℕ) (f g : ClassFile) → IsBytes bytes → IsClass bytes f → IsClass bytes g → f ≡ g
-file_once bytes f g fits p q =
-    let same : ◌≡◌ {A = Result ClassFile ClassFault} (Ok f) (Ok g) = answer_once bytes (Ok f) (Ok g) fits p q in
-    cc same
-
-not_both : (bytes : List ℕ) (f : ClassFile) (b : ClassFault) → IsBytes bytes → IsClass bytes f → IsBad bytes b → ⊥
-not_both bytes f b fits p q =
-    let same : ◌≡◌ {A = Result ClassFile ClassFault} (Ok f) (Err b) = answer_once bytes (Ok f) (Err b) fits p q in
-    absurd (cc same)
 
 -- ---- one report
 
@@ -92,18 +78,13 @@ status_once xs s t is is_too =
     ]
 
 not_bad : (limits : RunLimits) (a b t u : List ℕ) (xs : List Finding) → IsBytes a → IsBytes b → IsReport limits a b xs t → IsBadPair a b u → ⊥
-not_bad limits a b t u xs p q r (inl k) = not_both a r.first k.0 p r.first_is k.1
-not_bad limits a b t u xs p q r (inr k) = not_both b r.second k.1.0 q r.second_is k.1.1
+not_bad limits a b t u xs p q r k = classes_not_bad a b u r.first r.second p q r.first_is r.second_is k
 
--- two texts on a file without a reading are one, as in every report on two files
-bad_twice : JudgedOnce → (a b t u : List ℕ) → AreBytes a → AreBytes b → IsBadPair a b t → IsBadPair a b u → t ≡ u
-bad_twice once a b t u m n h k = (once (record { axioms = Core; rounds = 0; budget = 0 }) a b t u status.BadClass status.BadClass m n h k).0
-
-pub refuted_once : JudgedOnce → RefutedOnce
-refuted_once once limits a b t u r s m n h k = go (reading_of limits a b t r h) (reading_of limits a b u s k)
+pub refuted_once : RefutedOnce
+refuted_once limits a b t u r s m n h k = go (reading_of limits a b t r h) (reading_of limits a b u s k)
   where
     go : Reading limits a b t r → Reading limits a b u s → (t ≡ u) × (r ≡ s)
-    go (bad p x) (bad q y) = (bad_twice once a b t u m n x y, p ∙ sym q)
+    go (bad p x) (bad q y) = (bad_twice a b t u (by_index a m) (by_index b n) x y, p ∙ sym q)
     go (bad p x) (report ys y is) = absurd (not_bad limits a b u t ys (by_index a m) (by_index b n) y x)
     go (report xs x is) (bad q y) = absurd (not_bad limits a b t u xs (by_index a m) (by_index b n) x y)
     go (report xs x is) (report ys y is_too) =

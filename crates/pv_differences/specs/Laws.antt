@@ -7,7 +7,7 @@ use Rattle.pv_class.specs.declared.file.ClassFile.{ClassFile}
 use Rattle.pv_class.specs.declared.file.Method.{Method}
 use Rattle.pv_class.specs.ClassFiles.{IsClass}
 use Rattle.pv_machine.specs.SameMeaning.{HaveSameMeaning}
-use Rattle.pv_prove.specs.declared.outcome.Limits.{Limits}
+use Rattle.pv_report.specs.Options.{Options}
 use Rattle.pv_refute.specs.Tries.{try_world}
 use Rattle.pv_refute.specs.Differences.{EndApart}
 use Rattle.pv_report.specs.declared.status.Status.{Status}
@@ -37,9 +37,9 @@ DifferencesShow =
     (limits : RunLimits) (first second : ClassFile) (m : Method) (input : Input) → IsSaidToDiffer limits first second m input →
     (p : Method) × IsPartner m second.methods p × EndApart first m second p try_world input × (HaveSameMeaning first m second p → ⊥)
 
--- .. and no report says `equivalent` of it, within whatever limits on the search
+-- .. and no report says `equivalent` of it, with whatever options
 abbrev pub NeverBoth : Type 0
-NeverBoth = (limits : RunLimits) (first second : ClassFile) (m : Method) (input : Input) → IsSaidToDiffer limits first second m input → (search : Limits) → IsVerdict search first second m Equivalent → ⊥
+NeverBoth = (limits : RunLimits) (first second : ClassFile) (m : Method) (input : Input) → IsSaidToDiffer limits first second m input → (options : Options) → IsVerdict options first second m Equivalent → ⊥
 
 -- of the bytes of two files one text is said, with one status
 abbrev pub RefutedOnce : Type 0

@@ -3,7 +3,6 @@
 ghost use Rattle.pv_differences.specs.Laws.{DifferencesShow, NeverBoth, RefutedOnce};
 
 use pv_refute::laws::{law_differences, law_tries};
-use pv_report::law_judged;
 
 /// Where `differs` is said of a method, it and its partner end with different outcomes in the world of the tries, on the
 /// input that is given; so they don't have the same meaning, and no report says `equivalent` of them.
@@ -18,6 +17,4 @@ pub fn law_differs()
 /// The bytes of two files, with the limits, determine what is said of them, and the status.
 pub fn law_refuted()
     ensures { RefutedOnce }
-{
-    law_judged();
-}
+{}

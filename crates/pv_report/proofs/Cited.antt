@@ -7,4 +7,4 @@ pub use Rattle.pv_report.proofs.ReadClasses.{code_there}
 pub use Rattle.pv_report.proofs.Judgements.{bad_pair}
 pub use Rattle.pv_report.proofs.SameRoots.{one_rooted}
 pub use Rattle.pv_report.proofs.VerdictOnce.{no_lack, partner_once}
-pub use Rattle.pv_report.proofs.ReportOnce.{classes_not_bad, file_once}
+pub use Rattle.pv_report.proofs.ReportOnce.{bad_twice, classes_not_bad, file_once}

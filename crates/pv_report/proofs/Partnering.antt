@@ -8,7 +8,7 @@ use Rattle.pv_class.specs.Places.{IsNamedAt, IsPlaceOf}
 use Rattle.pv_value.specs.declared.memory.Memory.{Memory}
 use Rattle.pv_class.specs.declared.file.ClassFile.{ClassFile}
 use Rattle.pv_frame.specs.Programs.{is_instance}
-use Rattle.pv_prove.specs.declared.outcome.Limits.{Limits}
+use Rattle.pv_report.specs.Options.{Options}
 use Rattle.pv_report.specs.declared.verdict.Judgement.{Judgement}
 use Rattle.pv_report.specs.declared.verdict.Verdict.{Verdict}
 use Rattle.pv_report.specs.declared.verdict.Verdict.TheVariants as verdict
@@ -56,22 +56,22 @@ none_there m others none p is = let place = place_of others p is.among in none p
 -- ---- verdicts
 
 -- a verdict without two roots is one
-pub verdict_lacking : (limits : Limits) (f : ClassFile) (m : Method) (g : ClassFile) (p : Method) (v : Verdict) → LackRoots f m g p v → IsVerdictOn limits f m g p v
-verdict_lacking limits f m g p verdict.Equivalent is = absurd is
-verdict_lacking limits f m g p verdict.Apart is = absurd is
-verdict_lacking limits f m g p (verdict.Rounds n) is = absurd is
-verdict_lacking limits f m g p (verdict.Budget k) is = absurd is
-verdict_lacking limits f m g p _ is = is
+pub verdict_lacking : (options : Options) (f : ClassFile) (m : Method) (g : ClassFile) (p : Method) (v : Verdict) → LackRoots f m g p v → IsVerdictOn options f m g p v
+verdict_lacking options f m g p verdict.Equivalent is = absurd is
+verdict_lacking options f m g p verdict.Apart is = absurd is
+verdict_lacking options f m g p (verdict.Rounds n) is = absurd is
+verdict_lacking options f m g p (verdict.Budget k) is = absurd is
+verdict_lacking options f m g p _ is = is
 
-as_verdict : (limits : Limits) (f g : ClassFile) (m p : Method) (v : Verdict) → IsPartner m g.methods p → IsVerdictOn limits f m g p v → IsVerdict limits f g m v
-as_verdict limits f g m p verdict.Missing partner on = absurd on
-as_verdict limits f g m p _ partner on = (p, partner, on)
+as_verdict : (options : Options) (f g : ClassFile) (m p : Method) (v : Verdict) → IsPartner m g.methods p → IsVerdictOn options f m g p v → IsVerdict options f g m v
+as_verdict options f g m p verdict.Missing partner on = absurd on
+as_verdict options f g m p _ partner on = (p, partner, on)
 
 -- the verdict on a method and its partner at their places is the verdict on the method
-pub verdict_at : (limits : Limits) (f g : ClassFile) (place other : ℕ) (m : Method) (r : Result Judgement Memory) → slice_get f.methods place ≡ Some m → IsLikeAt m g.methods other → IfOk r (λ x. IsVerdictOnPlaces limits f place g other x.verdict)
-    → IfOk r (λ x. IsVerdictAt limits f place g x.verdict)
-verdict_at limits f g place other m (Ok x) here like h =
+pub verdict_at : (options : Options) (f g : ClassFile) (place other : ℕ) (m : Method) (r : Result Judgement Memory) → slice_get f.methods place ≡ Some m → IsLikeAt m g.methods other → IfOk r (λ x. IsVerdictOnPlaces options f place g other x.verdict)
+    → IfOk r (λ x. IsVerdictAt options f place g x.verdict)
+verdict_at options f g place other m (Ok x) here like h =
     λ n at. let same = slice_once f.methods place m n here at in
-    subst (λ (y : Method). IsVerdict limits f g y x.verdict) same
-    (as_verdict limits f g m like.0 x.verdict (record { among = contains_here g.methods other like.0 like.1; like = like.2 }) (h m like.0 here like.1))
-verdict_at limits f g place other m (Err e) here like h = tt
+    subst (λ (y : Method). IsVerdict options f g y x.verdict) same
+    (as_verdict options f g m like.0 x.verdict (record { among = contains_here g.methods other like.0 like.1; like = like.2 }) (h m like.0 here like.1))
+verdict_at options f g place other m (Err e) here like h = tt

@@ -19,14 +19,19 @@ use Rattle.pv_build.specs.Conversion.{Meets, Form}
 use Rattle.pv_build.proofs.Cited.{one_shape_cause, not_structured}
 use Rattle.pv_alike.specs.Least.{Rooted}
 use Rattle.pv_heights.specs.Verdicts as search
+use Rattle.pv_alike.specs.Laws.{IsSameRooted}
+use Rattle.pv_counted.proofs.Cited.{cleared_kept}
 use Rattle.pv_prove.specs.declared.outcome.Limits.{Limits}
+use Rattle.pv_report.specs.declared.verdict.Graphs.{Graphs}
+use Rattle.pv_report.specs.declared.verdict.Graphs.TheVariants.{Least, LeastOrCleared}
+use Rattle.pv_report.specs.Options.{Options}
 use Rattle.pv_prove.proofs.Cited.{verdict_by_nodes}
 use Rattle.pv_report.specs.Roots.{HaveLeast}
 use Rattle.pv_report.specs.Judging.{said_of}
-use Rattle.pv_report.specs.Verdicts.{HasCode, Finds, IsVerdict, IsVerdictOn, LackRoots}
+use Rattle.pv_report.specs.Verdicts.{HasCode, Finds, FindsCleared, FindsEqual, FindsOther, IsVerdict, IsVerdictOn, LackRoots}
 use Rattle.pv_report.specs.Partners.{IsPartner}
 use Rattle.pv_report.proofs.Places.{all_at, here_again}
-use Rattle.pv_report.proofs.SameRoots.{one_least}
+use Rattle.pv_report.proofs.SameRoots.{one_least, one_rooted}
 
 -- ---- what has a code
 
@@ -74,54 +79,76 @@ found_once limits f m g p l k v w x y h j a b =
     let one = one_least f m g p l k x y h j in
     verdict_by_nodes l k limits v w one.0 one.1 one.2 a b
 
+-- what it finds in a cleared graph of theirs it finds in each
+cleared_there : (graphs : Graphs) (limits : Limits) (l k : Rooted) → IsSameRooted l k → FindsCleared graphs limits k → FindsCleared graphs limits l
+cleared_there Least limits l k same found = found
+cleared_there LeastOrCleared limits l k same (n, cleared, equal) = (n, cleared_kept l k n same cleared, equal)
+
+-- it doesn't find them equal and something else
+not_both : (options : Options) (f : ClassFile) (m : Method) (g : ClassFile) (p : Method) (l k : Rooted) (v : search.Verdict) → HasBytes m → HasBytes p → HaveLeast f m g p l → HaveLeast f m g p k → FindsOther options v l → FindsEqual options k → ⊥
+not_both options f m g p l k v x y h j other (inl equal) = other.0 (inl (subst (λ (w : search.Verdict). Finds options.limits w l) (found_once options.limits f m g p l k v search.equivalent x y h j other.1 equal) other.1))
+not_both options f m g p l k v x y h j other (inr cleared) = other.0 (inr (cleared_there options.graphs options.limits l k (one_rooted f m g p l k x y h j) cleared))
+
 -- what a verdict says, in the order of the verdicts: of the code of the first, of the second, of the first's cause or root, of the second's
-data Said (limits : Limits) (f : ClassFile) (m : Method) (g : ClassFile) (p : Method) : Verdict → Type 0 where
-  no_first : m.code ≡ None → Said limits f m g p (verdict.NoCode side.First)
-  no_second : HasCode m → p.code ≡ None → Said limits f m g p (verdict.NoCode side.Second)
-  first_refused : (cause : Cause) → HasCode m → HasCode p → Meets f m cause → Said limits f m g p (verdict.Refused side.First cause)
-  second_refused : (cause : Cause) → HasCode m → HasCode p → Form f m → Meets g p cause → Said limits f m g p (verdict.Refused side.Second cause)
-  searched : (v : Verdict) (found : search.Verdict) (l : Rooted) → HaveLeast f m g p l → Finds limits found l → v ≡ said_of found → Said limits f m g p v
+data Said (options : Options) (f : ClassFile) (m : Method) (g : ClassFile) (p : Method) : Verdict → Type 0 where
+  no_first : m.code ≡ None → Said options f m g p (verdict.NoCode side.First)
+  no_second : HasCode m → p.code ≡ None → Said options f m g p (verdict.NoCode side.Second)
+  first_refused : (cause : Cause) → HasCode m → HasCode p → Meets f m cause → Said options f m g p (verdict.Refused side.First cause)
+  second_refused : (cause : Cause) → HasCode m → HasCode p → Form f m → Meets g p cause → Said options f m g p (verdict.Refused side.Second cause)
+  found_equal : (l : Rooted) → HaveLeast f m g p l → FindsEqual options l → Said options f m g p verdict.Equivalent
+  found_other : (v : Verdict) (found : search.Verdict) (l : Rooted) → HaveLeast f m g p l → FindsOther options found l → v ≡ said_of found → Said options f m g p v
 
-said_by : (limits : Limits) (f : ClassFile) (m : Method) (g : ClassFile) (p : Method) (v : Verdict) → IsVerdictOn limits f m g p v → Said limits f m g p v
-said_by limits f m g p verdict.Missing h = absurd h
-said_by limits f m g p (verdict.NoCode side.First) h = no_first h
-said_by limits f m g p (verdict.NoCode side.Second) h = no_second h.0 h.1
-said_by limits f m g p (verdict.Refused side.First cause) h = first_refused cause (meets_code f m cause h.1) h.0 h.1
-said_by limits f m g p (verdict.Refused side.Second cause) h = second_refused cause (form_code f m h.0) (meets_code g p cause h.1) h.0 h.1
-said_by limits f m g p verdict.Equivalent (l, h, (found, same)) = searched verdict.Equivalent search.equivalent l h found refl
-said_by limits f m g p verdict.Apart (l, h, found) = searched verdict.Apart search.apart l h found refl
-said_by limits f m g p (verdict.Rounds n) (l, h, found) = searched (verdict.Rounds n) (search.rounds n) l h found refl
-said_by limits f m g p (verdict.Budget k) (l, h, found) = searched (verdict.Budget k) (search.budget k) l h found refl
+said_by : (options : Options) (f : ClassFile) (m : Method) (g : ClassFile) (p : Method) (v : Verdict) → IsVerdictOn options f m g p v → Said options f m g p v
+said_by options f m g p verdict.Missing h = absurd h
+said_by options f m g p (verdict.NoCode side.First) h = no_first h
+said_by options f m g p (verdict.NoCode side.Second) h = no_second h.0 h.1
+said_by options f m g p (verdict.Refused side.First cause) h = first_refused cause (meets_code f m cause h.1) h.0 h.1
+said_by options f m g p (verdict.Refused side.Second cause) h = second_refused cause (form_code f m h.0) (meets_code g p cause h.1) h.0 h.1
+said_by options f m g p verdict.Equivalent (l, h, (found, same)) = found_equal l h found
+said_by options f m g p verdict.Apart (l, h, found) = found_other verdict.Apart search.apart l h found refl
+said_by options f m g p (verdict.Rounds n) (l, h, found) = found_other (verdict.Rounds n) (search.rounds n) l h found refl
+said_by options f m g p (verdict.Budget k) (l, h, found) = found_other (verdict.Budget k) (search.budget k) l h found refl
 
-said_once : (limits : Limits) (f : ClassFile) (m : Method) (g : ClassFile) (p : Method) (v w : Verdict) → HasBytes m → HasBytes p → Said limits f m g p v → Said limits f m g p w → v ≡ w
-said_once limits f m g p v w x y (no_first e) (no_first d) = refl
-said_once limits f m g p v w x y (no_first e) (no_second c d) = absurd (no_code m e c)
-said_once limits f m g p v w x y (no_first e) (first_refused other c d l) = absurd (no_code m e c)
-said_once limits f m g p v w x y (no_first e) (second_refused other c d l o) = absurd (no_code m e c)
-said_once limits f m g p v w x y (no_first e) (searched _ two q l o d) = absurd (no_code m e (form_code f m l.roots.one.form))
-said_once limits f m g p v w x y (no_second a e) (no_first d) = absurd (no_code m d a)
-said_once limits f m g p v w x y (no_second a e) (no_second c d) = refl
-said_once limits f m g p v w x y (no_second a e) (first_refused other c d l) = absurd (no_code p e d)
-said_once limits f m g p v w x y (no_second a e) (second_refused other c d l o) = absurd (no_code p e d)
-said_once limits f m g p v w x y (no_second a e) (searched _ two q l o d) = absurd (no_code p e (form_code g p l.roots.two.form))
-said_once limits f m g p v w x y (first_refused cause a b h) (no_first d) = absurd (no_code m d a)
-said_once limits f m g p v w x y (first_refused cause a b h) (no_second c d) = absurd (no_code p d b)
-said_once limits f m g p v w x y (first_refused cause a b h) (first_refused other c d l) = ap (λ r. verdict.Refused side.First r) (cause_once f m cause other x h l)
-said_once limits f m g p v w x y (first_refused cause a b h) (second_refused other c d l o) = absurd (not_refused f m cause x h l)
-said_once limits f m g p v w x y (first_refused cause a b h) (searched _ two q l o d) = absurd (not_refused f m cause x h l.roots.one.form)
-said_once limits f m g p v w x y (second_refused cause a b h k) (no_first d) = absurd (no_code m d a)
-said_once limits f m g p v w x y (second_refused cause a b h k) (no_second c d) = absurd (no_code p d b)
-said_once limits f m g p v w x y (second_refused cause a b h k) (first_refused other c d l) = absurd (not_refused f m other x l h)
-said_once limits f m g p v w x y (second_refused cause a b h k) (second_refused other c d l o) = ap (λ r. verdict.Refused side.Second r) (cause_once g p cause other y k o)
-said_once limits f m g p v w x y (second_refused cause a b h k) (searched _ two q l o d) = absurd (not_refused g p cause y k l.roots.two.form)
-said_once limits f m g p v w x y (searched _ one r h is e) (no_first d) = absurd (no_code m d (form_code f m h.roots.one.form))
-said_once limits f m g p v w x y (searched _ one r h is e) (no_second c d) = absurd (no_code p d (form_code g p h.roots.two.form))
-said_once limits f m g p v w x y (searched _ one r h is e) (first_refused other c d l) = absurd (not_refused f m other x l h.roots.one.form)
-said_once limits f m g p v w x y (searched _ one r h is e) (second_refused other c d l o) = absurd (not_refused g p other y o h.roots.two.form)
-said_once limits f m g p v w x y (searched _ one r h is e) (searched _ two q l o d) = e ∙ ap said_of (found_once limits f m g p r q one two x y h l is o) ∙ sym d
+said_once : (options : Options) (f : ClassFile) (m : Method) (g : ClassFile) (p : Method) (v w : Verdict) → HasBytes m → HasBytes p → Said options f m g p v → Said options f m g p w → v ≡ w
+said_once options f m g p v w x y (no_first e) (no_first d) = refl
+said_once options f m g p v w x y (no_first e) (no_second c d) = absurd (no_code m e c)
+said_once options f m g p v w x y (no_first e) (first_refused other c d l) = absurd (no_code m e c)
+said_once options f m g p v w x y (no_first e) (second_refused other c d l o) = absurd (no_code m e c)
+said_once options f m g p v w x y (no_first e) (found_equal q l o) = absurd (no_code m e (form_code f m l.roots.one.form))
+said_once options f m g p v w x y (no_first e) (found_other _ two q l o d) = absurd (no_code m e (form_code f m l.roots.one.form))
+said_once options f m g p v w x y (no_second a e) (no_first d) = absurd (no_code m d a)
+said_once options f m g p v w x y (no_second a e) (no_second c d) = refl
+said_once options f m g p v w x y (no_second a e) (first_refused other c d l) = absurd (no_code p e d)
+said_once options f m g p v w x y (no_second a e) (second_refused other c d l o) = absurd (no_code p e d)
+said_once options f m g p v w x y (no_second a e) (found_equal q l o) = absurd (no_code p e (form_code g p l.roots.two.form))
+said_once options f m g p v w x y (no_second a e) (found_other _ two q l o d) = absurd (no_code p e (form_code g p l.roots.two.form))
+said_once options f m g p v w x y (first_refused cause a b h) (no_first d) = absurd (no_code m d a)
+said_once options f m g p v w x y (first_refused cause a b h) (no_second c d) = absurd (no_code p d b)
+said_once options f m g p v w x y (first_refused cause a b h) (first_refused other c d l) = ap (λ r. verdict.Refused side.First r) (cause_once f m cause other x h l)
+said_once options f m g p v w x y (first_refused cause a b h) (second_refused other c d l o) = absurd (not_refused f m cause x h l)
+said_once options f m g p v w x y (first_refused cause a b h) (found_equal q l o) = absurd (not_refused f m cause x h l.roots.one.form)
+said_once options f m g p v w x y (first_refused cause a b h) (found_other _ two q l o d) = absurd (not_refused f m cause x h l.roots.one.form)
+said_once options f m g p v w x y (second_refused cause a b h k) (no_first d) = absurd (no_code m d a)
+said_once options f m g p v w x y (second_refused cause a b h k) (no_second c d) = absurd (no_code p d b)
+said_once options f m g p v w x y (second_refused cause a b h k) (first_refused other c d l) = absurd (not_refused f m other x l h)
+said_once options f m g p v w x y (second_refused cause a b h k) (second_refused other c d l o) = ap (λ r. verdict.Refused side.Second r) (cause_once g p cause other y k o)
+said_once options f m g p v w x y (second_refused cause a b h k) (found_equal q l o) = absurd (not_refused g p cause y k l.roots.two.form)
+said_once options f m g p v w x y (second_refused cause a b h k) (found_other _ two q l o d) = absurd (not_refused g p cause y k l.roots.two.form)
+said_once options f m g p v w x y (found_equal r h is) (no_first d) = absurd (no_code m d (form_code f m h.roots.one.form))
+said_once options f m g p v w x y (found_other _ one r h is e) (no_first d) = absurd (no_code m d (form_code f m h.roots.one.form))
+said_once options f m g p v w x y (found_equal r h is) (no_second c d) = absurd (no_code p d (form_code g p h.roots.two.form))
+said_once options f m g p v w x y (found_other _ one r h is e) (no_second c d) = absurd (no_code p d (form_code g p h.roots.two.form))
+said_once options f m g p v w x y (found_equal r h is) (first_refused other c d l) = absurd (not_refused f m other x l h.roots.one.form)
+said_once options f m g p v w x y (found_other _ one r h is e) (first_refused other c d l) = absurd (not_refused f m other x l h.roots.one.form)
+said_once options f m g p v w x y (found_equal r h is) (second_refused other c d l o) = absurd (not_refused g p other y o h.roots.two.form)
+said_once options f m g p v w x y (found_other _ one r h is e) (second_refused other c d l o) = absurd (not_refused g p other y o h.roots.two.form)
+said_once options f m g p v w x y (found_equal r h is) (found_equal q l o) = refl
+said_once options f m g p v w x y (found_equal r h is) (found_other _ two q l o d) = absurd (not_both options f m g p q r two x y l h o is)
+said_once options f m g p v w x y (found_other _ one r h is e) (found_equal q l o) = absurd (not_both options f m g p r q one x y h l is o)
+said_once options f m g p v w x y (found_other _ one r h is e) (found_other _ two q l o d) = e ∙ ap said_of (found_once options.limits f m g p r q one two x y h l is.1 o.1) ∙ sym d
 
-verdict_once : (limits : Limits) (f : ClassFile) (m : Method) (g : ClassFile) (p : Method) (v w : Verdict) → HasBytes m → HasBytes p → IsVerdictOn limits f m g p v → IsVerdictOn limits f m g p w → v ≡ w
-verdict_once limits f m g p v w x y h k = said_once limits f m g p v w x y (said_by limits f m g p v h) (said_by limits f m g p w k)
+verdict_once : (options : Options) (f : ClassFile) (m : Method) (g : ClassFile) (p : Method) (v w : Verdict) → HasBytes m → HasBytes p → IsVerdictOn options f m g p v → IsVerdictOn options f m g p w → v ≡ w
+verdict_once options f m g p v w x y h k = said_once options f m g p v w x y (said_by options f m g p v h) (said_by options f m g p w k)
 
 -- two methods with a least graph lack no root
 pub no_lack : (f : ClassFile) (m : Method) (g : ClassFile) (p : Method) (v : Verdict) (l : Rooted) → HasBytes m → HasBytes p → HaveLeast f m g p l → LackRoots f m g p v → ⊥
@@ -147,21 +174,21 @@ partner_once m others p q distinct a b =
     same_some p q (sym first ∙ ap (slice_get others) one ∙ second)
 
 -- what a verdict says, by whether there is a partner
-with_partner : (limits : Limits) (f g : ClassFile) (m : Method) (v : Verdict) → IsVerdict limits f g m v → ((v ≡ verdict.Missing) × ((p : Method) → IsPartner m g.methods p → ⊥)) ⊎ ((p : Method) × IsPartner m g.methods p × IsVerdictOn limits f m g p v)
-with_partner limits f g m verdict.Missing h = inl (refl, h)
-with_partner limits f g m _ h = inr h
+with_partner : (options : Options) (f g : ClassFile) (m : Method) (v : Verdict) → IsVerdict options f g m v → ((v ≡ verdict.Missing) × ((p : Method) → IsPartner m g.methods p → ⊥)) ⊎ ((p : Method) × IsPartner m g.methods p × IsVerdictOn options f m g p v)
+with_partner options f g m verdict.Missing h = inl (refl, h)
+with_partner options f g m _ h = inr h
 
-pub line_once : (limits : Limits) (f g : ClassFile) (m : Method) (v w : Verdict) → AreDistinct g.methods → HasBytes m → AllByRecursion HasBytes g.methods → IsVerdict limits f g m v → IsVerdict limits f g m w → v ≡ w
-line_once limits f g m v w distinct x all h k =
-    elim (with_partner limits f g m v h) [
+pub line_once : (options : Options) (f g : ClassFile) (m : Method) (v w : Verdict) → AreDistinct g.methods → HasBytes m → AllByRecursion HasBytes g.methods → IsVerdict options f g m v → IsVerdict options f g m w → v ≡ w
+line_once options f g m v w distinct x all h k =
+    elim (with_partner options f g m v h) [
       | inl a ↦
-          elim (with_partner limits f g m w k) [
+          elim (with_partner options f g m w k) [
             | inl b ↦ a.0 ∙ sym b.0
             | inr b ↦ absurd (a.1 b.0 b.1)
           ]
       | inr a ↦
-          elim (with_partner limits f g m w k) [
+          elim (with_partner options f g m w k) [
             | inl b ↦ absurd (b.1 a.0 a.1)
-            | inr b ↦ verdict_once limits f m g a.0 v w x (all_at HasBytes g.methods a.0 all a.1.among) a.2 (subst (λ (p : Method). IsVerdictOn limits f m g p w) (partner_once m g.methods b.0 a.0 distinct b.1 a.1) b.2)
+            | inr b ↦ verdict_once options f m g a.0 v w x (all_at HasBytes g.methods a.0 all a.1.among) a.2 (subst (λ (p : Method). IsVerdictOn options f m g p w) (partner_once m g.methods b.0 a.0 distinct b.1 a.1) b.2)
           ]
     ]

@@ -18,10 +18,12 @@ use Rattle.pv_report.specs.declared.verdict.Verdict.{Verdict}
 use Rattle.pv_graph.specs.Graphs.{Graph}
 use Rattle.pv_alike.specs.Least.{Rooted, IsLeastOf}
 use Rattle.pv_heights.specs.Verdicts as search
+use Rattle.pv_denote.specs.Meaning.{Same}
 use Rattle.pv_prove.specs.declared.outcome.Limits.{Limits}
+use Rattle.pv_report.specs.Options.{Options}
 use Rattle.pv_report.specs.declared.verdict.Verdict.TheVariants as verdict
 use Rattle.pv_report.specs.Roots.{HaveLeast}
-use Rattle.pv_report.specs.Verdicts.{LackRoots, IsVerdict, IsVerdictOn}
+use Rattle.pv_report.specs.Verdicts.{LackRoots, Finds, IsVerdict, IsVerdictOn}
 use Rattle.pv_report.specs.Partners.{IsLike}
 use Rattle.pv_report.specs.Report.{HasClass, Judged}
 
@@ -55,8 +57,8 @@ abbrev pub ReadsPair : Fetched → Fetched → Result Pair BadClass → Type 0
 ReadsPair first second read = (a b : List ℕ) → IsFetched first a → IsFetched second b → IsPairOr a b read
 
 -- what is said of the bytes that were fetched
-abbrev pub JudgesFetched : Limits → Fetched → Fetched → List ℕ → Status → Type 0
-JudgesFetched limits first second text s = (a b : List ℕ) → IsFetched first a → IsFetched second b → Judged limits a b text s
+abbrev pub JudgesFetched : Options → Fetched → Fetched → List ℕ → Status → Type 0
+JudgesFetched options first second text s = (a b : List ℕ) → IsFetched first a → IsFetched second b → Judged options a b text s
 
 -- a class file that was read
 abbrev pub IsRead : ClassFile → Type 0
@@ -67,12 +69,12 @@ abbrev pub IsReadPair : Pair → Type 0
 IsReadPair pair = IsRead pair.first × IsRead pair.second
 
 -- the verdict on the method at a place of the first class
-abbrev pub IsVerdictAt : Limits → ClassFile → ℕ → ClassFile → Verdict → Type 0
-IsVerdictAt limits first place second v = (m : Method) → slice_get first.methods place ≡ Some m → IsVerdict limits first second m v
+abbrev pub IsVerdictAt : Options → ClassFile → ℕ → ClassFile → Verdict → Type 0
+IsVerdictAt options first place second v = (m : Method) → slice_get first.methods place ≡ Some m → IsVerdict options first second m v
 
 -- the verdict on two methods at their places
-abbrev pub IsVerdictOnPlaces : Limits → ClassFile → ℕ → ClassFile → ℕ → Verdict → Type 0
-IsVerdictOnPlaces limits first place second other v = (m p : Method) → slice_get first.methods place ≡ Some m → slice_get second.methods other ≡ Some p → IsVerdictOn limits first m second p v
+abbrev pub IsVerdictOnPlaces : Options → ClassFile → ℕ → ClassFile → ℕ → Verdict → Type 0
+IsVerdictOnPlaces options first place second other v = (m p : Method) → slice_get first.methods place ≡ Some m → slice_get second.methods other ≡ Some p → IsVerdictOn options first m second p v
 
 -- what is said of what a search found
 abbrev pub said_of : search.Verdict → Verdict
@@ -81,13 +83,20 @@ said_of search.apart = verdict.Apart
 said_of (search.rounds n) = verdict.Rounds n
 said_of (search.budget k) = verdict.Budget k
 
+-- what is said of the roots of a least graph by a search in it; where it finds them equal, they have the same values
+pub record IsFoundBy (limits : Limits) (l : Rooted) (v : Verdict) : Type 0 where
+  pub found : search.Verdict
+  pub said : v ≡ said_of found
+  pub finds : Finds limits found l
+  pub same : v ≡ verdict.Equivalent → Same l.graph l.first l.second
+
 -- the least graph of two nodes of some graph
 abbrev pub IsLeastOfSome : Rooted → Type 0
 IsLeastOfSome l = (g : Graph) × (a : ℕ) × (b : ℕ) × IsLeastOf g a b l
 
 -- the verdict on each two methods of whose roots it is the least graph
-abbrev pub IsVerdictBy : Limits → Rooted → Verdict → Type 0
-IsVerdictBy limits l v = (first : ClassFile) (m : Method) (second : ClassFile) (p : Method) → HaveLeast first m second p l → IsVerdictOn limits first m second p v
+abbrev pub IsVerdictBy : Options → Rooted → Verdict → Type 0
+IsVerdictBy options l v = (first : ClassFile) (m : Method) (second : ClassFile) (p : Method) → HaveLeast first m second p l → IsVerdictOn options first m second p v
 
 -- the least graph of the roots of two methods, or the verdict where they don't both have a root
 abbrev pub IsLeastOn : ClassFile → Method → ClassFile → Method → Result Rooted Verdict → Type 0

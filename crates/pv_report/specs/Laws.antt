@@ -2,7 +2,7 @@
 use Rattle.std.specs.Prelude.{◌≡◌, ℕ, List}
 use Rattle.pv_base.specs.Stored.{AreBytes}
 use Rattle.pv_class.specs.declared.file.Method.{Method}
-use Rattle.pv_prove.specs.declared.outcome.Limits.{Limits}
+use Rattle.pv_report.specs.Options.{Options}
 use Rattle.pv_report.specs.declared.status.Status.{Status}
 use Rattle.pv_report.specs.declared.verdict.Verdict.{Verdict}
 use Rattle.pv_report.specs.Lines.{line_of}
@@ -15,4 +15,4 @@ LinesName =
 
 -- of the bytes of two files one text is said, with one status
 abbrev pub JudgedOnce : Type 0
-JudgedOnce = (limits : Limits) (a b t u : List ℕ) (r s : Status) → AreBytes a → AreBytes b → Judged limits a b t r → Judged limits a b u s → (t ≡ u) × (r ≡ s)
+JudgedOnce = (options : Options) (a b t u : List ℕ) (r s : Status) → AreBytes a → AreBytes b → Judged options a b t r → Judged options a b u s → (t ≡ u) × (r ≡ s)

@@ -1,6 +1,7 @@
 -- what public contracts and laws say
 pub mod Partners
 pub mod Roots
+pub mod Options
 pub mod Verdicts
 pub mod Lines
 pub mod Listed

@@ -6,7 +6,7 @@ use Rattle.pv_class.specs.declared.file.ClassFile.{ClassFile}
 use Rattle.pv_class.specs.declared.fault.ClassFault.{ClassFault}
 use Rattle.pv_class.specs.ClassFiles.{IsClass}
 use Rattle.pv_class.specs.ClassFaults.{IsBad}
-use Rattle.pv_prove.specs.declared.outcome.Limits.{Limits}
+use Rattle.pv_report.specs.Options.{Options}
 use Rattle.pv_report.specs.declared.verdict.Side.{Side}
 use Rattle.pv_report.specs.declared.verdict.Side.TheVariants as side
 use Rattle.pv_report.specs.declared.verdict.Verdict.{Verdict}
@@ -20,13 +20,13 @@ use Rattle.pv_report.specs.Listed.{lines_by}
 abbrev pub lines_of : List Method → List Verdict → List (List ℕ)
 lines_of methods verdicts = lines_by line_of methods verdicts
 
--- one line for each method of the first file, in its order, with these verdicts, within these limits
-pub record IsReport (limits : Limits) (a b : List ℕ) (verdicts : List Verdict) (text : List ℕ) : Type 0 where
+-- one line for each method of the first file, in its order, with these verdicts, within these options
+pub record IsReport (options : Options) (a b : List ℕ) (verdicts : List Verdict) (text : List ℕ) : Type 0 where
   pub first : ClassFile
   pub second : ClassFile
   pub first_is : IsClass a first
   pub second_is : IsClass b second
-  pub each : AllZip (IsVerdict limits first second) first.methods verdicts
+  pub each : AllZip (IsVerdict options first second) first.methods verdicts
   pub text_is : text ≡ flat_map line_text (lines_of first.methods verdicts)
 
 abbrev pub AreEquivalent : List Verdict → Type 0
@@ -50,6 +50,6 @@ abbrev pub IsBadPair : List ℕ → List ℕ → List ℕ → Type 0
 IsBadPair a b text = IsBadText side.First a text ⊎ (HasClass a × IsBadText side.Second b text)
 
 -- The text for the bytes of two files, and the status: a report, or the first of the two that has no reading.
-abbrev pub Judged : Limits → List ℕ → List ℕ → List ℕ → Status → Type 0
-Judged limits a b text status.BadClass = IsBadPair a b text
-Judged limits a b text s = (verdicts : List Verdict) × IsReport limits a b verdicts text × IsStatusOf verdicts s
+abbrev pub Judged : Options → List ℕ → List ℕ → List ℕ → Status → Type 0
+Judged options a b text status.BadClass = IsBadPair a b text
+Judged options a b text s = (verdicts : List Verdict) × IsReport options a b verdicts text × IsStatusOf verdicts s

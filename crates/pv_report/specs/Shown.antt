@@ -13,6 +13,7 @@ use Rattle.pv_steps.specs.Accepted.{Derives}
 use Rattle.pv_trim.specs.Citing.{IsLean}
 use Rattle.pv_report.specs.declared.verdict.Verdict.{Verdict}
 use Rattle.pv_report.specs.declared.verdict.Verdict.TheVariants.{Equivalent}
+use Rattle.pv_report.specs.Options.{in_least}
 use Rattle.pv_report.specs.Partners.{IsPartner}
 use Rattle.pv_report.specs.Roots.{OnLeast}
 use Rattle.pv_report.specs.Verdicts.{IsVerdict}
@@ -45,7 +46,7 @@ pub record AreShown (limits : Limits) (a b : List ℕ) (sections : List Section)
   pub first_is : IsClass a first
   pub second_is : IsClass b second
   pub verdicts : List Verdict
-  pub each : AllZip (IsVerdict limits first second) first.methods verdicts
+  pub each : AllZip (IsVerdict (in_least limits) first second) first.methods verdicts
   pub sections_are : AllZip (IsSectionOf first second) (equivalent_of first.methods verdicts) sections
 
 -- ---- as they are made

@@ -7,7 +7,9 @@ ghost use Rattle.pv_pattern.specs.Seen.{axiom_seen};
 ghost use Rattle.pv_prove.specs.Finding.{axioms_in};
 ghost use Rattle.pv_token.specs.Spellings.{AreBytes};
 ghost use Rattle.pv_report.specs.Lines.{bad_class, line_text};
+ghost use Rattle.pv_report.specs.declared.verdict.Graphs.{Graphs};
 ghost use Rattle.pv_report.specs.Report.{IsStatusOf, lines_of};
+ghost use Rattle.pv_report.specs.Options.{options_of};
 ghost use Rattle.pv_report.specs.Verdicts.{IsVerdict};
 ghost use Rattle.pv_report.specs.Judging.{IsReadPair, JudgesFetched};
 ghost use Rattle.pv_report.specs.Proving.{ShowsFetched};
@@ -52,10 +54,10 @@ pub fn judge<G: Gate>(
     first: &Fetched,
     second: &Fetched,
 ) -> Result<Report, Memory>
-    ensures answer { IfOk result (λ report. JudgesFetched limits first.now second.now report.answer.text.items report.answer.status) }
+    ensures answer { IfOk result (λ report. JudgesFetched (options_of limits detail) first.now second.now report.answer.text.items report.answer.status) }
     ensures sections { IfOk result (λ report. ShowsFetched limits first.now second.now report.sections) }
     ensures wanted { IfOk result (λ report. detail ≡ Detail.Steps → (report.sections ≡ None) ↔ (report.answer.status ≡ Status.BadClass)) }
-    ensures unwanted { IfOk result (λ report. detail ≡ Detail.Verdict → report.sections ≡ None) }
+    ensures unwanted { IfOk result (λ report. (graphs : Graphs) → detail ≡ Detail.Verdict graphs → report.sections ≡ None) }
 {
     let pair = match read_pair(alloc, first, second)? {
         Ok(pair) => pair,
@@ -84,10 +86,10 @@ pub fn judge<G: Gate>(
 // Sections, where steps are wanted.
 fn wanted_sections(detail: Detail, sections: Vec<Section>) -> Option<Listed<Section>>
     ensures wanted { detail ≡ Detail.Steps → result ≡ Some sections.items }
-    ensures unwanted { detail ≡ Detail.Verdict → result ≡ None }
+    ensures unwanted { (graphs : Graphs) → detail ≡ Detail.Verdict graphs → result ≡ None }
 {
     match detail {
-        Detail::Verdict => None,
+        Detail::Verdict(_) => None,
         Detail::Steps => Some(Listed::from(sections)),
     }
 }
@@ -165,7 +167,7 @@ fn judge_all<G: Gate>(
 ) -> Result<Judgements, Memory>
     requires table { map axiom_seen means.table.now ≡ axioms_in means.limits.axioms }
     requires read { IsReadPair pair.now }
-    ensures verdicts { IfOk result (λ found. AllZip (IsVerdict means.entry.limits pair.now.first pair.now.second) pair.now.first.methods found.verdicts.items) }
+    ensures verdicts { IfOk result (λ found. AllZip (IsVerdict (options_of means.entry.limits means.entry.detail) pair.now.first pair.now.second) pair.now.first.methods found.verdicts.items) }
     ensures sections { IfOk result (λ found. means.entry.detail ≡ Detail.Steps → AllZip (IsSectionOf pair.now.first pair.now.second) (equivalent_of pair.now.first.methods found.verdicts.items) found.sections.items) }
 {
     let methods = pair.first.methods.as_slice();
@@ -197,15 +199,9 @@ fn status_of(verdicts: &[Verdict]) -> Status
     ensures { IsStatusOf verdicts.now result }
 {
     for verdict in verdicts {
-        if !is_equivalent(*verdict) {
+        if !verdict.is_equivalent() {
             return Status::Others;
         }
     }
     Status::AllEquivalent
-}
-
-fn is_equivalent(verdict: Verdict) -> bool
-    ensures { IsTrue result ↔ (verdict ≡ Verdict.Equivalent) }
-{
-    matches!(verdict, Verdict::Equivalent)
 }

@@ -1,13 +1,15 @@
 //! What is said of a method.
 
 ghost use Rattle.std.specs.Prelude.{◌≡◌, ◌↔◌, ◌<◌, [], length, map, slice_get, true, Some, None, IfOk, IsTrue};
+ghost use Rattle.pv_denote.specs.Meaning.{Same};
 ghost use Rattle.pv_class.specs.declared.file.Method.{Method};
 ghost use Rattle.pv_alike.specs.Least.{IsLeastOf};
 ghost use Rattle.pv_pattern.specs.Seen.{axiom_seen};
 ghost use Rattle.pv_prove.specs.Finding.{IsShown, axioms_in, verdict_of};
+ghost use Rattle.pv_report.specs.Options.{options_of};
 ghost use Rattle.pv_report.specs.Roots.{IsWhole};
-ghost use Rattle.pv_report.specs.Verdicts.{HasCode};
-ghost use Rattle.pv_report.specs.Judging.{IsRead, IsReadPair, IsLeastOfSome, IsLeastOnPlaces, IsVerdictAt, IsVerdictBy, IsVerdictOnPlaces, said_of};
+ghost use Rattle.pv_report.specs.Verdicts.{FindsCleared, HasCode};
+ghost use Rattle.pv_report.specs.Judging.{IsRead, IsReadPair, IsLeastOfSome, IsLeastOnPlaces, IsFoundBy, IsVerdictAt, IsVerdictBy, IsVerdictOnPlaces, said_of};
 ghost use Rattle.pv_report.specs.Proving.{HasSteps, IsProvedAt, IsProvedBy, IsProvedOnPlaces, IsStepsOf};
 
 use crate::pair::Pair;
@@ -17,6 +19,7 @@ use pv_base::Gate;
 use pv_build::convert;
 use pv_certify::certify;
 use pv_class::ClassFile;
+use pv_counted::clear;
 use pv_endings::endings;
 use pv_frame::{Cause, Refused};
 use pv_graph::{Graph, NodeId};
@@ -54,16 +57,43 @@ pub enum Verdict {
     Budget(u32),
 }
 
-/// How much is to be found of methods.
+impl Verdict {
+    /// Whether the two have the same meaning.
+    pub(crate) fn is_equivalent(self) -> bool
+        ensures { IsTrue result ↔ (self ≡ Verdict.Equivalent) }
+    {
+        matches!(self, Verdict::Equivalent)
+    }
+}
+
+/// In which graphs a search may find the roots of two methods equal.
+#[derive(Clone, Copy, Debug, PartialEq, Eq)]
+pub enum Graphs {
+    /// In their least graph.
+    Least,
+    /// In their least graph, or in the one from which the tokens that end because of counted loops are cleared.
+    LeastOrCleared,
+}
+
+/// What is to be found of methods.
 #[derive(Clone, Copy, Debug, PartialEq, Eq)]
 pub enum Detail {
-    /// The verdict alone.
-    Verdict,
-    /// The verdict, and where it is `Equivalent` the steps that show it.
+    /// The verdict alone, by a search in these graphs.
+    Verdict(Graphs),
+    /// The verdict by a search in the least graph, and where it is `Equivalent` the steps that show it.
     Steps,
 }
 
-/// What a search takes: the axioms, its limits, and how much it is to find.
+impl Detail {
+    // Whether a search may look in the cleared graph too.
+    fn may_clear(self) -> bool
+        ensures { IsTrue result ↔ (self ≡ Detail.Verdict Graphs.LeastOrCleared) }
+    {
+        matches!(self, Detail::Verdict(Graphs::LeastOrCleared))
+    }
+}
+
+/// What a search takes: the axioms, its limits, and what it is to find.
 #[derive(Clone, Copy)]
 pub(crate) struct Means<'a> {
     pub(crate) table: &'a [Axiom],
@@ -102,7 +132,7 @@ pub(crate) fn judgement_on<G: Gate>(
     requires table { map axiom_seen means.table.now ≡ axioms_in means.limits.axioms }
     requires read { IsReadPair pair.now }
     requires there { method < length pair.now.first.methods }
-    ensures verdict { IfOk result (λ found. IsVerdictAt means.entry.limits pair.now.first method pair.now.second found.verdict) }
+    ensures verdict { IfOk result (λ found. IsVerdictAt (options_of means.entry.limits means.entry.detail) pair.now.first method pair.now.second found.verdict) }
     ensures steps { IfOk result (λ found. IsProvedAt means.entry.detail pair.now.first method pair.now.second found) }
 {
     let one = &pair.first.methods.as_slice()[method];
@@ -133,7 +163,7 @@ fn judgement_with<G: Gate>(
     requires read { IsReadPair pair.now }
     requires there { method < length pair.now.first.methods }
     requires partner { partner < length pair.now.second.methods }
-    ensures verdict { IfOk result (λ found. IsVerdictOnPlaces means.entry.limits pair.now.first method pair.now.second partner found.verdict) }
+    ensures verdict { IfOk result (λ found. IsVerdictOnPlaces (options_of means.entry.limits means.entry.detail) pair.now.first method pair.now.second partner found.verdict) }
     ensures steps { IfOk result (λ found. IsProvedOnPlaces means.entry.detail pair.now.first method pair.now.second partner found) }
 {
     match least_roots(alloc, &pair.first, method, &pair.second, partner)? {
@@ -142,8 +172,8 @@ fn judgement_with<G: Gate>(
     }
 }
 
-// What is found of two methods by the least graph of their roots. Where the roots are one node the verdict is the same under all
-// limits, and takes no search and no steps: for the law that says so their endings are listed, in linear time.
+// What is found of two methods by the least graph of their roots, or by the graph that is cleared, where a search may look there. There it
+// looks only where it doesn't find them equal in the least graph.
 fn judgement_by<G: Gate>(
     alloc: Global,
     gate: &G,
@@ -152,7 +182,52 @@ fn judgement_by<G: Gate>(
 ) -> Result<Judgement, Memory>
     requires table { map axiom_seen means.table.now ≡ axioms_in means.limits.axioms }
     requires least { IsLeastOfSome roots.now }
-    ensures verdict { IfOk result (λ found. IsVerdictBy means.entry.limits roots.now found.verdict) }
+    ensures verdict { IfOk result (λ found. IsVerdictBy (options_of means.entry.limits means.entry.detail) roots.now found.verdict) }
+    ensures steps { IfOk result (λ found. IsProvedBy means.entry.detail roots.now found) }
+{
+    let found = found_by(alloc, gate, means, roots)?;
+    if found.verdict.is_equivalent() || !means.detail.may_clear() {
+        return Ok(found);
+    }
+    if finds_cleared(alloc, gate, means, roots)? {
+        return Ok(Judgement::bare(Verdict::Equivalent));
+    }
+    Ok(found)
+}
+
+// Whether a search finds the roots equal in the graph that is cleared.
+fn finds_cleared<G: Gate>(
+    alloc: Global,
+    gate: &G,
+    means: Means,
+    roots: &Least,
+) -> Result<bool, Memory>
+    requires table { map axiom_seen means.table.now ≡ axioms_in means.limits.axioms }
+    requires least { IsLeastOfSome roots.now }
+    ensures finds { IfOk result (λ yes. IsTrue yes ↔ FindsCleared Graphs.LeastOrCleared means.entry.limits roots.now) }
+    ensures same { IfOk result (λ yes. IsTrue yes → Same roots.now.graph roots.now.first roots.now.second) }
+{
+    let cleared = clear(alloc, roots)?;
+    let means = Means {
+        table: means.table,
+        limits: means.limits,
+        detail: Detail::Verdict(Graphs::Least),
+    };
+    let found = found_by(alloc, gate, means, &cleared)?;
+    Ok(found.verdict.is_equivalent())
+}
+
+// What a search finds of the roots of a least graph. Where they are one node it finds under all limits that they are equal, and takes no
+// search and no steps: for the law that says so their endings are listed, in linear time.
+fn found_by<G: Gate>(
+    alloc: Global,
+    gate: &G,
+    means: Means,
+    roots: &Least,
+) -> Result<Judgement, Memory>
+    requires table { map axiom_seen means.table.now ≡ axioms_in means.limits.axioms }
+    requires least { IsLeastOfSome roots.now }
+    ensures verdict { IfOk result (λ found. IsFoundBy means.entry.limits roots.now found.verdict) }
     ensures steps { IfOk result (λ found. IsProvedBy means.entry.detail roots.now found) }
 {
     if roots.first() == roots.second() {
@@ -176,7 +251,7 @@ fn no_steps(alloc: Global, detail: Detail) -> Option<Listed<Step>>
     ensures { HasSteps detail (λ steps. steps ≡ []) Verdict.Equivalent result }
 {
     match detail {
-        Detail::Verdict => None,
+        Detail::Verdict(_) => None,
         Detail::Steps => Some(Listed::from(Vec::new(alloc))),
     }
 }

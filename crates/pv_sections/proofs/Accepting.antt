@@ -7,7 +7,7 @@ use Rattle.pv_cert.specs.declared.cert.Cert.{Cert}
 use Rattle.pv_cert.specs.declared.cert.CertFault.{CertFault}
 use Rattle.pv_cert.specs.BadCerts.{BadCert}
 use Rattle.pv_cert.proofs.Cited.{faults_once, spelled_once}
-use Rattle.pv_prove.specs.declared.outcome.Limits.{Limits}
+use Rattle.pv_report.specs.Options.{Limits}
 use Rattle.pv_report.specs.declared.status.Status.{Status}
 use Rattle.pv_report.specs.declared.status.Status.TheVariants as status
 use Rattle.pv_report.specs.declared.verdict.Side.TheVariants as side

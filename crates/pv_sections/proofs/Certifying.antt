@@ -10,7 +10,7 @@ use Rattle.pv_cert.specs.Reading.{SectionFits}
 use Rattle.pv_value.specs.declared.memory.Memory.{Memory}
 use Rattle.pv_class.specs.declared.file.Method.{Method}
 use Rattle.pv_class.specs.declared.file.ClassFile.{ClassFile}
-use Rattle.pv_prove.specs.declared.outcome.Limits.{Limits}
+use Rattle.pv_report.specs.Options.{Limits}
 use Rattle.pv_report.specs.declared.pair.Fetched.{Fetched}
 use Rattle.pv_report.specs.Judging.{IsFetched}
 use Rattle.pv_report.specs.Proving.{ShowsFetched}

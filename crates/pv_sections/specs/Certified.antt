@@ -3,7 +3,7 @@ use Rattle.std.specs.Prelude.{◌≡◌, ℕ, List, Option, Some, None}
 use Rattle.std.specs.Global.{Vec}
 use Rattle.pv_cert.specs.declared.cert.Cert.{Cert}
 use Rattle.pv_cert.specs.Certificates.{Fits, header, spelled}
-use Rattle.pv_prove.specs.declared.outcome.Limits.{Limits}
+use Rattle.pv_report.specs.Options.{Limits}
 use Rattle.pv_cert.specs.declared.cert.Section.{Section}
 use Rattle.pv_report.specs.declared.pair.Fetched.{Fetched}
 use Rattle.pv_report.specs.Judging.{IsFetched}

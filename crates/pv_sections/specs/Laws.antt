@@ -1,7 +1,7 @@
 -- Laws of the reports on certificates.
 use Rattle.std.specs.Prelude.{◌≡◌, ℕ, ◌≤◌, List, length}
 use Rattle.pv_base.specs.Stored.{AreBytes}
-use Rattle.pv_prove.specs.declared.outcome.Limits.{Limits}
+use Rattle.pv_report.specs.Options.{Limits}
 use Rattle.pv_report.specs.declared.status.Status.{Status}
 use Rattle.pv_report.specs.declared.status.Status.TheVariants.{AllEquivalent}
 use Rattle.pv_sections.specs.declared.certificate.TheConstants.{LONGEST_CERT}

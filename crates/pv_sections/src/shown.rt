@@ -4,14 +4,14 @@ ghost use Rattle.std.specs.Prelude.{◌≡◌, ◌↔◌, None, IfOk};
 ghost use Rattle.pv_token.specs.Spellings.{AreBytes};
 ghost use Rattle.pv_token.specs.Tokens.{digest_token};
 ghost use Rattle.pv_report.specs.Judging.{JudgesFetched};
+ghost use Rattle.pv_report.specs.Options.{in_least};
 ghost use Rattle.pv_sections.specs.Certified.{CertifiesFetched, HasTextFor, IsTextFor};
 
 use crate::digest::digest_of;
 use pv_base::Gate;
 use pv_cert::{Cert, Section, write_cert};
 use pv_list::Listed;
-use pv_prove::Limits;
-use pv_report::{Answer, Detail, Fetched, Report, Status, judge};
+use pv_report::{Answer, Detail, Fetched, Limits, Report, Status, judge};
 use pv_value::Memory;
 use std::alloc::Global;
 
@@ -22,7 +22,7 @@ pub struct Shown {
     pub certificate: Option<Vec<u8>>,
 }
 
-/// What is said of two files, as by `judge`, and the certificate that shows it: it names both by their digests (FIPS 180-4,
+/// What is said of two files, as `judge` says it by searches in least graphs alone, and the certificate that shows it: it names both by their digests (FIPS 180-4,
 /// SHA-256), and has one section for each line `.. equivalent`, in the order of the lines. There is none where one of the two is no
 /// class file. Out of memory is the one error.
 pub fn show<G: Gate>(
@@ -32,7 +32,7 @@ pub fn show<G: Gate>(
     first: &Fetched,
     second: &Fetched,
 ) -> Result<Shown, Memory>
-    ensures answer { IfOk result (λ shown. JudgesFetched limits first.now second.now shown.answer.text.items shown.answer.status) }
+    ensures answer { IfOk result (λ shown. JudgesFetched (in_least limits) first.now second.now shown.answer.text.items shown.answer.status) }
     ensures certificate { IfOk result (λ shown. CertifiesFetched limits first.now second.now shown.certificate) }
     ensures none { IfOk result (λ shown. (shown.certificate ≡ None) ↔ (shown.answer.status ≡ Status.BadClass)) }
 {

@@ -7,7 +7,7 @@ use Rattle.pv_report.specs.declared.status.Status.{Status}
 use Rattle.pv_top.specs.declared.words.Command.{Command}
 use Rattle.pv_top.specs.declared.words.Command.TheVariants.{Validate, Check, Refute}
 use Rattle.pv_top.specs.Words.{fetches, first_of, second_of}
-use Rattle.pv_top.specs.Run.{Says, SaidOf, Answered, IsAnswer}
+use Rattle.pv_top.specs.Run.{Says, SaidOf, Answered, IsAnswer, graphs_in}
 use Rattle.pv_top.specs.Promise.{EachEquivalent, Holds}
 use Rattle.pv_top.specs.Fetching.{HoldAll, AreFetched, AnswersFetched}
 use Rattle.pv_top.proofs.Saying.{answer_said, each_equivalent, result_said, said_lines, is_said, IsTrueOf}
@@ -43,7 +43,7 @@ said_result held c old new rose result s = result_said old new s.text s.meant re
 
 -- each whole line that says `equivalent` is true
 answer_lines : (held : Option Stored) (c : Command (List ℕ)) (contents : List (List ℕ)) (text : List ℕ) (s : Status) → AllZip (λ (f : List ℕ × ℕ) (bytes : List ℕ). Holds held f.0 bytes) (fetches c) contents → AllByRecursion AreBytes contents → IsAnswer c contents text s → IsTrueOf held (first_of c) (second_of c) text
-answer_lines held (Validate a b axioms rounds budget cert) (x ∷ y ∷ []) text s h bytes is = judged_line held (record { axioms = axioms; rounds = rounds; budget = budget }) a b x y text s (record { first_held = h.0; second_held = h.1.0; first_bytes = bytes.0; second_bytes = bytes.1.0 }) is
+answer_lines held (Validate a b axioms rounds budget mode) (x ∷ y ∷ []) text s h bytes is = judged_line held (record { limits = record { axioms = axioms; rounds = rounds; budget = budget }; graphs = graphs_in mode }) a b x y text s (record { first_held = h.0; second_held = h.1.0; first_bytes = bytes.0; second_bytes = bytes.1.0 }) is
 answer_lines held (Check a b c) (x ∷ y ∷ z ∷ []) text s h bytes is = ruled_line held a b x y z text s (record { first_held = h.0; second_held = h.1.0; first_bytes = bytes.0; second_bytes = bytes.1.0 }) is
 answer_lines held (Refute a b tries steps) (x ∷ y ∷ []) text s h bytes is = refuted_line held (record { tries = tries; steps = steps }) a b x y text s is
 answer_lines held _ _ text s h bytes is = absurd is

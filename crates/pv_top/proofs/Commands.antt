@@ -1,20 +1,22 @@
 -- The words of a command.
-use Rattle.std.proofs.Common.{◌≡◌, ◌⊎◌, ◌<◌, ◌^◌, ℕ, true, List, [], ◌∷◌, length, Option, Some, None, Result, inl, inr, refl, sym, ap, subst, ◌∙◌, arith}
+use Rattle.std.proofs.Common.{◌≡◌, ◌⊎◌, ◌<◌, ◌^◌, ℕ, Bool, true, false, List, [], ◌∷◌, length, Option, Some, None, Result, inl, inr, refl, sym, ap, subst, ◌∙◌, arith}
 use Rattle.std.specs.Prelude.{codes, map, option_map, slice_index_or, IfOk}
 use Rattle.std.specs.Borrow.{Bor}
 use Rattle.std.specs.Str.{bytes_eq}
 use Rattle.std.proofs.lemmas.Slice.Eq.{bytes_eq-Decides}
 use Rattle.pv_value.specs.declared.memory.Memory.{Memory}
-use Rattle.pv_prove.specs.declared.table.AxiomSet.{AxiomSet}
-use Rattle.pv_prove.specs.declared.table.AxiomSet.TheVariants.{Core, All}
+use Rattle.pv_report.specs.Options.{AxiomSet}
+use Rattle.pv_report.specs.Options.{Core, All}
 use Rattle.pv_words.specs.Answers.{texts}
-use Rattle.pv_words.specs.Words.{Give}
+use Rattle.pv_words.specs.Words as words
+use Rattle.pv_words.specs.Words.{Give, once_or_never, times_of}
 use Rattle.pv_words.proofs.Cited.{is_one, one_number}
 use Rattle.pv_top.specs.declared.words.TheConstants.{DEFAULT_ROUNDS, MOST_ROUNDS, DEFAULT_BUDGET, MOST_BUDGET, DEFAULT_TRIES, MOST_TRIES, DEFAULT_STEPS, MOST_STEPS}
+use Rattle.pv_top.specs.declared.words.Mode.{Mode}
 use Rattle.pv_top.specs.declared.words.Command.{Command}
 use Rattle.pv_top.specs.declared.words.Command.TheVariants.{Validate, Check, Refute}
 use Rattle.pv_top.specs.Commands.{named}
-use Rattle.pv_top.specs.Words.{AreOf, IsCommand, IsLimit, IsSet, set_word, check_words, refute_words, validate_words}
+use Rattle.pv_top.specs.Words.{AreOf, IsCommand, IsLimit, IsMode, IsSet, set_word, check_words, refute_words, validate_words}
 
 -- ---- the words are one command at most
 
@@ -32,34 +34,46 @@ set_once : (given : Option (List ℕ)) (s t : AxiomSet) → IsSet given s → Is
 set_once None s t p q = p ∙ sym q
 set_once (Some text) s t p q = one_word s t (sym p ∙ q)
 
+mode_once : (counted : Bool) (cert : Option (List ℕ)) (m n : Mode (List ℕ)) → IsMode counted cert m → IsMode counted cert n → m ≡ n
+mode_once false None m n p q = p ∙ sym q
+mode_once true None m n p q = p ∙ sym q
+mode_once false (Some name) m n p q = p ∙ sym q
+mode_once true (Some name) m n p q = absurd p
+
+-- the mode by equal words is one
+same_mode : (b d : Bool) (c e : Option (List ℕ)) (m n : Mode (List ℕ)) → b ≡ d → c ≡ e → IsMode b c m → IsMode d e n → m ≡ n
+same_mode b d c e m n flag cert p q = mode_once d e m n (subst (λ (x : Bool). IsMode x e m) flag (subst (λ (o : Option (List ℕ)). IsMode b o m) cert p)) q
+
 words_once : (words : List (List ℕ)) (c d : Command (List ℕ)) → AreOf words c → AreOf words d → c ≡ d
-words_once words (Validate a b t r k cert) (Validate x y u s l file) (rest, is, p) (more, are, q) =
+words_once words (Validate a b t r k m) (Validate x y u s l n) (rest, is, p) (more, are, q) =
     let same : rest ≡ more = let e = sym is ∙ are in cc e in
-    let one = is_one validate_words refl more _ _ _ _ (subst (λ (w : List (List ℕ)). Give validate_words w (p.axioms_word ∷ p.rounds_word ∷ p.budget_word ∷ cert ∷ []) (a ∷ b ∷ [])) same p.given) q.given in
-    let name : p.axioms_word ≡ q.axioms_word = let e = one.0 in cc e in
-    let words : p.rounds_word ≡ q.rounds_word = let e = one.0 in cc e in
-    let text : p.budget_word ≡ q.budget_word = let e = one.0 in cc e in
-    let third : cert ≡ file = let e = one.0 in cc e in
-    let first : a ≡ x = let e = one.1 in cc e in
-    let second : b ≡ y = let e = one.1 in cc e in
+    let one = is_one validate_words refl more _ _ _ _ _ _ (subst (λ (w : List (List ℕ)). Give validate_words w (p.counted_flag ∷ []) (p.axioms_word ∷ p.rounds_word ∷ p.budget_word ∷ p.cert_word ∷ []) (a ∷ b ∷ [])) same p.given) q.given in
+    let flag : p.counted_flag ≡ q.counted_flag = let e = one.0 in cc e in
+    let name : p.axioms_word ≡ q.axioms_word = let e = one.1 in cc e in
+    let words : p.rounds_word ≡ q.rounds_word = let e = one.1 in cc e in
+    let text : p.budget_word ≡ q.budget_word = let e = one.1 in cc e in
+    let file : p.cert_word ≡ q.cert_word = let e = one.1 in cc e in
+    let first : a ≡ x = let e = one.2 in cc e in
+    let second : b ≡ y = let e = one.2 in cc e in
     let axioms : t ≡ u = set_once q.axioms_word t u (subst (λ (o : Option (List ℕ)). IsSet o t) name p.axioms_are) q.axioms_are in
     let rounds : r ≡ s = limit_once 0 MOST_ROUNDS DEFAULT_ROUNDS q.rounds_word r s (omega arith) (subst (λ (o : Option (List ℕ)). IsLimit 0 MOST_ROUNDS DEFAULT_ROUNDS o r) words p.rounds_are) q.rounds_are in
     let budget : k ≡ l = limit_once 1 MOST_BUDGET DEFAULT_BUDGET q.budget_word k l (omega arith) (subst (λ (o : Option (List ℕ)). IsLimit 1 MOST_BUDGET DEFAULT_BUDGET o k) text p.budget_is) q.budget_is in
-    cc (first, second, axioms, rounds, budget, third)
+    let mode : m ≡ n = same_mode p.counted_flag q.counted_flag p.cert_word q.cert_word m n flag file p.mode_is q.mode_is in
+    cc (first, second, axioms, rounds, budget, mode)
 words_once words (Check a b c) (Check x y z) (rest, is, p) (more, are, q) =
     let same : rest ≡ more = let e = sym is ∙ are in cc e in
-    let one = is_one check_words refl more _ _ _ _ (subst (λ (w : List (List ℕ)). Give check_words w [] (a ∷ b ∷ c ∷ [])) same p) q in
-    let first : a ≡ x = let e = one.1 in cc e in
-    let second : b ≡ y = let e = one.1 in cc e in
-    let third : c ≡ z = let e = one.1 in cc e in
+    let one = is_one check_words refl more _ _ _ _ _ _ (subst (λ (w : List (List ℕ)). Give check_words w [] [] (a ∷ b ∷ c ∷ [])) same p) q in
+    let first : a ≡ x = let e = one.2 in cc e in
+    let second : b ≡ y = let e = one.2 in cc e in
+    let third : c ≡ z = let e = one.2 in cc e in
     cc (first, second, third)
 words_once words (Refute a b r k) (Refute x y s l) (rest, is, p) (more, are, q) =
     let same : rest ≡ more = let e = sym is ∙ are in cc e in
-    let one = is_one refute_words refl more _ _ _ _ (subst (λ (w : List (List ℕ)). Give refute_words w (p.tries_word ∷ p.steps_word ∷ []) (a ∷ b ∷ [])) same p.given) q.given in
-    let words : p.tries_word ≡ q.tries_word = let e = one.0 in cc e in
-    let text : p.steps_word ≡ q.steps_word = let e = one.0 in cc e in
-    let first : a ≡ x = let e = one.1 in cc e in
-    let second : b ≡ y = let e = one.1 in cc e in
+    let one = is_one refute_words refl more _ _ _ _ _ _ (subst (λ (w : List (List ℕ)). Give refute_words w [] (p.tries_word ∷ p.steps_word ∷ []) (a ∷ b ∷ [])) same p.given) q.given in
+    let words : p.tries_word ≡ q.tries_word = let e = one.1 in cc e in
+    let text : p.steps_word ≡ q.steps_word = let e = one.1 in cc e in
+    let first : a ≡ x = let e = one.2 in cc e in
+    let second : b ≡ y = let e = one.2 in cc e in
     let tries : r ≡ s = limit_once 1 MOST_TRIES DEFAULT_TRIES q.tries_word r s (omega arith) (subst (λ (o : Option (List ℕ)). IsLimit 1 MOST_TRIES DEFAULT_TRIES o r) words p.tries_are) q.tries_are in
     let steps : k ≡ l = limit_once 1 MOST_STEPS DEFAULT_STEPS q.steps_word k l (omega arith) (subst (λ (o : Option (List ℕ)). IsLimit 1 MOST_STEPS DEFAULT_STEPS o k) text p.steps_are) q.steps_are in
     cc (first, second, tries, steps)
@@ -81,78 +95,103 @@ pub whole_words : (whole words : List (List ℕ)) (r : Result (Option (Command (
 whole_words whole words r e h = subst (λ (ws : List (List ℕ)). IfOk r (λ c. IsCommand ws (option_map named c))) (sym e) h
 
 -- words that give `check` nothing are no command
-pub no_check : (rest : List (List ℕ)) → ((o : List (Option (List ℕ))) (a : List (List ℕ)) → Give check_words rest o a → ⊥) → (c : Command (List ℕ)) → AreOf (codes "check" ∷ rest) c → ⊥
-no_check rest none (Check a b cert) (more, e, g) = none [] (a ∷ b ∷ cert ∷ []) (subst (λ (w : List (List ℕ)). Give check_words w [] (a ∷ b ∷ cert ∷ [])) (let same : more ≡ rest = cc (sym e) in same) g)
+pub no_check : (rest : List (List ℕ)) → ((f : List Bool) (o : List (Option (List ℕ))) (a : List (List ℕ)) → Give check_words rest f o a → ⊥) → (c : Command (List ℕ)) → AreOf (codes "check" ∷ rest) c → ⊥
+no_check rest none (Check a b cert) (more, e, g) = none [] [] (a ∷ b ∷ cert ∷ []) (subst (λ (w : List (List ℕ)). Give check_words w [] [] (a ∷ b ∷ cert ∷ [])) (let same : more ≡ rest = cc (sym e) in same) g)
 no_check rest none _ (more, e, g) = absurd (cc e)
 
 -- nor are words that give `validate` nothing
-pub no_validate : (rest : List (List ℕ)) → ((o : List (Option (List ℕ))) (a : List (List ℕ)) → Give validate_words rest o a → ⊥) → (c : Command (List ℕ)) → AreOf (codes "validate" ∷ rest) c → ⊥
-no_validate rest none (Validate a b axioms rounds budget cert) (more, e, g) =
-    none (g.axioms_word ∷ g.rounds_word ∷ g.budget_word ∷ cert ∷ []) (a ∷ b ∷ []) (subst (λ (w : List (List ℕ)). Give validate_words w (g.axioms_word ∷ g.rounds_word ∷ g.budget_word ∷ cert ∷ []) (a ∷ b ∷ [])) (let same : more ≡ rest = cc (sym e) in same) g.given)
+pub no_validate : (rest : List (List ℕ)) → ((f : List Bool) (o : List (Option (List ℕ))) (a : List (List ℕ)) → Give validate_words rest f o a → ⊥) → (c : Command (List ℕ)) → AreOf (codes "validate" ∷ rest) c → ⊥
+no_validate rest none (Validate a b axioms rounds budget mode) (more, e, g) =
+    none (g.counted_flag ∷ []) (g.axioms_word ∷ g.rounds_word ∷ g.budget_word ∷ g.cert_word ∷ []) (a ∷ b ∷ []) (subst (λ (w : List (List ℕ)). Give validate_words w (g.counted_flag ∷ []) (g.axioms_word ∷ g.rounds_word ∷ g.budget_word ∷ g.cert_word ∷ []) (a ∷ b ∷ [])) (let same : more ≡ rest = cc (sym e) in same) g.given)
 no_validate rest none _ (more, e, g) = absurd (cc e)
 
 -- nor are words that give `refute` nothing
-pub no_refute : (rest : List (List ℕ)) → ((o : List (Option (List ℕ))) (a : List (List ℕ)) → Give refute_words rest o a → ⊥) → (c : Command (List ℕ)) → AreOf (codes "refute" ∷ rest) c → ⊥
+pub no_refute : (rest : List (List ℕ)) → ((f : List Bool) (o : List (Option (List ℕ))) (a : List (List ℕ)) → Give refute_words rest f o a → ⊥) → (c : Command (List ℕ)) → AreOf (codes "refute" ∷ rest) c → ⊥
 no_refute rest none (Refute a b tries steps) (more, e, g) =
-    none (g.tries_word ∷ g.steps_word ∷ []) (a ∷ b ∷ []) (subst (λ (w : List (List ℕ)). Give refute_words w (g.tries_word ∷ g.steps_word ∷ []) (a ∷ b ∷ [])) (let same : more ≡ rest = cc (sym e) in same) g.given)
+    none [] (g.tries_word ∷ g.steps_word ∷ []) (a ∷ b ∷ []) (subst (λ (w : List (List ℕ)). Give refute_words w [] (g.tries_word ∷ g.steps_word ∷ []) (a ∷ b ∷ [])) (let same : more ≡ rest = cc (sym e) in same) g.given)
 no_refute rest none _ (more, e, g) = absurd (cc e)
 
--- nor those of which an option names no axioms, or a limit is no number within its bounds
-abbrev pub IsNoValue : (t r k : Option (List ℕ)) → Type 0
-IsNoValue t r k = ((s : AxiomSet) → IsSet t s → ⊥) ⊎ (((n : ℕ) → IsLimit 0 MOST_ROUNDS DEFAULT_ROUNDS r n → ⊥) ⊎ ((n : ℕ) → IsLimit 1 MOST_BUDGET DEFAULT_BUDGET k n → ⊥))
+-- nor those of which an option names no axioms, or a limit is no number within its bounds, or the flag and a certificate are given
+abbrev pub IsNoValue : Bool → (t r k cert : Option (List ℕ)) → Type 0
+IsNoValue c t r k cert = ((s : AxiomSet) → IsSet t s → ⊥) ⊎ (((n : ℕ) → IsLimit 0 MOST_ROUNDS DEFAULT_ROUNDS r n → ⊥) ⊎ (((n : ℕ) → IsLimit 1 MOST_BUDGET DEFAULT_BUDGET k n → ⊥) ⊎ ((m : Mode (List ℕ)) → IsMode c cert m → ⊥)))
 
-no_value : (rest : List (List ℕ)) (t r k cert : Option (List ℕ)) (a : List (List ℕ)) → Give validate_words rest (t ∷ r ∷ k ∷ cert ∷ []) a → IsNoValue t r k → (c : Command (List ℕ)) → AreOf (codes "validate" ∷ rest) c → ⊥
-no_value rest t r k cert a given none (Validate x y axioms rounds budget file) (more, e, g) =
+no_value : (rest : List (List ℕ)) (c : Bool) (t r k cert : Option (List ℕ)) (a : List (List ℕ)) → Give validate_words rest (c ∷ []) (t ∷ r ∷ k ∷ cert ∷ []) a → IsNoValue c t r k cert → (d : Command (List ℕ)) → AreOf (codes "validate" ∷ rest) d → ⊥
+no_value rest c t r k cert a given none (Validate x y axioms rounds budget mode) (more, e, g) =
     let same : more ≡ rest = cc (sym e) in
-    let one = is_one validate_words refl rest _ _ _ _ given (subst (λ (w : List (List ℕ)). Give validate_words w (g.axioms_word ∷ g.rounds_word ∷ g.budget_word ∷ file ∷ []) (x ∷ y ∷ [])) same g.given) in
-    let name : t ≡ g.axioms_word = let f = one.0 in cc f in
-    let words : r ≡ g.rounds_word = let f = one.0 in cc f in
-    let text : k ≡ g.budget_word = let f = one.0 in cc f in
+    let one = is_one validate_words refl rest _ _ _ _ _ _ given (subst (λ (w : List (List ℕ)). Give validate_words w (g.counted_flag ∷ []) (g.axioms_word ∷ g.rounds_word ∷ g.budget_word ∷ g.cert_word ∷ []) (x ∷ y ∷ [])) same g.given) in
+    let flag : c ≡ g.counted_flag = let f = one.0 in cc f in
+    let name : t ≡ g.axioms_word = let f = one.1 in cc f in
+    let words : r ≡ g.rounds_word = let f = one.1 in cc f in
+    let text : k ≡ g.budget_word = let f = one.1 in cc f in
+    let file : cert ≡ g.cert_word = let f = one.1 in cc f in
     elim none [
       | inl n ↦ n axioms (subst (λ (o : Option (List ℕ)). IsSet o axioms) (sym name) g.axioms_are)
       | inr (inl n) ↦ n rounds (subst (λ (o : Option (List ℕ)). IsLimit 0 MOST_ROUNDS DEFAULT_ROUNDS o rounds) (sym words) g.rounds_are)
-      | inr (inr n) ↦ n budget (subst (λ (o : Option (List ℕ)). IsLimit 1 MOST_BUDGET DEFAULT_BUDGET o budget) (sym text) g.budget_is)
+      | inr (inr (inl n)) ↦ n budget (subst (λ (o : Option (List ℕ)). IsLimit 1 MOST_BUDGET DEFAULT_BUDGET o budget) (sym text) g.budget_is)
+      | inr (inr (inr n)) ↦ n mode (subst (λ (b : Bool). IsMode b cert mode) (sym flag) (subst (λ (o : Option (List ℕ)). IsMode g.counted_flag o mode) (sym file) g.mode_is))
     ]
-no_value rest t r k cert a given none _ (more, e, g) = absurd (cc e)
+no_value rest c t r k cert a given none _ (more, e, g) = absurd (cc e)
 
-no_try_limit : (rest : List (List ℕ)) (r k : Option (List ℕ)) (a : List (List ℕ)) → Give refute_words rest (r ∷ k ∷ []) a → (((n : ℕ) → IsLimit 1 MOST_TRIES DEFAULT_TRIES r n → ⊥) ⊎ ((n : ℕ) → IsLimit 1 MOST_STEPS DEFAULT_STEPS k n → ⊥))
+no_try_limit : (rest : List (List ℕ)) (f : List Bool) (r k : Option (List ℕ)) (a : List (List ℕ)) → Give refute_words rest f (r ∷ k ∷ []) a → (((n : ℕ) → IsLimit 1 MOST_TRIES DEFAULT_TRIES r n → ⊥) ⊎ ((n : ℕ) → IsLimit 1 MOST_STEPS DEFAULT_STEPS k n → ⊥))
     → (c : Command (List ℕ)) → AreOf (codes "refute" ∷ rest) c → ⊥
-no_try_limit rest r k a given none (Refute x y tries steps) (more, e, g) =
+no_try_limit rest f r k a given none (Refute x y tries steps) (more, e, g) =
     let same : more ≡ rest = cc (sym e) in
-    let one = is_one refute_words refl rest _ _ _ _ given (subst (λ (w : List (List ℕ)). Give refute_words w (g.tries_word ∷ g.steps_word ∷ []) (x ∷ y ∷ [])) same g.given) in
-    let words : r ≡ g.tries_word = let f = one.0 in cc f in
-    let text : k ≡ g.steps_word = let f = one.0 in cc f in
+    let one = is_one refute_words refl rest _ _ _ _ _ _ given (subst (λ (w : List (List ℕ)). Give refute_words w [] (g.tries_word ∷ g.steps_word ∷ []) (x ∷ y ∷ [])) same g.given) in
+    let words : r ≡ g.tries_word = let e = one.1 in cc e in
+    let text : k ≡ g.steps_word = let e = one.1 in cc e in
     elim none [
       | inl n ↦ n tries (subst (λ (o : Option (List ℕ)). IsLimit 1 MOST_TRIES DEFAULT_TRIES o tries) (sym words) g.tries_are)
       | inr n ↦ n steps (subst (λ (o : Option (List ℕ)). IsLimit 1 MOST_STEPS DEFAULT_STEPS o steps) (sym text) g.steps_are)
     ]
-no_try_limit rest r k a given none _ (more, e, g) = absurd (cc e)
+no_try_limit rest f r k a given none _ (more, e, g) = absurd (cc e)
+
+-- words give no flag to a command that has none
+pub no_flags : (c : words.Command) (rest : List (List ℕ)) (flags : List Bool) (options : List (Option (List ℕ))) (arguments : List (List ℕ)) → c.flags ≡ [] → Give c rest flags options arguments → Give c rest [] options arguments
+no_flags c rest [] options arguments none given = given
+no_flags c rest (b ∷ bs) options arguments none given = absurd (let e : ◌≡◌ {A = List ℕ} [] (map once_or_never (b ∷ bs)) = sym (ap (map (times_of given.parts)) none) ∙ given.flagged in cc e)
 
 -- the same, by what was read
 abbrev pub text_of : Option (Bor (List ℕ)) → Option (List ℕ)
 text_of o = option_map (λ s. s.now) o
 
 module _ (rest : List (List ℕ)) where
-  pub no_value_at : (options : List (Option (Bor (List ℕ)))) (arguments : List (Bor (List ℕ))) → Give validate_words rest (map text_of options) (texts arguments) → length options ≡ 4
-      → IsNoValue (text_of (slice_index_or options 0 None)) (text_of (slice_index_or options 1 None)) (text_of (slice_index_or options 2 None)) → (c : Command (List ℕ)) → AreOf (codes "validate" ∷ rest) c → ⊥
-  no_value_at (t ∷ r ∷ k ∷ cert ∷ []) arguments given long none = no_value rest (text_of t) (text_of r) (text_of k) (text_of cert) (texts arguments) given none
-  no_value_at _ arguments given long none = absurd (omega (arith, long))
+  pub no_value_at : (flags : List Bool) (options : List (Option (Bor (List ℕ)))) (arguments : List (Bor (List ℕ))) → Give validate_words rest flags (map text_of options) (texts arguments) → length flags ≡ 1 → length options ≡ 4
+      → IsNoValue (slice_index_or flags 0 false) (text_of (slice_index_or options 0 None)) (text_of (slice_index_or options 1 None)) (text_of (slice_index_or options 2 None)) (text_of (slice_index_or options 3 None))
+      → (c : Command (List ℕ)) → AreOf (codes "validate" ∷ rest) c → ⊥
+  no_value_at (c ∷ []) (t ∷ r ∷ k ∷ cert ∷ []) arguments given one long none = no_value rest c (text_of t) (text_of r) (text_of k) (text_of cert) (texts arguments) given none
+  no_value_at _ _ arguments given one long none = absurd (omega (arith, one, long))
 
-  pub is_validate : (options : List (Option (Bor (List ℕ)))) (arguments : List (Bor (List ℕ))) (d : Bor (List ℕ)) (axioms : AxiomSet) (rounds budget : ℕ) → Give validate_words rest (map text_of options) (texts arguments) → length options ≡ 4 → length arguments ≡ 2
+  pub is_validate : (flags : List Bool) (options : List (Option (Bor (List ℕ)))) (arguments : List (Bor (List ℕ))) (d : Bor (List ℕ)) (axioms : AxiomSet) (rounds budget : ℕ) (mode : Mode (List ℕ))
+      → Give validate_words rest flags (map text_of options) (texts arguments) → length flags ≡ 1 → length options ≡ 4 → length arguments ≡ 2
       → IsSet (text_of (slice_index_or options 0 None)) axioms → IsLimit 0 MOST_ROUNDS DEFAULT_ROUNDS (text_of (slice_index_or options 1 None)) rounds → IsLimit 1 MOST_BUDGET DEFAULT_BUDGET (text_of (slice_index_or options 2 None)) budget
-      → AreOf (codes "validate" ∷ rest) (Validate (slice_index_or arguments 0 d).now (slice_index_or arguments 1 d).now axioms rounds budget (text_of (slice_index_or options 3 None)))
-  is_validate (t ∷ r ∷ k ∷ cert ∷ []) (a ∷ b ∷ []) d axioms rounds budget given long two h p q =
-      (rest, refl, record { axioms_word = text_of t; rounds_word = text_of r; budget_word = text_of k; given = given; axioms_are = h; rounds_are = p; budget_is = q })
-  is_validate _ _ d axioms rounds budget given long two h p q = absurd (omega (arith, long, two))
+      → IsMode (slice_index_or flags 0 false) (text_of (slice_index_or options 3 None)) mode
+      → AreOf (codes "validate" ∷ rest) (Validate (slice_index_or arguments 0 d).now (slice_index_or arguments 1 d).now axioms rounds budget mode)
+  is_validate (c ∷ []) (t ∷ r ∷ k ∷ cert ∷ []) (a ∷ b ∷ []) d axioms rounds budget mode given one long two h p q w = (
+    rest,
+    refl,
+    record {
+      counted_flag = c;
+      axioms_word = text_of t;
+      rounds_word = text_of r;
+      budget_word = text_of k;
+      cert_word = text_of cert;
+      given = given;
+      axioms_are = h;
+      rounds_are = p;
+      budget_is = q;
+      mode_is = w;
+    },
+  )
+  is_validate _ _ _ d axioms rounds budget mode given one long two h p q w = absurd (omega (arith, one, long, two))
 
-  pub no_try_limit_at : (options : List (Option (Bor (List ℕ)))) (arguments : List (Bor (List ℕ))) → Give refute_words rest (map text_of options) (texts arguments) → length options ≡ 2
+  pub no_try_limit_at : (flags : List Bool) (options : List (Option (Bor (List ℕ)))) (arguments : List (Bor (List ℕ))) → Give refute_words rest flags (map text_of options) (texts arguments) → length options ≡ 2
       → (((n : ℕ) → IsLimit 1 MOST_TRIES DEFAULT_TRIES (text_of (slice_index_or options 0 None)) n → ⊥) ⊎ ((n : ℕ) → IsLimit 1 MOST_STEPS DEFAULT_STEPS (text_of (slice_index_or options 1 None)) n → ⊥))
       → (c : Command (List ℕ)) → AreOf (codes "refute" ∷ rest) c → ⊥
-  no_try_limit_at (r ∷ k ∷ []) arguments given long none = no_try_limit rest (text_of r) (text_of k) (texts arguments) given none
-  no_try_limit_at _ arguments given long none = absurd (omega (arith, long))
+  no_try_limit_at flags (r ∷ k ∷ []) arguments given long none = no_try_limit rest flags (text_of r) (text_of k) (texts arguments) given none
+  no_try_limit_at flags _ arguments given long none = absurd (omega (arith, long))
 
-  pub is_refute : (options : List (Option (Bor (List ℕ)))) (arguments : List (Bor (List ℕ))) (d : Bor (List ℕ)) (tries steps : ℕ) → Give refute_words rest (map text_of options) (texts arguments) → length options ≡ 2 → length arguments ≡ 2
+  pub is_refute : (flags : List Bool) (options : List (Option (Bor (List ℕ)))) (arguments : List (Bor (List ℕ))) (d : Bor (List ℕ)) (tries steps : ℕ) → Give refute_words rest flags (map text_of options) (texts arguments) → length options ≡ 2 → length arguments ≡ 2
       → IsLimit 1 MOST_TRIES DEFAULT_TRIES (text_of (slice_index_or options 0 None)) tries → IsLimit 1 MOST_STEPS DEFAULT_STEPS (text_of (slice_index_or options 1 None)) steps
       → AreOf (codes "refute" ∷ rest) (Refute (slice_index_or arguments 0 d).now (slice_index_or arguments 1 d).now tries steps)
-  is_refute (r ∷ k ∷ []) (a ∷ b ∷ []) d tries steps given long two p q = (rest, refl, record { tries_word = text_of r; steps_word = text_of k; given = given; tries_are = p; steps_are = q })
-  is_refute _ _ d tries steps given long two p q = absurd (omega (arith, long, two))
+  is_refute flags (r ∷ k ∷ []) (a ∷ b ∷ []) d tries steps given long two p q = (rest, refl, record { tries_word = text_of r; steps_word = text_of k; given = no_flags refute_words rest flags _ _ refl given; tries_are = p; steps_are = q })
+  is_refute flags _ _ d tries steps given long two p q = absurd (omega (arith, long, two))

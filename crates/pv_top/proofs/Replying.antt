@@ -10,7 +10,7 @@ use Rattle.pv_base.specs.Stored.{Stored}
 use Rattle.pv_base.specs.Outside.{OnlyAt, Rose, rose_earlier}
 use Rattle.pv_base.specs.declared.outside.Asked.{Asked}
 use Rattle.pv_base.specs.declared.outside.Asked.TheVariants.{Fetch, Place}
-use Rattle.pv_prove.specs.declared.outcome.Limits.{Limits}
+use Rattle.pv_report.specs.Options.{Options}
 use Rattle.pv_report.specs.declared.pair.Fetched.{Fetched}
 use Rattle.pv_report.specs.declared.status.Status.{Status}
 use Rattle.pv_report.specs.declared.status.Status.TheVariants as status
@@ -18,7 +18,7 @@ use Rattle.pv_report.specs.Report.{Judged}
 use Rattle.pv_top.specs.declared.words.Command.{Command}
 use Rattle.pv_top.specs.declared.words.Command.TheVariants.{Validate}
 use Rattle.pv_top.specs.Words.{fetches, names_of, placed_name}
-use Rattle.pv_top.specs.Run.{Says, Answered, IsAnswer, all_calls, fetch_calls, place_calls, GrewBy, HasBadFile, AskedFor, CallsFor, HoldsPlaced, LeavesAt, LeavesNamed, LeavesBy, Leaves}
+use Rattle.pv_top.specs.Run.{Says, Answered, IsAnswer, graphs_in, all_calls, fetch_calls, place_calls, GrewBy, HasBadFile, AskedFor, CallsFor, HoldsPlaced, LeavesAt, LeavesNamed, LeavesBy, Leaves}
 use Rattle.pv_top.specs.Fetching.{HoldAll, AnswersFetched, AsksPlaced, FetchesOf, LeavesPlaced, PlaceFailed, Places, PlacesFetched, ReadFailed, SaysAfter}
 use Rattle.pv_top.proofs.Answering.{Contents, contents_of, said_of, said_result}
 use Rattle.pv_top.proofs.Asking.{grew_more, more_nothing}
@@ -44,14 +44,14 @@ report_whole status.Others is = refl
 report_whole s is = absurd (cc is)
 
 -- where something is placed, a report is said
-judged_report : (limits : Limits) (a b text : List ℕ) (s : Status) → s ≢ status.BadClass → Judged limits a b text s → is_report s ≡ true
-judged_report limits a b text status.AllEquivalent other h = refl
-judged_report limits a b text status.Others other h = refl
-judged_report limits a b text status.BadClass other h = absurd (other refl)
-judged_report limits a b text _ other h = absurd h.2
+judged_report : (options : Options) (a b text : List ℕ) (s : Status) → s ≢ status.BadClass → Judged options a b text s → is_report s ≡ true
+judged_report options a b text status.AllEquivalent other h = refl
+judged_report options a b text status.Others other h = refl
+judged_report options a b text status.BadClass other h = absurd (other refl)
+judged_report options a b text _ other h = absurd h.2
 
 placed_report : (c : Command (List ℕ)) (contents : List (List ℕ)) (p : List ℕ × List ℕ) (text : List ℕ) (s : Status) → IsAnswer c contents text s → Places c contents s (Some p) → is_report s ≡ true
-placed_report (Validate a b axioms rounds budget cert) (x ∷ y ∷ []) p text s answer places = judged_report (record { axioms = axioms; rounds = rounds; budget = budget }) x y text s places.2 answer
+placed_report (Validate a b axioms rounds budget mode) (x ∷ y ∷ []) p text s answer places = judged_report (record { limits = record { axioms = axioms; rounds = rounds; budget = budget }; graphs = graphs_in mode }) x y text s places.2 answer
 placed_report _ _ p text s answer places = absurd places.1
 
 -- what is said has its own status, or that of a fault of the sink

@@ -4,7 +4,7 @@ use Rattle.std.specs.Prelude.{codes}
 use Rattle.std.proofs.lemmas.List.{append_cancel_left, append-nil, take-append-drop}
 use Rattle.pv_base.specs.Stored.{Stored}
 use Rattle.pv_base.specs.Outside.{more}
-use Rattle.pv_prove.specs.declared.outcome.Limits.{Limits}
+use Rattle.pv_report.specs.Options.{Options}
 use Rattle.pv_differences.specs.declared.finding.RunLimits.{RunLimits}
 use Rattle.pv_differences.specs.Refuted.{Refuted}
 use Rattle.pv_report.specs.declared.status.Status.{Status}
@@ -13,7 +13,7 @@ use Rattle.pv_report.specs.Report.{Judged}
 use Rattle.pv_sections.specs.Ruled.{Ruled}
 use Rattle.pv_top.specs.declared.words.Command.{Command}
 use Rattle.pv_top.specs.declared.words.Command.TheVariants.{Validate, Check, Refute}
-use Rattle.pv_top.specs.Run.{Puts, Says, Answered, IsAnswer, SaidOf}
+use Rattle.pv_top.specs.Run.{Puts, Says, Answered, IsAnswer, SaidOf, graphs_in}
 use Rattle.pv_top.specs.Fetching.{ReadFailed}
 use Rattle.pv_top.specs.Promise.{IsLineOf, EndsWith, HaveOneMeaning, EachEquivalent}
 use Rattle.pv_top.proofs.Asking.{more_nothing}
@@ -33,11 +33,11 @@ is_said status.Memory = false
 is_said s = true
 
 -- .. is that of a report
-judged_said : (limits : Limits) (a b text : List ℕ) (s : Status) → Judged limits a b text s → is_said s ≡ true
-judged_said limits a b text status.AllEquivalent h = refl
-judged_said limits a b text status.Others h = refl
-judged_said limits a b text status.BadClass h = refl
-judged_said limits a b text _ (vs, r, is) = absurd is
+judged_said : (options : Options) (a b text : List ℕ) (s : Status) → Judged options a b text s → is_said s ≡ true
+judged_said options a b text status.AllEquivalent h = refl
+judged_said options a b text status.Others h = refl
+judged_said options a b text status.BadClass h = refl
+judged_said options a b text _ (vs, r, is) = absurd is
 
 ruled_said : (a b cert text : List ℕ) (s : Status) → Ruled a b cert text s → is_said s ≡ true
 ruled_said a b cert text status.AllEquivalent h = refl
@@ -53,7 +53,7 @@ refuted_said limits a b text status.BadClass h = refl
 refuted_said limits a b text _ (fs, r, is) = absurd is
 
 pub answer_said : (c : Command (List ℕ)) (contents : List (List ℕ)) (text : List ℕ) (s : Status) → IsAnswer c contents text s → is_said s ≡ true
-answer_said (Validate a b axioms rounds budget cert) (x ∷ y ∷ []) text s h = judged_said (record { axioms = axioms; rounds = rounds; budget = budget }) x y text s h
+answer_said (Validate a b axioms rounds budget mode) (x ∷ y ∷ []) text s h = judged_said (record { limits = record { axioms = axioms; rounds = rounds; budget = budget }; graphs = graphs_in mode }) x y text s h
 answer_said (Check a b c) (x ∷ y ∷ z ∷ []) text s h = ruled_said x y z text s h
 answer_said (Refute a b tries steps) (x ∷ y ∷ []) text s h = refuted_said (record { tries = tries; steps = steps }) x y text s h
 answer_said _ _ text s h = absurd h

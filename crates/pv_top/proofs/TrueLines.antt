@@ -8,7 +8,7 @@ use Rattle.pv_differences.specs.Findings as differences
 use Rattle.pv_differences.specs.Lines as difference
 use Rattle.pv_differences.specs.Refuted as refuted
 use Rattle.pv_differences.proofs.Cited.{no_equivalent, whole_finding}
-use Rattle.pv_prove.specs.declared.outcome.Limits.{Limits}
+use Rattle.pv_report.specs.Options.{Options}
 use Rattle.pv_report.specs.declared.status.Status.{Status}
 use Rattle.pv_report.specs.declared.status.Status.TheVariants as status
 use Rattle.pv_report.specs.declared.verdict.Side.{Side}
@@ -44,12 +44,12 @@ bad_pair held a b first second text (inr bad) = bad_text held a b second text si
 
 -- ---- a report
 
-report_line : (held : Option Stored) (limits : Limits) (a b first second text : List ℕ) (verdicts : List Verdict) → HoldsBoth held a b first second → IsReport limits first second verdicts text → IsTrueOf held a b text
-report_line held limits a b first second text verdicts h r line l ends =
-    let found = line_among (IsVerdict limits r.first r.second) line_of whole_line r.first.methods verdicts line r.each (subst (λ (t : List ℕ). IsLineOf t line) r.text_is l) in
+report_line : (held : Option Stored) (options : Options) (a b first second text : List ℕ) (verdicts : List Verdict) → HoldsBoth held a b first second → IsReport options first second verdicts text → IsTrueOf held a b text
+report_line held options a b first second text verdicts h r line l ends =
+    let found = line_among (IsVerdict options r.first r.second) line_of whole_line r.first.methods verdicts line r.each (subst (λ (t : List ℕ). IsLineOf t line) r.text_is l) in
     let m = found.thing in
     let is = only_equivalent m found.answer ends.0 (sym found.says ∙ ends.1) in
-    let equal : IsVerdict limits r.first r.second m Equivalent = subst (λ (v : Verdict). IsVerdict limits r.first r.second m v) is found.is in
+    let equal : IsVerdict options r.first r.second m Equivalent = subst (λ (v : Verdict). IsVerdict options r.first r.second m v) is found.is in
     let on = equal.2 in
     record {
       first = first;
@@ -68,11 +68,11 @@ report_line held limits a b first second text verdicts h r line l ends =
       equivalent = least_meaning r.first m r.second equal.0 on.0 on.1 on.2.1 equal.1.like.desc (has_bytes first r.first m h.first_bytes r.first_is found.among) (has_bytes second r.second equal.0 h.second_bytes r.second_is equal.1.among);
     }
 
-pub judged_line : (held : Option Stored) (limits : Limits) (a b first second text : List ℕ) (s : Status) → HoldsBoth held a b first second → Judged limits first second text s → IsTrueOf held a b text
-judged_line held limits a b first second text status.BadClass h bad = bad_pair held a b first second text bad
-judged_line held limits a b first second text status.AllEquivalent h (vs, r, is) = report_line held limits a b first second text vs h r
-judged_line held limits a b first second text status.Others h (vs, r, is) = report_line held limits a b first second text vs h r
-judged_line held limits a b first second text _ h (vs, r, is) = absurd is
+pub judged_line : (held : Option Stored) (options : Options) (a b first second text : List ℕ) (s : Status) → HoldsBoth held a b first second → Judged options first second text s → IsTrueOf held a b text
+judged_line held options a b first second text status.BadClass h bad = bad_pair held a b first second text bad
+judged_line held options a b first second text status.AllEquivalent h (vs, r, is) = report_line held options a b first second text vs h r
+judged_line held options a b first second text status.Others h (vs, r, is) = report_line held options a b first second text vs h r
+judged_line held options a b first second text _ h (vs, r, is) = absurd is
 
 -- ---- a report on a certificate
 

@@ -1,15 +1,23 @@
 -- The command that was read from words.
-use Rattle.std.specs.Prelude.{ℕ, List, ◌∷◌, Option, Some, None, codes, option_map}
+use Rattle.std.specs.Prelude.{ℕ, Bool, List, ◌∷◌, Option, Some, None, codes, option_map}
 use Rattle.std.specs.Borrow.{Bor}
-use Rattle.pv_prove.specs.declared.table.AxiomSet.{AxiomSet}
+use Rattle.pv_report.specs.Options.{AxiomSet}
 use Rattle.pv_words.specs.Answers.{texts}
+use Rattle.pv_top.specs.declared.words.Mode.{Mode}
+use Rattle.pv_top.specs.declared.words.Mode.TheVariants.{Plain, Counted, Cert}
 use Rattle.pv_top.specs.declared.words.Command.{Command}
 use Rattle.pv_top.specs.declared.words.Command.TheVariants.{Validate, Check, Refute}
-use Rattle.pv_top.specs.Words.{IsCommand, IsLimit, IsSet}
+use Rattle.pv_top.specs.Words.{IsCommand, IsLimit, IsMode, IsSet}
+
+-- a mode by its name
+abbrev pub named_mode : Mode (Bor (List ℕ)) → Mode (List ℕ)
+named_mode Plain = Plain
+named_mode Counted = Counted
+named_mode (Cert name) = Cert name.now
 
 -- a command by its names
 abbrev pub named : Command (Bor (List ℕ)) → Command (List ℕ)
-named (Validate a b axioms rounds budget cert) = Validate a.now b.now axioms rounds budget (option_map (λ name. name.now) cert)
+named (Validate a b axioms rounds budget mode) = Validate a.now b.now axioms rounds budget (named_mode mode)
 named (Check a b cert) = Check a.now b.now cert.now
 named (Refute a b tries steps) = Refute a.now b.now tries steps
 
@@ -35,3 +43,8 @@ ReadsLimit least most default given None = (n : ℕ) → IsLimit least most defa
 abbrev pub ReadsSet : Option (Bor (List ℕ)) → Option AxiomSet → Type 0
 ReadsSet given (Some set) = IsSet (option_map (λ text. text.now) given) set
 ReadsSet given None = (set : AxiomSet) → IsSet (option_map (λ text. text.now) given) set → ⊥
+
+-- the mode by a flag and the value of an option, None where both are given
+abbrev pub ReadsMode : Bool → Option (Bor (List ℕ)) → Option (Mode (Bor (List ℕ))) → Type 0
+ReadsMode counted cert (Some mode) = IsMode counted (option_map (λ text. text.now) cert) (named_mode mode)
+ReadsMode counted cert None = (mode : Mode (List ℕ)) → IsMode counted (option_map (λ text. text.now) cert) mode → ⊥

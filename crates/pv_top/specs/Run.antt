@@ -12,6 +12,10 @@ use Rattle.pv_report.specs.Report.{Judged}
 use Rattle.pv_differences.specs.Refuted.{Refuted}
 use Rattle.pv_sections.specs.Certified.{IsCertificateFor}
 use Rattle.pv_sections.specs.Ruled.{Ruled}
+use Rattle.pv_report.specs.declared.verdict.Graphs.{Graphs}
+use Rattle.pv_report.specs.declared.verdict.Graphs.TheVariants.{Least, LeastOrCleared}
+use Rattle.pv_top.specs.declared.words.Mode.{Mode}
+use Rattle.pv_top.specs.declared.words.Mode.TheVariants.{Counted}
 use Rattle.pv_top.specs.declared.words.Command.{Command}
 use Rattle.pv_top.specs.declared.words.Command.TheVariants.{Validate, Check, Refute}
 use Rattle.pv_top.specs.Words.{fetches, names_of, placed_name, bad_words}
@@ -28,9 +32,14 @@ abbrev pub Says : Option (List ℕ) → Option (List ℕ) → List ℕ → Statu
 Says old new [] meant result rose = (result ≡ meant) × (new ≡ old)
 Says old new (b ∷ text) meant result rose = Puts old new (b ∷ text) meant result rose
 
+-- the graphs in which a search may find roots equal
+abbrev pub graphs_in : Mode (List ℕ) → Graphs
+graphs_in Counted = LeastOrCleared
+graphs_in mode = Least
+
 -- the text that a command answers to the bytes of its files, and the status that goes with it
 abbrev pub IsAnswer : Command (List ℕ) → List (List ℕ) → List ℕ → Status → Type 0
-IsAnswer (Validate a b axioms rounds budget cert) (x ∷ y ∷ []) text s = Judged (record { axioms = axioms; rounds = rounds; budget = budget }) x y text s
+IsAnswer (Validate a b axioms rounds budget mode) (x ∷ y ∷ []) text s = Judged (record { limits = record { axioms = axioms; rounds = rounds; budget = budget }; graphs = graphs_in mode }) x y text s
 IsAnswer (Check a b cert) (x ∷ y ∷ z ∷ []) text s = Ruled x y z text s
 IsAnswer (Refute a b tries steps) (x ∷ y ∷ []) text s = Refuted (record { tries = tries; steps = steps }) x y text s
 IsAnswer c contents text s = ⊥
@@ -110,7 +119,7 @@ CallsFor held (Some c) old new write_rose result = AskedFor held c old new write
 
 -- the bytes that a command places, by the bytes of its files
 abbrev pub IsPlaced : Command (List ℕ) → List (List ℕ) → List ℕ → Type 0
-IsPlaced (Validate a b axioms rounds budget cert) (x ∷ y ∷ []) bytes = IsCertificateFor (record { axioms = axioms; rounds = rounds; budget = budget }) x y bytes
+IsPlaced (Validate a b axioms rounds budget mode) (x ∷ y ∷ []) bytes = IsCertificateFor (record { axioms = axioms; rounds = rounds; budget = budget }) x y bytes
 IsPlaced c contents bytes = ⊥
 
 -- the name holds what the command places for what the store had under the names of its files, and nothing else changed

@@ -1,14 +1,16 @@
 -- The words that are a command, and what a command fetches and places.
-use Rattle.std.specs.Prelude.{◌≡◌, ℕ, List, [], ◌∷◌, Option, Some, None, map, codes}
+use Rattle.std.specs.Prelude.{◌≡◌, ℕ, Bool, true, false, List, [], ◌∷◌, Option, Some, None, map, codes}
 use Rattle.pv_class.specs.declared.class.TheConstants.{LONGEST_FILE}
-use Rattle.pv_prove.specs.declared.table.AxiomSet.{AxiomSet}
-use Rattle.pv_prove.specs.declared.table.AxiomSet.TheVariants.{Core, All}
+use Rattle.pv_report.specs.Options.{AxiomSet}
+use Rattle.pv_report.specs.Options.{Core, All}
 use Rattle.pv_report.specs.Lines.{line_text}
 use Rattle.pv_sections.specs.declared.certificate.TheConstants.{LONGEST_CERT}
 use Rattle.pv_words.specs.Words as words
 use Rattle.pv_words.specs.Words.{Give}
 use Rattle.pv_words.specs.Numbers.{IsNumber}
 use Rattle.pv_top.specs.declared.words.TheConstants.{DEFAULT_ROUNDS, MOST_ROUNDS, DEFAULT_BUDGET, MOST_BUDGET, DEFAULT_TRIES, MOST_TRIES, DEFAULT_STEPS, MOST_STEPS}
+use Rattle.pv_top.specs.declared.words.Mode.{Mode}
+use Rattle.pv_top.specs.declared.words.Mode.TheVariants.{Plain, Counted, Cert}
 use Rattle.pv_top.specs.declared.words.Command.{Command}
 use Rattle.pv_top.specs.declared.words.Command.TheVariants.{Validate, Check, Refute}
 
@@ -27,40 +29,50 @@ abbrev pub IsSet : Option (List ℕ) → AxiomSet → Type 0
 IsSet None set = set ≡ Core
 IsSet (Some text) set = text ≡ set_word set
 
--- `validate` has the options `--axioms`, `--rounds`, `--budget` and `--cert`, and two arguments
+-- `--counted` and `--cert` aren't both given
+abbrev pub IsMode : Bool → Option (List ℕ) → Mode (List ℕ) → Type 0
+IsMode false None mode = mode ≡ Plain
+IsMode true None mode = mode ≡ Counted
+IsMode false (Some name) mode = mode ≡ Cert name
+IsMode true (Some name) mode = ⊥
+
+-- `validate` has the flag `--counted`, the options `--axioms`, `--rounds`, `--budget` and `--cert`, and two arguments
 abbrev pub validate_words : words.Command
-validate_words = record { names = codes "axioms" ∷ codes "rounds" ∷ codes "budget" ∷ codes "cert" ∷ []; count = 2 }
+validate_words = record { flags = codes "counted" ∷ []; names = codes "axioms" ∷ codes "rounds" ∷ codes "budget" ∷ codes "cert" ∷ []; count = 2 }
 
 -- `check` has no options, and three arguments
 abbrev pub check_words : words.Command
-check_words = record { names = []; count = 3 }
+check_words = record { flags = []; names = []; count = 3 }
 
 -- `refute` has the options `--tries` and `--steps`, and two arguments
 abbrev pub refute_words : words.Command
-refute_words = record { names = codes "tries" ∷ codes "steps" ∷ []; count = 2 }
+refute_words = record { flags = []; names = codes "tries" ∷ codes "steps" ∷ []; count = 2 }
 
--- these words after `validate` give it these axioms and limits
-pub record GiveValidate (rest : List (List ℕ)) (a b : List ℕ) (axioms : AxiomSet) (rounds budget : ℕ) (cert : Option (List ℕ)) : Type 0 where
+-- these words after `validate` give it these axioms, limits and mode
+pub record GiveValidate (rest : List (List ℕ)) (a b : List ℕ) (axioms : AxiomSet) (rounds budget : ℕ) (mode : Mode (List ℕ)) : Type 0 where
+  pub counted_flag : Bool
   pub axioms_word : Option (List ℕ)
   pub rounds_word : Option (List ℕ)
   pub budget_word : Option (List ℕ)
-  pub given : Give validate_words rest (axioms_word ∷ rounds_word ∷ budget_word ∷ cert ∷ []) (a ∷ b ∷ [])
+  pub cert_word : Option (List ℕ)
+  pub given : Give validate_words rest (counted_flag ∷ []) (axioms_word ∷ rounds_word ∷ budget_word ∷ cert_word ∷ []) (a ∷ b ∷ [])
   pub axioms_are : IsSet axioms_word axioms
   pub rounds_are : IsLimit 0 MOST_ROUNDS DEFAULT_ROUNDS rounds_word rounds
   pub budget_is : IsLimit 1 MOST_BUDGET DEFAULT_BUDGET budget_word budget
+  pub mode_is : IsMode counted_flag cert_word mode
 
 -- these words after `refute` give it these limits
 pub record GiveRefute (rest : List (List ℕ)) (a b : List ℕ) (tries steps : ℕ) : Type 0 where
   pub tries_word : Option (List ℕ)
   pub steps_word : Option (List ℕ)
-  pub given : Give refute_words rest (tries_word ∷ steps_word ∷ []) (a ∷ b ∷ [])
+  pub given : Give refute_words rest [] (tries_word ∷ steps_word ∷ []) (a ∷ b ∷ [])
   pub tries_are : IsLimit 1 MOST_TRIES DEFAULT_TRIES tries_word tries
   pub steps_are : IsLimit 1 MOST_STEPS DEFAULT_STEPS steps_word steps
 
 -- the words are those of a command: its name, and what gives its options and arguments
 abbrev pub AreOf : List (List ℕ) → Command (List ℕ) → Type 0
-AreOf words (Validate a b axioms rounds budget cert) = (rest : List (List ℕ)) × (words ≡ codes "validate" ∷ rest) × GiveValidate rest a b axioms rounds budget cert
-AreOf words (Check a b cert) = (rest : List (List ℕ)) × (words ≡ codes "check" ∷ rest) × Give check_words rest [] (a ∷ b ∷ cert ∷ [])
+AreOf words (Validate a b axioms rounds budget mode) = (rest : List (List ℕ)) × (words ≡ codes "validate" ∷ rest) × GiveValidate rest a b axioms rounds budget mode
+AreOf words (Check a b cert) = (rest : List (List ℕ)) × (words ≡ codes "check" ∷ rest) × Give check_words rest [] [] (a ∷ b ∷ cert ∷ [])
 AreOf words (Refute a b tries steps) = (rest : List (List ℕ)) × (words ≡ codes "refute" ∷ rest) × GiveRefute rest a b tries steps
 
 -- the command that the words are, None where they are none
@@ -70,27 +82,32 @@ IsCommand words None = (c : Command (List ℕ)) → AreOf words c → ⊥
 
 -- what a command fetches, in its order: the names of files, and the most bytes that each may have
 abbrev pub fetches : Command (List ℕ) → List (List ℕ × ℕ)
-fetches (Validate a b axioms rounds budget cert) = (a, LONGEST_FILE) ∷ (b, LONGEST_FILE) ∷ []
+fetches (Validate a b axioms rounds budget mode) = (a, LONGEST_FILE) ∷ (b, LONGEST_FILE) ∷ []
 fetches (Check a b cert) = (a, LONGEST_FILE) ∷ (b, LONGEST_FILE) ∷ (cert, LONGEST_CERT) ∷ []
 fetches (Refute a b tries steps) = (a, LONGEST_FILE) ∷ (b, LONGEST_FILE) ∷ []
 
 abbrev pub names_of : Command (List ℕ) → List (List ℕ)
 names_of c = map (λ f. f.0) (fetches c)
 
+-- the name of the certificate
+abbrev pub cert_in : Mode (List ℕ) → Option (List ℕ)
+cert_in (Cert name) = Some name
+cert_in mode = None
+
 -- the name under which it places something
 abbrev pub placed_name : Command (List ℕ) → Option (List ℕ)
-placed_name (Validate a b axioms rounds budget cert) = cert
+placed_name (Validate a b axioms rounds budget mode) = cert_in mode
 placed_name (Check a b cert) = None
 placed_name (Refute a b tries steps) = None
 
 -- the two class files of whose methods a command speaks
 abbrev pub first_of : Command (List ℕ) → List ℕ
-first_of (Validate a b axioms rounds budget cert) = a
+first_of (Validate a b axioms rounds budget mode) = a
 first_of (Check a b cert) = a
 first_of (Refute a b tries steps) = a
 
 abbrev pub second_of : Command (List ℕ) → List ℕ
-second_of (Validate a b axioms rounds budget cert) = b
+second_of (Validate a b axioms rounds budget mode) = b
 second_of (Check a b cert) = b
 second_of (Refute a b tries steps) = b
 

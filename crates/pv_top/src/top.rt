@@ -7,6 +7,8 @@ ghost use Rattle.pv_base.specs.Stored.{AreBytes};
 ghost use Rattle.pv_base.specs.declared.outside.Asked.TheVariants.{Fetch, Place};
 ghost use Rattle.pv_words.specs.Answers.{texts};
 ghost use Rattle.pv_report.specs.Judging.{JudgesFetched};
+ghost use Rattle.pv_report.specs.Options.{in_least, options_of};
+ghost use Rattle.pv_report.specs.declared.verdict.Detail.TheVariants as Detail;
 ghost use Rattle.pv_top.specs.Words.{IsCommand, fetches, first_of, names_of, second_of};
 ghost use Rattle.pv_top.specs.Commands.{named};
 ghost use Rattle.pv_top.specs.Run.{Answered, CallsFor, Leaves, Says};
@@ -14,12 +16,11 @@ ghost use Rattle.pv_top.specs.Promise.{EachEquivalent};
 ghost use Rattle.pv_top.specs.Fetching.{AnswersFetched, Asks, AsksAll, AsksPlaced, ChangesAt, HoldAll, HoldsFetched, HoldsWanted, LeavesPlaced, PlaceFailed, PlacesFetched, PlacesIn, ReadFailed, SaysAfter, ShowsIn, content_of, named_as, wanted_names};
 ghost use Rattle.pv_top.specs.declared.words.Command as commands;
 
-use crate::words::{Command, command_of};
+use crate::words::{Command, Mode, command_of};
 use pv_base::{FileFault, Files, Gate, Sink};
 use pv_class::LONGEST_FILE;
 use pv_differences::{RunLimits, refute_all};
-use pv_prove::Limits;
-use pv_report::{Answer, Detail, Fetched, Status, judge};
+use pv_report::{Answer, Detail, Fetched, Graphs, Limits, Status, judge};
 use pv_sections::{LONGEST_CERT, Shown, rule, show};
 use pv_value::Memory;
 use std::alloc::Global;
@@ -48,9 +49,10 @@ pub(crate) struct Placed<'a> {
 
 /// Does what the words of a command line say, and answers how that went.
 ///
-/// `words` are the words after the program's name. `validate [--axioms core|all] [--rounds N] [--budget N] [--cert FILE] A B` fetches the class files A
-/// and B and says, in a line for each method of A, whether a search shows that its partner in B has the same meaning; with `--cert`
-/// it places under FILE, before that, the certificate of what is equivalent.
+/// `words` are the words after the program's name. `validate [--axioms core|all] [--rounds N] [--budget N] [--cert FILE | --counted] A B`
+/// fetches the class files A and B and says, in a line for each method of A, whether a search shows that its partner in B has the same
+/// meaning; with `--cert` it places under FILE, before that, the certificate of what is equivalent; with `--counted` it also searches
+/// in the graphs from which the tokens that end because of counted loops are cleared.
 /// `check A B CERT` fetches a certificate too, and says, in a line for each of its sections, whether
 /// the steps of the section show this of the two methods that it names. `refute [--tries N] [--steps N] A B` says, in a line for each
 /// method of A, whether runs of it and its partner end with different outcomes. The gate is passed before each step, and by a search
@@ -118,7 +120,7 @@ fn reply_to<'a, G: Gate>(
             axioms,
             rounds,
             budget,
-            cert,
+            mode,
             ..
         } => {
             let [first, second] = fetched else {
@@ -129,12 +131,17 @@ fn reply_to<'a, G: Gate>(
                 rounds,
                 budget,
             };
-            match cert {
-                Some(name) => show_in(alloc, gate, limits, name, first, second),
-                None => {
-                    let report = judge(alloc, gate, limits, Detail::Verdict, first, second)?;
-                    Ok(said(report.answer))
-                }
+            match mode {
+                Mode::Plain => judge_in(alloc, gate, limits, Graphs::Least, first, second),
+                Mode::Counted => judge_in(
+                    alloc,
+                    gate,
+                    limits,
+                    Graphs::LeastOrCleared,
+                    first,
+                    second,
+                ),
+                Mode::Cert(name) => show_in(alloc, gate, limits, name, first, second),
             }
         }
         Command::Check { .. } => {
@@ -166,6 +173,22 @@ fn said<'a>(answer: Answer) -> Reply<'a>
     }
 }
 
+// What is said of two class files by searches in these graphs.
+fn judge_in<'a, G: Gate>(
+    alloc: Global,
+    gate: &G,
+    limits: Limits,
+    graphs: Graphs,
+    first: &Fetched,
+    second: &Fetched,
+) -> Result<Reply<'a>, Memory>
+    ensures answer { IfOk result (λ reply. JudgesFetched (options_of limits (Detail.Verdict graphs)) first.now second.now reply.answer.text.items reply.answer.status) }
+    ensures placed { IfOk result (λ reply. reply.placed ≡ None) }
+{
+    let report = judge(alloc, gate, limits, Detail::Verdict(graphs), first, second)?;
+    Ok(said(report.answer))
+}
+
 // What is said of two class files, with the certificate that shows it under a name.
 fn show_in<'a, G: Gate>(
     alloc: Global,
@@ -175,7 +198,7 @@ fn show_in<'a, G: Gate>(
     first: &Fetched,
     second: &Fetched,
 ) -> Result<Reply<'a>, Memory>
-    ensures answer { IfOk result (λ reply. JudgesFetched limits first.now second.now reply.answer.text.items reply.answer.status) }
+    ensures answer { IfOk result (λ reply. JudgesFetched (in_least limits) first.now second.now reply.answer.text.items reply.answer.status) }
     ensures placed { IfOk result (λ reply. ShowsIn limits name.entry.now first.now second.now reply.answer.status (content_of reply.placed)) }
 {
     let Shown {

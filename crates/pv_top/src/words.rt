@@ -1,9 +1,9 @@
 //! The words of the command line.
 
 ghost use Rattle.std.specs.Prelude.{IfOk};
-ghost use Rattle.pv_top.specs.Commands.{IsRead, IsReadCheck, IsReadRefute, IsReadValidate, ReadsLimit, ReadsSet};
+ghost use Rattle.pv_top.specs.Commands.{IsRead, IsReadCheck, IsReadRefute, IsReadValidate, ReadsLimit, ReadsMode, ReadsSet};
 
-use pv_prove::AxiomSet;
+use pv_report::AxiomSet;
 use pv_value::Memory;
 use pv_words::{Shape, number_in, read_words};
 use std::alloc::Global;
@@ -32,18 +32,28 @@ pub const DEFAULT_STEPS: u32 = 10_000;
 /// The most steps that the words may allow. The least is 1.
 pub const MOST_STEPS: u32 = 100_000;
 
+/// How two class files are compared.
+#[derive(Clone, Copy, Debug)]
+pub enum Mode<N> {
+    /// By searches in least graphs alone.
+    Plain,
+    /// By searches in cleared graphs too, since loops that count up to a bound end.
+    Counted,
+    /// As `Plain`, and the certificate of what is equivalent is placed under this name.
+    Cert(N),
+}
+
 /// A command, by the names of its files.
 #[derive(Clone, Copy, Debug)]
 pub enum Command<N> {
-    /// Compare two class files, by searches with these axioms, of at most `rounds` rounds, each of at most `budget` matches, and
-    /// place the certificate of what is equivalent, where it has a name.
+    /// Compare two class files, by searches with these axioms, of at most `rounds` rounds, each of at most `budget` matches.
     Validate {
         first: N,
         second: N,
         axioms: AxiomSet,
         rounds: u32,
         budget: u32,
-        cert: Option<N>,
+        mode: Mode<N>,
     },
     /// Check a certificate for two class files.
     Check {
@@ -87,13 +97,15 @@ fn validate_of<'a>(alloc: Global, words: &'a [&'a str]) -> Result<Option<Command
     ensures { IfOk result (λ command. IsReadValidate words.now command) }
 {
     let shape = Shape {
+        flags: &["counted"],
         options: &["axioms", "rounds", "budget", "cert"],
         arguments: 2,
     };
     let Some(given) = read_words(alloc, &shape, words)? else {
         return Ok(None);
     };
-    let ([axioms, rounds, budget, cert], [first, second]) = (
+    let ([counted], [axioms, rounds, budget, cert], [first, second]) = (
+        given.flags.as_slice(),
         given.options.as_slice(),
         given.arguments.as_slice(),
     ) else {
@@ -108,13 +120,16 @@ fn validate_of<'a>(alloc: Global, words: &'a [&'a str]) -> Result<Option<Command
     let Some(budget) = limit(*budget, 1, MOST_BUDGET, DEFAULT_BUDGET) else {
         return Ok(None);
     };
+    let Some(mode) = mode_of(*counted, *cert) else {
+        return Ok(None);
+    };
     Ok(Some(Command::Validate {
         first: *first,
         second: *second,
         axioms,
         rounds,
         budget,
-        cert: *cert,
+        mode,
     }))
 }
 
@@ -123,6 +138,7 @@ fn check_of<'a>(alloc: Global, words: &'a [&'a str]) -> Result<Option<Command<&'
     ensures { IfOk result (λ command. IsReadCheck words.now command) }
 {
     let shape = Shape {
+        flags: &[],
         options: &[],
         arguments: 3,
     };
@@ -144,6 +160,7 @@ fn refute_of<'a>(alloc: Global, words: &'a [&'a str]) -> Result<Option<Command<&
     ensures { IfOk result (λ command. IsReadRefute words.now command) }
 {
     let shape = Shape {
+        flags: &[],
         options: &["tries", "steps"],
         arguments: 2,
     };
@@ -191,5 +208,17 @@ fn set_of(given: Option<&str>) -> Option<AxiomSet>
         Some(AxiomSet::All)
     } else {
         None
+    }
+}
+
+// The mode by whether `--counted` is given, and by the value of `--cert`; None, where both are given.
+fn mode_of<'a>(counted: bool, cert: Option<&'a str>) -> Option<Mode<&'a str>>
+    ensures { ReadsMode counted cert.entry result }
+{
+    match (counted, cert) {
+        (false, None) => Some(Mode::Plain),
+        (true, None) => Some(Mode::Counted),
+        (false, Some(name)) => Some(Mode::Cert(name)),
+        (true, Some(_)) => None,
     }
 }

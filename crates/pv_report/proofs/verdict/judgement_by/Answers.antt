@@ -1,40 +1,37 @@
-use Rattle.std.proofs.Common.{subst, sym, ◌∙◌}
-use Rattle.pv_alike.proofs.Cited.{least_within}
+use Rattle.std.proofs.Common.{◌≡◌, ◌⊎◌, inl, inr, subst, sym}
+use Rattle.pv_report.specs.declared.verdict.Verdict.TheVariants.{Equivalent}
+use Rattle.pv_report.specs.Options.{options_of}
+use Rattle.pv_report.specs.Verdicts.{FindsCleared}
 use Rattle.pv_report.specs.Judging.{IsVerdictBy}
-use Rattle.pv_report.proofs.Searched.{found_verdict, least_graph, one_verdict}
-use Rattle.pv_report.proofs.Showing.{no_steps, steps_by}
+use Rattle.pv_report.proofs.Searched.{cleared_verdict, found_verdict, in_cleared, not_cleared}
 use Rattle.pv_report.proofs.verdict.judgement_by.Goals as goal
+use Rattle.pv_report.proofs.verdict.judgement_by.Goals.{then-is_equivalent-via-then-is_equivalent, then-is_equivalent-via-else-is_equivalent+then-not-may_clear}
 
-pub find-requires-clause-least : goal.find-requires-clause-least
-find-requires-clause-least g c lifetimes lives = least_graph c.args.roots.now c.requires.least
-
-pub find-requires-clause-first : goal.find-requires-clause-first
-find-requires-clause-first g c lifetimes lives = (least_within c.requires.least.3.least).first
-
-pub find-requires-clause-second : goal.find-requires-clause-second
-find-requires-clause-second g c lifetimes lives = (least_within c.requires.least.3.least).second
-
-pub steps_of-requires-clause-first : goal.steps_of-requires-clause-first
-steps_of-requires-clause-first g c = (least_within c.requires.least.3.least).first
-
-pub steps_of-requires-clause-second : goal.steps_of-requires-clause-second
-steps_of-requires-clause-second g c = (least_within c.requires.least.3.least).second
-
-pub returns-then-first-second-clause-verdict : goal.returns-then-first-second-clause-verdict
-returns-then-first-second-clause-verdict g c =
+pub returns-then-is_equivalent-clause-verdict : goal.returns-then-is_equivalent-clause-verdict
+returns-then-is_equivalent-clause-verdict g c =
+    let limits = c.args.means.limits in
+    let d = c.args.means.detail in
     let l = c.args.roots.now in
-    one_verdict c.args.means.limits l c.in_ok-_endings._endings.items c.law_verdict.ensures.one_root (rw (c.graph.ensures, c.first-then-first-second.ensures) at c.in_ok-_endings.ensures)
-    (least_within c.requires.least.3.least).first (sym c.first.ensures ∙ c.if-first-second.true ∙ c.second.ensures)
+    let v = c.in_ok-found.found.verdict in
+    let less : (v ≡ Equivalent) ⊎ (FindsCleared (options_of limits d).graphs limits l → ⊥) = elim c.then-is_equivalent.branch [
+      | then-is_equivalent-via-then-is_equivalent w ↦ inl (c.is_equivalent.ensures.0 w.if-is_equivalent.true)
+      | then-is_equivalent-via-else-is_equivalent+then-not-may_clear w ↦ inr (not_cleared limits l d (λ e. absurd (let may = w.may_clear.ensures.1 e in cc (may, w.if-not-may_clear.true))))
+    ] in
+    found_verdict limits d l v c.in_ok-found.ensures.verdict less
 
-pub returns-then-first-second-clause-steps : goal.returns-then-first-second-clause-steps
-returns-then-first-second-clause-steps g c =
-    no_steps c.args.means.detail c.args.roots.now c.no_steps.result (sym c.first.ensures ∙ c.if-first-second.true ∙ c.second.ensures) c.no_steps.ensures
+pub returns-then-branch-clause-verdict : goal.returns-then-branch-clause-verdict
+returns-then-branch-clause-verdict g c =
+    let limits = c.args.means.limits in
+    let d = c.args.means.detail in
+    let l = c.args.roots.now in
+    let both = c.may_clear.ensures.0 c.if-not-may_clear.false in
+    subst (IsVerdictBy (options_of limits d) l) (sym c.bare.ensures.verdict) (cleared_verdict limits d l both (c.in_ok-finds_cleared.ensures.finds.0 c.if-branch.true) (c.in_ok-finds_cleared.ensures.same c.if-branch.true))
 
 pub returns-clause-verdict : goal.returns-clause-verdict
 returns-clause-verdict g c =
+    let limits = c.args.means.limits in
+    let d = c.args.means.detail in
     let l = c.args.roots.now in
-    subst (IsVerdictBy c.args.means.limits l) (sym c.said_of.ensures) (found_verdict c.args.means.limits l c.in_ok-found.found.outcome c.in_ok-found.ensures.verdict c.in_ok-found.ensures.same)
-
-pub returns-clause-steps : goal.returns-clause-steps
-returns-clause-steps g c =
-    steps_by c.args.means.detail c.args.roots.now c.in_ok-found.found.outcome c.said_of.result c.in_ok-steps.steps c.said_of.ensures c.in_ok-steps.ensures
+    let both = c.may_clear.ensures.0 c.if-not-may_clear.false in
+    found_verdict limits d l c.in_ok-found.found.verdict c.in_ok-found.ensures.verdict
+    (inr (λ found. absurd (let equal = c.in_ok-finds_cleared.ensures.finds.1 (in_cleared limits l d both found) in cc (equal, c.if-branch.false))))

@@ -10,7 +10,7 @@ use Rattle.pv_class.specs.declared.file.ClassFile.{ClassFile}
 use Rattle.pv_class.specs.Items.{MemberInfo}
 use Rattle.pv_class.specs.ClassFiles.{IsMethod}
 use Rattle.pv_frame.specs.Answers.{HasCode}
-use Rattle.cases_search.specs.Methods.{IsRead, OwnsCode}
+use Rattle.cases_methods.specs.Methods.{IsRead, OwnsCode}
 
 method_at : (methods : List Method) (place : ℕ) → place < length methods → (m : Method) × (slice_get methods place ≡ Some m)
 method_at [] place lt = absurd (omega (arith, lt))

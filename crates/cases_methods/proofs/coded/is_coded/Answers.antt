@@ -1,6 +1,6 @@
 use Rattle.std.proofs.Common.{◌<◌, length, rules}
-use Rattle.cases_search.proofs.Placed.{code_there}
-use Rattle.cases_search.proofs.methods.is_coded.Goals as goal
+use Rattle.cases_methods.proofs.Placed.{code_there}
+use Rattle.cases_methods.proofs.coded.is_coded.Goals as goal
 
 pub returns-then-place-as_slice : goal.returns-then-place-as_slice
 returns-then-place-as_slice c has =

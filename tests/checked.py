@@ -14,8 +14,8 @@ must be those of the second checker.
     tests/checked.py [--changes N] [--seed N] A.class B.class            two class files
     tests/checked.py [--changes N] [--seed N] --random CLASSES METHODS   random methods as in tests/mutants.py, each written otherwise and changed
 
-N is how many changed sections there are of each section, 5 if left out. The program is the one that `cd crates/punthizha && rt run` leaves, or
-the one that the environment variable PUNTHIZHA names.
+N is how many changed sections there are of each section, 5 if left out. With --all the searches go by all axioms, and else by the core. The
+program is the one that `cd crates/punthizha && rt run` leaves, or the one that the environment variable PUNTHIZHA names.
 """
 
 import argparse
@@ -45,8 +45,8 @@ class Section:
 class Pair:
     """Two class files, and the certificate that the program writes for them."""
 
-    def __init__(self, name, one, other, cert):
-        self.name, self.one, self.other, self.cert = name, one, other, cert
+    def __init__(self, name, one, other, cert, axioms):
+        self.name, self.one, self.other, self.cert, self.axioms = name, one, other, cert, axioms
         self.faults, self.files = [], []
         for path in (one, other):
             with open(path, "rb") as file:
@@ -60,7 +60,7 @@ class Pair:
         """The sections of the certificate, where it is the one for the report."""
         if os.path.exists(self.cert):
             os.remove(self.cert)
-        out, status, *_ = called("validate", "--cert", self.cert, self.one, self.other)
+        out, status, *_ = called("validate", "--axioms", self.axioms, "--cert", self.cert, self.one, self.other)
         if status not in (0, 1):
             self.fault(f"status {status}")
             return []
@@ -169,6 +169,7 @@ def main():
     parser = argparse.ArgumentParser(description=__doc__, formatter_class=argparse.RawDescriptionHelpFormatter)
     parser.add_argument("--changes", type=int, default=5)
     parser.add_argument("--seed", type=int, default=1)
+    parser.add_argument("--all", action="store_true")
     parser.add_argument("--same", action="store_true")
     parser.add_argument("--random", type=int, nargs=2)
     parser.add_argument("files", nargs="*")
@@ -184,7 +185,7 @@ def main():
         else:
             pairs = pairs_of(args.files, work, args.same)
         for name, one, other in pairs:
-            counts.add(Pair(name, one, other, os.path.join(work, "cert")), rand, args.changes)
+            counts.add(Pair(name, one, other, os.path.join(work, "cert"), "all" if args.all else "core"), rand, args.changes)
     counts.show(time.time() - began)
     return counts.wrong
 

@@ -11,10 +11,11 @@ each javac that the environment variable JAVACS names, separated by colons; java
 and by another compiler is one run. With --same the pairs are each class of the JARs and itself.
 
 With --cert each run places a certificate, which a second run of the program checks: it must say `equivalent` of the same methods in the
-same order. The steps of its sections are counted. With --all the searches go by all axioms, and else by the core.
+same order. The steps of its sections are counted. With --all the searches go by all axioms, and else by the core. With --counted counted
+loops are known to end.
 
-    tests/pairs.py [--cert] [--all] [--same] JAR..
-    tests/pairs.py [--cert] [--all] --compilers FOLDER..
+    tests/pairs.py [--cert | --counted] [--all] [--same] JAR..
+    tests/pairs.py [--cert | --counted] [--all] --compilers FOLDER..
 """
 
 import os
@@ -101,11 +102,13 @@ def check(one, other, cert, out):
     return (None if said == wanted and status == 0 else "other lines"), steps
 
 
-def run(pair, axioms, certified):
+def run(pair, options):
     """What the program says of two files, without places; with the seconds and the kilobytes that it took, and with the certificate."""
     name, one, other = pair
-    cert = other + ".cert"
-    out, status, used, memory = called("validate", "--axioms", axioms, *(["--cert", cert] if certified else []), one, other)
+    cert, certified = other + ".cert", "--cert" in options
+    axioms = "all" if "--all" in options else "core"
+    mode = ["--cert", cert] if certified else ["--counted"] if "--counted" in options else []
+    out, status, used, memory = called("validate", "--axioms", axioms, *mode, one, other)
     words = Counter(" ".join(line.split(" ")[2:]).split(" at ")[0] for line in out.splitlines())
     fault, steps = check(one, other, cert, out) if certified and status in (0, 1) else (None, [])
     return name, fault or status, used, memory, words, steps
@@ -177,7 +180,7 @@ def main():
     with tempfile.TemporaryDirectory() as work:
         pairs = pairs_of_sources(jars, work) if "--compilers" in options else pairs_of(jars, work, "--same" in options)
         with ThreadPoolExecutor(2) as pool:
-            answers = list(pool.map(lambda pair: run(pair, "all" if "--all" in options else "core", "--cert" in options), pairs))
+            answers = list(pool.map(lambda pair: run(pair, options), pairs))
     wrong = [it for it in answers if it[1] not in (0, 1)]
     for name, status, *_ in wrong[:20]:
         print("FAILED ", status, name)

@@ -7,7 +7,7 @@ change the bound. What the loops compute is used at the end, or isn't. For rando
 ends (`machine`) and what the value of the root of its cleared graph is (`cleared-root`): where the run ends, the two must be the
 same. It counts the methods in which some loop is counted, and the values of runs that hadn't ended.
 
-    tests/counted.py [SEED [METHODS [ARGUMENTS]]]      by default 1, 1000 methods, 10 lists of arguments each
+    tests/counted.py [SEED [METHODS [ARGUMENTS [STEPS]]]]      by default 1, 1000 methods, 10 lists of arguments each, 300 steps, and as much fuel
 """
 
 import os
@@ -18,9 +18,9 @@ from concurrent.futures import ThreadPoolExecutor
 
 TOP = os.path.dirname(os.path.dirname(os.path.abspath(__file__)))
 PROGRAM = os.path.join(TOP, "crates", "cases", "out", "cases")
-STEPS, FUEL = 600, 600
-# A value takes time that grows with the product of iterations and slots, so some methods are left out.
-SECONDS = 5
+# A value takes time that grows with the product of iterations and slots, so some methods are left out. Methods are asked of in groups, and
+# those of a group that takes longer one after another.
+SECONDS, GROUP = 5, 50
 
 LOAD, STORE, PUSH, INCREASE, RETURN = 0x15, 0x36, 0x11, 0x84, 0xAC
 AT_LEAST, LESS, JUMP = 0xA2, 0xA1, 0xA7
@@ -112,28 +112,39 @@ def argument(r):
     return r.choice([0, 1, -1, 2**31 - 1, -(2**31), *(r.randrange(-3, 15) for _ in range(6))])
 
 
-def answers(name, method, lists):
-    """The counted nodes of a method, how each run of it ends and what the value of its cleared root is, or None where that takes too long."""
-    given = f"make {name} {method}\ncounted ${name} 0 ${name} 0\n"
-    given += "".join(f"machine {STEPS} {args}; {method}\ncleared-root {FUEL} {args}; {method}\n" for args in lists)
+def lines(name, method, lists, steps):
+    """What is asked of a method: its counted nodes, and of each list of arguments how the run ends and what the value of the cleared root is."""
+    asked = [f"make {name} {method}", f"counted ${name} 0 ${name} 0"]
+    for args in lists:
+        asked += [f"machine {steps} {args}; {method}", f"cleared-root {steps} {args}; {method}"]
+    return asked
+
+
+def answers(group):
+    """The answers on the methods of a group, None for one whose values take too long."""
+    asked = [lines(*it) for it in group]
     try:
+        given = "".join(f"{line}\n" for it in asked for line in it)
         ran = subprocess.run([PROGRAM], input=given, capture_output=True, text=True, timeout=SECONDS)
     except subprocess.TimeoutExpired:
-        return None
-    found = ran.stdout.splitlines()[1:]
-    return found[0], list(zip(found[1::2], found[2::2]))
+        return [None] if len(group) == 1 else [answers([it])[0] for it in group]
+    said = iter(ran.stdout.splitlines())
+    found = [[next(said) for _ in it] for it in asked]
+    return [(it[1], list(zip(it[2::2], it[3::2]))) for it in found]
 
 
 def main():
     given = [int(word) for word in sys.argv[1:]]
-    seed, count, arguments = given + [1, 1000, 10][len(given):]
+    seed, count, arguments, steps = given + [1, 1000, 10, 300][len(given):]
     if not os.access(PROGRAM, os.X_OK):
         sys.exit("no program: run 'cd crates/cases && rt run < stdin' first")
     r = random.Random(seed)
     methods = [Method(r).text() for _ in range(count)]
     lists = [[f"{argument(r)} {argument(r)}" for _ in range(arguments)] for _ in methods]
+    named = [(f"m{k}", method, args, steps) for k, (method, args) in enumerate(zip(methods, lists))]
     with ThreadPoolExecutor(max_workers=3) as pool:
-        found = list(pool.map(answers, [f"m{k}" for k in range(count)], methods, lists))
+        groups = [named[k:k + GROUP] for k in range(0, count, GROUP)]
+        found = [it for answered in pool.map(answers, groups) for it in answered]
     left = sum(1 for it in found if it is None)
     counted = sum(1 for it in found if it is not None and it[0] != "[]")
     rows = [(m, a, pair) for m, args, it in zip(methods, lists, found) if it is not None for a, pair in zip(args, it[1])]

@@ -1,5 +1,5 @@
 -- The pairs of an induction: what is stated of them outside its block, inside it, and after it.
-use Rattle.std.specs.Prelude.{◌≡◌, ℕ, zero, suc, ◌+◌, ◌<◌, ◌≤◌, true, List, [], ◌∷◌, ◌++◌, length, Some, slice_get, take}
+use Rattle.std.specs.Prelude.{◌≡◌, ℕ, zero, suc, ◌+◌, ◌<◌, ◌≤◌, true, List, [], ◌∷◌, ◌++◌, length, Some, slice_get, take, Option}
 use Rattle.std.specs.List.{AllZip, Contains}
 use Rattle.std.proofs.Common.{inl, inr, refl, sym, ap, ◌∙◌, subst, arith, length-append}
 use Rattle.std.proofs.Math.ListN.{get_or}
@@ -41,6 +41,8 @@ use Rattle.pv_explain.specs.Iterations.{AreBegun, AreLinesOf, BlockStands, Ends,
 use Rattle.pv_explain.proofs.Copying.{sort_of, source_later}
 use Rattle.pv_explain.proofs.Linking.{at_index, linked_by}
 use Rattle.pv_explain.proofs.Congruent.{level_goes}
+use Rattle.pv_explain.specs.Named.{IsReady}
+use Rattle.pv_explain.proofs.Naming.{inside_named, pair_named}
 use Rattle.pv_explain.proofs.Following.{stated_goes}
 use Rattle.pv_explain.proofs.Placing.{front_there, graph_sorts}
 use Rattle.pv_explain.proofs.Inductions.{close_right, closed_pair, closes_blocks, opened_pair, opens_blocks}
@@ -196,6 +198,7 @@ module _ (nodes : List Node) (Given : ℕ → List ℕ → ℕ → ℕ → Type 
 pub block_begin : (w : Written) (s : Source) (level : Level) (b : Block) → BlockStands w s level b → (pair : ℕ × ℕ) → Contains (pairs_of b) pair → MayBegin s level (depth_of b) pair
 block_begin w s level b h pair c =
     let step = block_steps s.graph.now.nodes (IsGiven s.graph.now h.assumed) h.ctx h.before b h.ground pair.0 pair.1 c in
+    let named = pair_named (IsReady s) b pair h.named c in
     record {
       p = step.p;
       q = step.q;
@@ -205,6 +208,8 @@ block_begin w s level b h pair c =
       right = step.second;
       linked = linked_by (length s.graph.now.nodes) level h.before step.p step.r h.place.ends (kid_low s.graph.now h.place.source.made pair.0 (depth_of b) step.p step.q step.first).0
           (kid_low s.graph.now h.place.source.made pair.1 (depth_of b) step.r step.s step.second).0 step.starts;
+      left_copy = named.0 (slice_get_within s.graph.now.nodes pair.0 (node_of (op.Theta (depth_of b)) (step.p ∷ step.q ∷ [])) step.first);
+      right_copy = named.1 (slice_get_within s.graph.now.nodes pair.1 (node_of (op.Theta (depth_of b)) (step.r ∷ step.s ∷ [])) step.second);
     }
 
 -- no open block has its depth
@@ -226,7 +231,7 @@ place_goes old new s level assumed ctx before goes h = record {
 }
 
 pub block_goes : (old new : Written) (s : Source) (level : Level) (b : Block) → GoesOn old new → BlockStands old s level b → BlockStands new s level b
-block_goes old new s level b goes h = record { assumed = h.assumed; ctx = h.ctx; before = h.before; place = place_goes old new s level h.assumed h.ctx h.before goes h.place; ground = h.ground }
+block_goes old new s level b goes h = record { assumed = h.assumed; ctx = h.ctx; before = h.before; place = place_goes old new s level h.assumed h.ctx h.before goes h.place; ground = h.ground; named = h.named }
 
 -- ---- it is opened
 
@@ -273,7 +278,7 @@ inside_fact old new d begun h f a b k =
     let there = shows_goes old new (inside old) f a b h.later k in
     record { around = there.around; stated = there.stated; visible = subst (AreOpen there.around) (sym h.blocks_) (inr there.visible) }
 
-inside_stated : (old new : Written) (d : ℕ) (begun : List Begun) (map : List ℕ) (lines : List Line) → Opens old new d begun → AreStated old map lines → AreStated new map lines
+inside_stated : (old new : Written) (d : ℕ) (begun : List Begun) (map : List (Option ℕ)) (lines : List Line) → Opens old new d begun → AreStated old map lines → AreStated new map lines
 inside_stated old new d begun map lines opens h j l e = let k = h j l e in record { left = k.left; right = k.right; known = inside_fact old new d begun opens l.fact l.left l.right k.known }
 
 -- the level inside
@@ -311,6 +316,7 @@ inner_stand old new s level inner b begun known h opens stated have is = record 
   before = h.before;
   place = inner_place old new s level inner b begun known h opens stated have is;
   grounds = block_joins s.graph.now.nodes (IsGiven s.graph.now h.assumed) h.ctx h.before b h.ground;
+  named = inside_named (IsReady s) b h.named;
 }
 
 -- the lines of its pairs are known inside, so its joins have their grounds there

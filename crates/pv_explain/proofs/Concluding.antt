@@ -26,6 +26,7 @@ use Rattle.pv_explain.specs.declared.level.Level.{Level}
 use Rattle.pv_explain.specs.Copying.{HasBase}
 use Rattle.pv_explain.specs.Sections.{IsGiven, IsGrounded, IsGrown}
 use Rattle.pv_explain.specs.Lines.{IsSource, AreStated, sides}
+use Rattle.pv_explain.specs.Named.{AreReady}
 use Rattle.pv_explain.specs.Levels.{ends_of, HasAll, IsOutside, JoinsStand, GrowsAt, HasLast}
 
 -- ---- the copies
@@ -44,8 +45,8 @@ has_base w least g e grown same = record {
 -- ---- the first place
 
 pub first_place : (w : Written) (s : Source) (level : Level) (bs : List Block) (joins : List Join) → IsSource w s → IsOutside w s.graph.now → level.forest.nodes ≡ length s.graph.now.nodes → level.forest.ends ≡ [] → level.lines.items ≡ [] → level.known.items ≡ []
-    → JoinsGround s.graph.now.nodes (IsGiven s.graph.now (assumed_in (inside w))) [] [] bs joins → JoinsStand w s level bs joins
-first_place w s level bs joins source outside nodes ends lines known grounds = record {
+    → JoinsGround s.graph.now.nodes (IsGiven s.graph.now (assumed_in (inside w))) [] [] bs joins → AreReady s bs joins → JoinsStand w s level bs joins
+first_place w s level bs joins source outside nodes ends lines known grounds named = record {
   assumed = assumed_in (inside w);
   ctx = [];
   before = [];
@@ -62,6 +63,7 @@ first_place w s level bs joins source outside nodes ends lines known grounds = r
     pairs_sort = tt;
   };
   grounds = grounds;
+  named = named;
 }
   where
     none_stated : (ls : List Line) → ls ≡ [] → AreStated w s.map.now ls

@@ -1,5 +1,5 @@
 -- The copies of two nodes of one operation, over kids that lines link.
-use Rattle.std.specs.Prelude.{◌≡◌, ℕ, zero, suc, ◌+◌, ◌<◌, ◌≤◌, List, [], ◌∷◌, ◌++◌, length, Some, slice_get, take}
+use Rattle.std.specs.Prelude.{◌≡◌, ℕ, zero, suc, ◌+◌, ◌<◌, ◌≤◌, List, [], ◌∷◌, ◌++◌, length, Some, slice_get, take, Option}
 use Rattle.std.specs.List.{AllZip}
 use Rattle.std.proofs.Math.ListN.{get_or}
 use Rattle.std.proofs.Math.Seq.{take-suc}
@@ -22,7 +22,7 @@ use Rattle.pv_explain.proofs.Following.{gives_goes, stated_goes}
 
 -- ---- reasons of kids, one by one
 
-all_copies_goes : (old new : Written) (map : List ℕ) (rs : List Reason) (ks ls : List ℕ) → GoesOn old new → GiveAllCopies old map rs ks ls → GiveAllCopies new map rs ks ls
+all_copies_goes : (old new : Written) (map : List (Option ℕ)) (rs : List Reason) (ks ls : List ℕ) → GoesOn old new → GiveAllCopies old map rs ks ls → GiveAllCopies new map rs ks ls
 all_copies_goes old new map [] [] [] goes h = tt
 all_copies_goes old new map [] [] (l ∷ ls) goes h = absurd h
 all_copies_goes old new map [] (k ∷ ks) ls goes h = absurd h
@@ -30,7 +30,7 @@ all_copies_goes old new map (r ∷ rs) [] ls goes h = absurd h
 all_copies_goes old new map (r ∷ rs) (k ∷ ks) [] goes h = absurd h
 all_copies_goes old new map (r ∷ rs) (k ∷ ks) (l ∷ ls) goes h = (λ m n c d. gives_goes old new r m n goes (h.0 m n c d), all_copies_goes old new map rs ks ls goes h.1)
 
-all_copies_more : (w : Written) (map : List ℕ) (rs : List Reason) (ks ls : List ℕ) (r : Reason) (k l : ℕ) → GiveAllCopies w map rs ks ls → GivesCopies w map r k l → GiveAllCopies w map (rs ++ r ∷ []) (ks ++ k ∷ []) (ls ++ l ∷ [])
+all_copies_more : (w : Written) (map : List (Option ℕ)) (rs : List Reason) (ks ls : List ℕ) (r : Reason) (k l : ℕ) → GiveAllCopies w map rs ks ls → GivesCopies w map r k l → GiveAllCopies w map (rs ++ r ∷ []) (ks ++ k ∷ []) (ls ++ l ∷ [])
 all_copies_more w map [] [] [] r k l h g = (g, tt)
 all_copies_more w map [] [] (j ∷ ls) r k l h g = absurd h
 all_copies_more w map [] (i ∷ ks) ls r k l h g = absurd h
@@ -38,7 +38,7 @@ all_copies_more w map (q ∷ rs) [] ls r k l h g = absurd h
 all_copies_more w map (q ∷ rs) (i ∷ ks) [] r k l h g = absurd h
 all_copies_more w map (q ∷ rs) (i ∷ ks) (j ∷ ls) r k l h g = (h.0, all_copies_more w map rs ks ls r k l h.1 g)
 
-pub all_copies_next : (old new : Written) (map : List ℕ) (rs more : List Reason) (ks ls : List ℕ) (i : ℕ) (r : Reason) → i < length ks → i < length ls → GoesOn old new → more ≡ rs ++ r ∷ [] → GiveAllCopies old map rs (take i ks) (take i ls)
+pub all_copies_next : (old new : Written) (map : List (Option ℕ)) (rs more : List Reason) (ks ls : List ℕ) (i : ℕ) (r : Reason) → i < length ks → i < length ls → GoesOn old new → more ≡ rs ++ r ∷ [] → GiveAllCopies old map rs (take i ks) (take i ls)
     → GivesCopies new map r (get_or ks i 0) (get_or ls i 0) → GiveAllCopies new map more (take (i + 1) ks) (take (i + 1) ls)
 all_copies_next old new map rs more ks ls i r p q goes e h g =
     subst (λ (xs : List Reason). GiveAllCopies new map xs (take (i + 1) ks) (take (i + 1) ls)) (sym e)
@@ -63,7 +63,7 @@ zip_same R [] (y ∷ ys) h = absurd h
 zip_same R (x ∷ xs) [] h = absurd h
 zip_same R (x ∷ xs) (y ∷ ys) h = ap suc (zip_same R xs ys h.1)
 
-pub all_copies_whole : (w : Written) (map : List ℕ) (rs : List Reason) (ks ls : List ℕ) (i : ℕ) (R : ℕ → ℕ → Type 0) → AllZip R ks ls → length ks ≤ i → GiveAllCopies w map rs (take i ks) (take i ls) → GiveAllCopies w map rs ks ls
+pub all_copies_whole : (w : Written) (map : List (Option ℕ)) (rs : List Reason) (ks ls : List ℕ) (i : ℕ) (R : ℕ → ℕ → Type 0) → AllZip R ks ls → length ks ≤ i → GiveAllCopies w map rs (take i ks) (take i ls) → GiveAllCopies w map rs ks ls
 all_copies_whole w map rs ks ls i R zip low h =
     let same = zip_same R ks ls zip in
     subst (λ (xs : List ℕ). GiveAllCopies w map rs xs ls) (take_all i ks low)
@@ -71,7 +71,7 @@ all_copies_whole w map rs ks ls i R zip low h =
 
 -- ---- the copies of two nodes are congruent
 
-give_all : (w : Written) (map : List ℕ) (rs : List Reason) (ks ls ms ns : List ℕ) → AllZip (IsCopied map) ks ms → AllZip (IsCopied map) ls ns → GiveAllCopies w map rs ks ls → GiveAll w.before (inside w) [] rs ms ns
+give_all : (w : Written) (map : List (Option ℕ)) (rs : List Reason) (ks ls ms ns : List ℕ) → AllZip (IsCopied map) ks ms → AllZip (IsCopied map) ls ns → GiveAllCopies w map rs ks ls → GiveAll w.before (inside w) [] rs ms ns
 give_all w map [] [] [] [] [] h i g = tt
 give_all w map [] [] [] [] (n ∷ ns) h i g = absurd i
 give_all w map [] [] [] (m ∷ ms) ns h i g = absurd h
@@ -84,7 +84,7 @@ give_all w map (r ∷ rs) (k ∷ ks) (l ∷ ls) (m ∷ ms) [] h i g = absurd i
 give_all w map (r ∷ rs) (k ∷ ks) (l ∷ ls) (m ∷ ms) (n ∷ ns) h i g = (g.0 m n h.0 i.0, give_all w map rs ks ls ms ns h.1 i.1 g.1)
 
 -- the copy of an operation over kids
-pub copy_at : (w : Written) (g : Graph) (map : List ℕ) → AreCopies g w.graph map → (a x : ℕ) (o : Op) (ks : List ℕ) → IsCopied map a x → slice_get g.nodes a ≡ Some (node_of o ks) → (ms : List ℕ) × AllZip (IsCopied map) ks ms × IsAt w x o ms
+pub copy_at : (w : Written) (g : Graph) (map : List (Option ℕ)) → AreCopies g w.graph map → (a x : ℕ) (o : Op) (ks : List ℕ) → IsCopied map a x → slice_get g.nodes a ≡ Some (node_of o ks) → (ms : List ℕ) × AllZip (IsCopied map) ks ms × IsAt w x o ms
 copy_at w g map copies a x o ks h e =
     let c = copies.each a x h in
     let same : c.node ≡ node_of o ks = same_Some _ _ (sym c.node_is ∙ e) in (

@@ -61,9 +61,9 @@ zip_parts R [] zs ys h = record { left = []; right = ys; are = refl; lefts = tt;
 zip_parts R (x ∷ xs) zs [] h = absurd h
 zip_parts R (x ∷ xs) zs (y ∷ ys) h = let r = zip_parts R xs zs ys h.1 in record { left = y ∷ r.left; right = r.right; are = ap (λ (q : List _). y ∷ q) r.are; lefts = (h.0, r.lefts); rights = r.rights }
 
-module _ (from to : Graph) (map : List ℕ) (copies : AreCopies from to map) where
+module _ (from to : Graph) (map : List (Option ℕ)) (copies : AreCopies from to map) where
   copied_once : (k m n : ℕ) → IsCopied map k m → IsCopied map k n → m ≡ n
-  copied_once k m n h i = same_Some _ _ (sym h ∙ i)
+  copied_once k m n h i = same_Some m n (same_Some (Some m) (Some n) (sym h ∙ i))
 
   -- the copy of an operation over kids
   form_copied : (k m : ℕ) (o : Op) (ks : List ℕ) → IsCopied map k m → form_at from.nodes k ≡ Some (form o ks) → (ms : List ℕ) × AllZip (IsCopied map) ks ms × (form_at to.nodes m ≡ Some (form o ms))

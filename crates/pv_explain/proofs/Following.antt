@@ -1,5 +1,5 @@
 -- The lines on a path, one after the other.
-use Rattle.std.specs.Prelude.{◌≡◌, ℕ, zero, suc, ◌+◌, ◌<◌, List, [], ◌∷◌, ◌++◌, length, Some, slice_get, take, drop}
+use Rattle.std.specs.Prelude.{◌≡◌, ℕ, zero, suc, ◌+◌, ◌<◌, List, [], ◌∷◌, ◌++◌, length, Some, slice_get, take, drop, Option}
 use Rattle.std.proofs.Math.ListN.{get_or}
 use Rattle.std.proofs.Math.Seq.{drop-cons, take-suc}
 use Rattle.std.proofs.Common.{refl, sym, ap, ◌∙◌, subst, arith}
@@ -19,13 +19,13 @@ use Rattle.pv_explain.specs.Lines.{AreStated, AreFacts, sides, LineOf, ReachBy, 
 
 -- ---- lines stay
 
-pub stated_goes : (old new : Written) (map : List ℕ) (lines : List Line) → GoesOn old new → AreStated old map lines → AreStated new map lines
+pub stated_goes : (old new : Written) (map : List (Option ℕ)) (lines : List Line) → GoesOn old new → AreStated old map lines → AreStated new map lines
 stated_goes old new map lines goes h j l e = let s = h j l e in record { left = s.left; right = s.right; known = fact_goes old new l.fact l.left l.right goes s.known }
 
 pub facts_goes : (old new : Written) (lines : List Line) → GoesOn old new → AreFacts old lines → AreFacts new lines
 facts_goes old new lines goes h j l e = fact_goes old new l.fact l.left l.right goes (h j l e)
 
-pub stated_facts : (w : Written) (map : List ℕ) (lines : List Line) → AreStated w map lines → AreFacts w lines
+pub stated_facts : (w : Written) (map : List (Option ℕ)) (lines : List Line) → AreStated w map lines → AreFacts w lines
 stated_facts w map lines h j l e = (h j l e).known
 
 pub gives_goes : (old new : Written) (r : Reason) (a b : ℕ) → GoesOn old new → Gives old.before (inside old) [] r a b → Gives new.before (inside new) [] r a b
@@ -74,19 +74,19 @@ side_line [] j a b e = absurd (cc)
 side_line (l ∷ lines) zero a b e = let z = same_Some (l.first, l.second) (a, b) e in (l, refl, ap (λ (p : ℕ × ℕ). p.0) z, ap (λ (p : ℕ × ℕ). p.1) z)
 side_line (l ∷ lines) (suc j) a b e = side_line lines j a b e
 
-pub copied_one : (map : List ℕ) (k m n : ℕ) → IsCopied map k m → IsCopied map k n → m ≡ n
-copied_one map k m n h i = same_Some _ _ (sym h ∙ i)
+pub copied_one : (map : List (Option ℕ)) (k m n : ℕ) → IsCopied map k m → IsCopied map k n → m ≡ n
+copied_one map k m n h i = same_Some m n (same_Some (Some m) (Some n) (sym h ∙ i))
 
-line_copies : (w : Written) (map : List ℕ) (lines : List Line) → AreStated w map lines → (j a b : ℕ) → slice_get (sides lines) j ≡ Some (a, b) → (l : Line) × (slice_get lines j ≡ Some l) × IsCopied map a l.left × IsCopied map b l.right
+line_copies : (w : Written) (map : List (Option ℕ)) (lines : List Line) → AreStated w map lines → (j a b : ℕ) → slice_get (sides lines) j ≡ Some (a, b) → (l : Line) × (slice_get lines j ≡ Some l) × IsCopied map a l.left × IsCopied map b l.right
 line_copies w map lines stated j a b e =
     let l = side_line lines j a b e in let s = stated j l.0 l.1 in
     (l.0, l.1, subst (λ (n : ℕ). IsCopied map n l.0.left) l.2 s.left, subst (λ (n : ℕ). IsCopied map n l.0.right) l.3 s.right)
 
-way_line : (w : Written) (map : List ℕ) (lines : List Line) (before : ℕ) → AreStated w map lines → (v : Way) (a b : ℕ) → Crosses (sides lines) before v a b → (x y : ℕ) × IsCopied map a x × IsCopied map b y × LineOf lines v x y
+way_line : (w : Written) (map : List (Option ℕ)) (lines : List Line) (before : ℕ) → AreStated w map lines → (v : Way) (a b : ℕ) → Crosses (sides lines) before v a b → (x y : ℕ) × IsCopied map a x × IsCopied map b y × LineOf lines v x y
 way_line w map lines before stated (Forth j) a b h = let c = line_copies w map lines stated j a b h.1 in (c.0.left, c.0.right, c.2, c.3, (c.0, c.1, refl, refl))
 way_line w map lines before stated (Back j) a b h = let c = line_copies w map lines stated j b a h.1 in (c.0.right, c.0.left, c.3, c.2, (c.0, c.1, refl, refl))
 
-pub leads_reach : (w : Written) (map : List ℕ) (lines : List Line) (before : ℕ) → AreStated w map lines → (ws : List Way) (a b x : ℕ) → Leads (sides lines) before ws a b → IsCopied map a x → (y : ℕ) × ReachBy lines ws x y × IsCopied map b y
+pub leads_reach : (w : Written) (map : List (Option ℕ)) (lines : List Line) (before : ℕ) → AreStated w map lines → (ws : List Way) (a b x : ℕ) → Leads (sides lines) before ws a b → IsCopied map a x → (y : ℕ) × ReachBy lines ws x y × IsCopied map b y
 leads_reach w map lines before stated [] a b x h c = (x, refl, subst (λ (n : ℕ). IsCopied map n x) h c)
 leads_reach w map lines before stated (v ∷ ws) a b x h c =
     let l = way_line w map lines before stated v a h.0 h.1 in
@@ -95,7 +95,7 @@ leads_reach w map lines before stated (v ∷ ws) a b x h c =
     (r.0, (l.1, subst (λ (n : ℕ). LineOf lines v n l.1) e l.4, r.1), r.2)
 
 -- what is reached from the copy of k is the copy of l
-pub gives_copies : (old new : Written) (map : List ℕ) (lines : List Line) (before : ℕ) → AreStated old map lines → (ws : List Way) (k l x : ℕ) (r : Reached) → Leads (sides lines) before ws k l → IsCopied map k x → ReachBy lines ws x r.node → IsReached new x r
+pub gives_copies : (old new : Written) (map : List (Option ℕ)) (lines : List Line) (before : ℕ) → AreStated old map lines → (ws : List Way) (k l x : ℕ) (r : Reached) → Leads (sides lines) before ws k l → IsCopied map k x → ReachBy lines ws x r.node → IsReached new x r
     → GivesCopies new map r.why k l
 gives_copies old new map lines before stated ws k l x r leads c reach why m n h i =
     let z = leads_reach old map lines before stated ws k l x leads c in

@@ -21,10 +21,10 @@ use Rattle.pv_writer.proofs.Pushing.{fact_goes}
 use Rattle.pv_explain.specs.declared.source.Source.{Source}
 use Rattle.pv_explain.specs.declared.follow.Equal.{Equal}
 use Rattle.pv_explain.specs.declared.iteration.Unrolled.{Unrolled}
-use Rattle.pv_explain.specs.Copies.{IsCopied}
+use Rattle.pv_explain.specs.Copies.{IsCopied, HasCopy}
 use Rattle.pv_explain.specs.Lines.{IsSource}
 use Rattle.pv_explain.specs.Iterations.{AreKids, IsTheta, IsThetaAt, IsZero, IsStart, IsNext, IsUnrolled}
-use Rattle.pv_explain.proofs.Copying.{sort_of}
+use Rattle.pv_explain.proofs.Copying.{kids_copied, sort_of}
 use Rattle.pv_explain.proofs.Following.{copied_one}
 use Rattle.pv_explain.proofs.Congruent.{copy_at}
 use Rattle.pv_explain.proofs.Inductions.{first_instance, next_instance}
@@ -68,7 +68,7 @@ zero_later old new z later h = record { is = later.nodes z (node_of op.Zero []) 
 
 -- ---- a theta
 
-two_copies : (map : List ℕ) (p q a b : ℕ) (ms : List ℕ) → AllZip (IsCopied map) (p ∷ q ∷ []) ms → IsCopied map p a → IsCopied map q b → ms ≡ a ∷ b ∷ []
+two_copies : (map : List (Option ℕ)) (p q a b : ℕ) (ms : List ℕ) → AllZip (IsCopied map) (p ∷ q ∷ []) ms → IsCopied map p a → IsCopied map q b → ms ≡ a ∷ b ∷ []
 two_copies map p q a b [] z h k = absurd z
 two_copies map p q a b (m ∷ []) z h k = absurd z.1
 two_copies map p q a b (m ∷ n ∷ []) z h k = ap (λ (i : ℕ). i ∷ n ∷ []) (copied_one map p m a z.0 h) ∙ ap (λ (i : ℕ). a ∷ i ∷ []) (copied_one map q n b z.1.0 k)
@@ -136,6 +136,10 @@ two_same xs ys p q d e f = e ∙ ap (λ (zs : List ℕ). get_or zs 0 d ∷ get_o
 -- its kids are nodes
 pub kid_low : (g : Graph) → IsGraph g → (n d p q : ℕ) → Is g.nodes n (op.Theta d) (p ∷ q ∷ []) → (p < length g.nodes) × (q < length g.nodes)
 kid_low g made n d p q is = (kid_within g made n p (node_of (op.Theta d) (p ∷ q ∷ [])) is (inl refl), kid_within g made n q (node_of (op.Theta d) (p ∷ q ∷ [])) is (inr (inl refl)))
+
+-- its kids have copies, where it has one
+pub theta_copies : (w : Written) (s : Source) (n d p q : ℕ) → IsSource w s → Is s.graph.now.nodes n (op.Theta d) (p ∷ q ∷ []) → HasCopy s.map.now n → HasCopy s.map.now p × HasCopy s.map.now q
+theta_copies w s n d p q source is h = let z = kids_copied s.graph.now w.graph s.map.now source.copies n (node_of (op.Theta d) (p ∷ q ∷ [])) is h in (z.0, z.1.0)
 
 -- ---- the two axioms, stated
 

@@ -8,23 +8,27 @@ mod Following
 mod Congruent
 -- 5. What joins link, their lines link.
 mod Linking
--- 6. The place where a join is explained, and the next one.
+-- 6. What holds of the nodes that joins and blocks name.
+mod Naming
+-- 7. The place where a join is explained, and the next one.
 mod Placing
--- 7. What the steps of an induction rest on, and what is visible in its block and after it.
+-- 8. What the steps of an induction rest on, and what is visible in its block and after it.
 mod Inductions
--- 8. Thetas at iteration 0, and one iteration later.
+-- 9. Thetas at iteration 0, and one iteration later.
 mod Iterating
--- 9. The pairs of an induction: what is stated of them outside its block, inside it, and after it.
+-- 10. The pairs of an induction: what is stated of them outside its block, inside it, and after it.
 mod Beginning
--- 10. The joins that are needed: marks on the joins of paths, and what rests on marked joins.
+-- 11. The joins that are needed: marks on the joins of paths, and what rests on marked joins.
 mod Marking
 mod Marked
--- 11. The whole section.
+-- 12. The nodes that are needed: those that are named, and all below them.
+mod NodeMarks
+-- 13. The whole section.
 mod Concluding
--- 12. Reasons for pairs of nodes.
+-- 14. Reasons for pairs of nodes.
 mod Pairing
--- 13. Ending blocks.
+-- 15. Ending blocks.
 mod EndingBlocks
--- 14. More axioms keep the grounds of joins; what other crates cite.
+-- 16. More axioms keep the grounds of joins; what other crates cite.
 mod Giving
 pub mod Cited

@@ -25,7 +25,8 @@ use Rattle.pv_explain.specs.declared.source.Search.{Search}
 use Rattle.pv_explain.specs.Sections.{IsGiven, IsGrounded}
 use Rattle.pv_explain.specs.Levels.{ends_of}
 use Rattle.pv_explain.specs.Pairs.{HasLinkedPairs}
-use Rattle.pv_explain.specs.Needed.{AreMarkedOn, AreNodesOf, IsForestOf, IsMarked, LinkedByMarked, LinkedPairsByMarked, MarksMore, LinkedBefore, LinkedPairsBefore, RestsOnMarked, StayGrounded, StayLinked, if_marked, marked}
+use Rattle.pv_explain.specs.Needed.{AreMarkedOn, AreNodesOf, IsForestOf, LinkedByMarked, LinkedPairsByMarked, LinkedBefore, LinkedPairsBefore, RestsOnMarked, StayGrounded, StayLinked, if_marked, marked}
+use Rattle.pv_explain.specs.Marks.{IsMarked, MarksMore}
 use Rattle.pv_explain.proofs.Linking.{linked_path}
 
 -- ---- the marked joins
@@ -152,7 +153,7 @@ ground_at nodes Given ctx before bs (k ∷ joins) zero j (JoinsGround.next _ _ _
 ground_at nodes Given ctx before bs (k ∷ joins) (suc i) j (JoinsGround.next _ _ _ _ _ g h) e =
     subst (λ (b : List Join). JoinGround nodes Given ctx b bs j) (append_assoc before (k ∷ []) (take i joins)) (ground_at nodes Given ctx (before ++ k ∷ []) bs joins i j h e)
 
-join_at : (s : Search) (assumed : List ℕ) (i : ℕ) (j : Join) → IsGrounded s assumed → slice_get s.joins.now i ≡ Some j → JoinGround s.graph.now.nodes (IsGiven s.graph.now assumed) [] (take i s.joins.now) s.blocks.now j
+pub join_at : (s : Search) (assumed : List ℕ) (i : ℕ) (j : Join) → IsGrounded s assumed → slice_get s.joins.now i ≡ Some j → JoinGround s.graph.now.nodes (IsGiven s.graph.now assumed) [] (take i s.joins.now) s.blocks.now j
 join_at s assumed i j g e = ground_at s.graph.now.nodes (IsGiven s.graph.now assumed) [] [] s.blocks.now s.joins.now i j g e
 
 -- the nodes of a join that has its ground are nodes

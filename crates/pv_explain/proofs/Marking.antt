@@ -7,7 +7,8 @@ use Rattle.std.proofs.lemmas.Option.{get_or_from_slice_get, slice_get_within}
 use Rattle.pv_paths.specs.declared.forest.Way.{Way}
 use Rattle.pv_paths.specs.Paths.{Joined, Leads, join_of}
 use Rattle.pv_paths.specs.declared.forest.Way.TheVariants.{Forth, Back}
-use Rattle.pv_explain.specs.Needed.{AreBefore, IsMarked, LinkedByMarked, MarksMore}
+use Rattle.pv_explain.specs.Needed.{AreBefore, LinkedByMarked}
+use Rattle.pv_explain.specs.Marks.{IsMarked, MarksMore}
 
 -- ---- marks
 

@@ -1,5 +1,5 @@
 -- Reasons for pairs of nodes, one after the other.
-use Rattle.std.specs.Prelude.{◌≡◌, ℕ, zero, suc, ◌+◌, ◌<◌, List, [], ◌∷◌, ◌++◌, length, take}
+use Rattle.std.specs.Prelude.{◌≡◌, ℕ, zero, suc, ◌+◌, ◌<◌, List, [], ◌∷◌, ◌++◌, length, take, Option}
 use Rattle.std.specs.List.{AllByRecursion}
 use denote.Bor.{Bor}
 use Rattle.std.proofs.Common.{sym, ap, ◌∙◌, subst, arith}
@@ -25,7 +25,7 @@ all_at P (x ∷ xs) zero d h low = h.0
 all_at P (x ∷ xs) (suc i) d h low = all_at P xs i d h.1 (omega (arith, low))
 
 -- the lines of all joins link the pairs that the search joined
-pub links_pairs : (s : Search) (map : Bor (List ℕ)) (level : Level) (pairs : List (ℕ × ℕ)) → IsGraph s.graph.now → sides level.lines.items ≡ ends_of s.joins.now → HasLinkedPairs s pairs → LinksPairs (record { graph = s.graph; map = map }) level pairs
+pub links_pairs : (s : Search) (map : Bor (List (Option ℕ))) (level : Level) (pairs : List (ℕ × ℕ)) → IsGraph s.graph.now → sides level.lines.items ≡ ends_of s.joins.now → HasLinkedPairs s pairs → LinksPairs (record { graph = s.graph; map = map }) level pairs
 links_pairs s map level [] made ends h = tt
 links_pairs s map level (p ∷ pairs) made ends h =
     let low = made.base in

@@ -6,7 +6,7 @@ use Rattle.std.proofs.Common.{inl, inr, refl, sym, ap, ◌∙◌, subst, arith, 
 use Rattle.std.proofs.Math.ListN.{get_or}
 use Rattle.std.proofs.Math.Seq.{drop-cons, take-suc}
 use Rattle.std.proofs.lemmas.List.{append-nil}
-use Rattle.std.proofs.lemmas.Option.{get_or_from_slice_get, same_Some}
+use Rattle.std.proofs.lemmas.Option.{get_or_from_slice_get, same_Some, slice_get_within}
 use Rattle.std.proofs.lemmas.List.Elements.{Contains-push_cases}
 use Rattle.pv_graph.specs.declared.node.Op.{Op}
 use Rattle.pv_graph.specs.declared.node.Op.TheVariants as op
@@ -38,7 +38,9 @@ use Rattle.pv_explain.specs.Sections.{IsGiven}
 use Rattle.pv_explain.specs.Lines.{IsLevel, IsSource, AreKidsLinked, IsInstanceAt, IsStated, AreStated, IsLineOf, sides}
 use Rattle.pv_explain.specs.Levels.{AreLow, ends_of, IsFound, PairsOneSort, IsPlace, JoinStands, JoinsStand, LearnsAt, GrowsAt}
 use Rattle.pv_explain.specs.Iterations.{BlockStands}
-use Rattle.pv_explain.proofs.Copying.{copied_low, have_copies, source_later}
+use Rattle.pv_explain.specs.Named.{IsReady, OfJoin}
+use Rattle.pv_explain.proofs.Copying.{copied_low, source_later}
+use Rattle.pv_explain.proofs.Naming.{axiom_copies}
 use Rattle.pv_explain.proofs.Following.{stated_goes}
 use Rattle.pv_explain.proofs.Congruent.{level_goes}
 use Rattle.pv_explain.proofs.Linking.{all_linked_by, at_index, ends_more, sides_more, sides_next}
@@ -53,8 +55,8 @@ aside_depth fixed (op.Pass e) d h looks c = h (subst (Contains fixed) (sym (same
 aside_depth fixed (op.Shift e) d h looks c = h (subst (Contains fixed) (sym (same_Some e d looks)) c)
 aside_depth fixed o d h looks c = absurd (cc)
 
-kids_linked : (w : Written) (s : Source) (level : Level) (assumed : List ℕ) (ctx : Context) (before : List Join) (j : Join) → IsPlace w s level assumed ctx before → IsOfKids s.graph.now.nodes (depths ctx) before j → AreKidsLinked w s level j.first j.second
-kids_linked w s level assumed ctx before j place h =
+kids_linked : (w : Written) (s : Source) (level : Level) (assumed : List ℕ) (ctx : Context) (before : List Join) (j : Join) → IsPlace w s level assumed ctx before → OfJoin (IsReady s) j → IsOfKids s.graph.now.nodes (depths ctx) before j → AreKidsLinked w s level j.first j.second
+kids_linked w s level assumed ctx before j place named h =
     let low = λ (n : ℕ) (ks : List ℕ) (is : slice_get s.graph.now.nodes n ≡ Some (node_of h.o ks)) (k : ℕ) (m : In ks k). kid_within s.graph.now place.source.made n k (node_of h.o ks) is m in
     record {
       o = h.o;
@@ -64,6 +66,8 @@ kids_linked w s level assumed ctx before j place h =
       right_is = h.second;
       linked = all_linked_by (length s.graph.now.nodes) level before h.ks h.ls place.ends (low j.first h.ks h.first) (low j.second h.ls h.second) h.kids;
       fresh = λ d looks. place.open_ d (aside_depth (depths ctx) h.o d h.outside looks);
+      first = named.first (slice_get_within s.graph.now.nodes j.first (node_of h.o h.ks) h.first);
+      second = named.second (slice_get_within s.graph.now.nodes j.second (node_of h.o h.ls) h.second);
     }
 
 pub join_kids : (w : Written) (s : Source) (level : Level) (bs : List Block) (j : Join) → JoinStands w s level bs j → j.why ≡ reason.Kids → AreKidsLinked w s level j.first j.second
@@ -71,19 +75,20 @@ join_kids w s level bs j h e = by h.ctx h.before h.place h.ground
   where
     by : (ctx : Context) (before : List Join) → IsPlace w s level h.assumed ctx before → JoinGround s.graph.now.nodes (IsGiven s.graph.now h.assumed) ctx before bs j → AreKidsLinked w s level j.first j.second
     by ctx before place (JoinGround.by_axiom _ _ _ n ns why given) = absurd (let z = sym why ∙ e in cc)
-    by ctx before place (JoinGround.by_kids _ _ _ _ k) = kids_linked w s level h.assumed ctx before j place k
+    by ctx before place (JoinGround.by_kids _ _ _ _ k) = kids_linked w s level h.assumed ctx before j place h.named.join k
     by ctx before place (JoinGround.by_induction _ _ _ _ n b why at_n there g) = absurd (let z = sym why ∙ e in cc)
     by ctx before place (JoinGround.by_pair d pairs outer _ _ _ i why at_i) = absurd (let z = sym why ∙ e in cc)
 
 -- ---- a join by an axiom
 
-given_at : (w : Written) (s : Source) (level : Level) (assumed : List ℕ) (ctx : Context) (before : List Join) (n : ℕ) (ns : List ℕ) (a b : ℕ) → IsPlace w s level assumed ctx before → IsGiven s.graph.now assumed n ns a b → IsInstanceAt w s n ns a b
-given_at w s level assumed ctx before n ns a b place given = record {
-  instance_ = subst (λ (es : List ℕ). Instance s.graph.now es n ns a b) (sym place.assumes) given.instance_;
+given_at : (w : Written) (s : Source) (level : Level) (assumed : List ℕ) (ctx : Context) (before : List Join) (n : ℕ) (ns : List ℕ) (j : Join) → IsPlace w s level assumed ctx before → OfJoin (IsReady s) j → j.why ≡ reason.Axiom n ns → IsGiven s.graph.now assumed n ns j.first j.second
+    → IsInstanceAt w s n ns j.first j.second
+given_at w s level assumed ctx before n ns j place named why given = record {
+  instance_ = subst (λ (es : List ℕ). Instance s.graph.now es n ns j.first j.second) (sym place.assumes) given.instance_;
   low = λ e m. place.low e (subst (λ (es : List ℕ). In es e) place.assumes m);
-  copies = have_copies s.map.now (length s.graph.now.nodes) place.source.full ns given.nodes_;
-  first = place.source.full a given.first;
-  second = place.source.full b given.second;
+  copies = axiom_copies s j n ns named why given.nodes_;
+  first = named.first given.first;
+  second = named.second given.second;
 }
 
 pub join_axiom : (w : Written) (s : Source) (level : Level) (bs : List Block) (j : Join) (n : ℕ) (ns list : List ℕ) → JoinStands w s level bs j → j.why ≡ reason.Axiom n ns → list ≡ ns → IsInstanceAt w s n list j.first j.second
@@ -94,7 +99,7 @@ join_axiom w s level bs j n ns list h e f = by h.ctx h.before h.place h.ground
         let z : reason.Axiom m ms ≡ reason.Axiom n ns = sym why ∙ e in
         let p : m ≡ n = cc in
         let q : ms ≡ list = let y : ms ≡ ns = cc in y ∙ sym f in
-        subst (λ (k : ℕ). IsInstanceAt w s k list j.first j.second) p (subst (λ (ks : List ℕ). IsInstanceAt w s m ks j.first j.second) q (given_at w s level h.assumed [] before m ms j.first j.second place given))
+        subst (λ (k : ℕ). IsInstanceAt w s k list j.first j.second) p (subst (λ (ks : List ℕ). IsInstanceAt w s m ks j.first j.second) q (given_at w s level h.assumed [] before m ms j place h.named.join why given))
     by ctx before place (JoinGround.by_kids _ _ _ _ k) = absurd (let z = sym k.why ∙ e in cc)
     by ctx before place (JoinGround.by_induction _ _ _ _ m b why at_m there g) = absurd (let z = sym why ∙ e in cc)
     by ctx before place (JoinGround.by_pair d pairs outer _ _ _ i why at_i) = absurd (let z = sym why ∙ e in cc)
@@ -117,7 +122,7 @@ join_block w s level bs j n h e = by h.ctx h.before h.place h.ground
     by ctx before place (JoinGround.by_induction _ _ _ _ m b why at_m there g) =
         let z : reason.Induction m ≡ reason.Induction n = sym why ∙ e in
         let p : m ≡ n = cc in
-        record { b = b; there = subst (λ (k : ℕ). slice_get bs k ≡ Some b) p at_m; pair = there; stands = record { assumed = h.assumed; ctx = ctx; before = before; place = place; ground = g } }
+        record { b = b; there = subst (λ (k : ℕ). slice_get bs k ≡ Some b) p at_m; pair = there; stands = record { assumed = h.assumed; ctx = ctx; before = before; place = place; ground = g; named = h.named.cited m b why at_m } }
     by ctx before place (JoinGround.by_pair d pairs outer _ _ _ i why at_i) = absurd (let z = sym why ∙ e in cc)
 
 -- each block is no greater than all
@@ -142,7 +147,7 @@ join_pair w s level bs j n h e = by h.ctx h.before h.place h.ground
     by ctx before place (JoinGround.by_pair d pairs outer _ _ _ i why at_i) = place.pairs j.first j.second (contains_at pairs (j.first, j.second) i at_i)
 
 -- a line that is found is one of its nodes
-pub found_line : (w : Written) (map : List ℕ) (lines : List Line) (a b : ℕ) (l : Line) → AreStated w map lines → IsFound lines a b l → IsLineOf w map a b l
+pub found_line : (w : Written) (map : List (Option ℕ)) (lines : List Line) (a b : ℕ) (l : Line) → AreStated w map lines → IsFound lines a b l → IsLineOf w map a b l
 found_line w map lines a b l stated f = record { first = f.first; second = f.second; stated = stated f.place l f.there }
 
 -- one of no nodes among the last lines, and one line more
@@ -190,7 +195,7 @@ join_sorts w s level assumed ctx before bs j place ground =
 one_sort_more : (sorts : List OpSort) (before : List Join) (j : Join) → JoinOneSort sorts before → HaveOneSort sorts j.first j.second → JoinOneSort sorts (before ++ j ∷ [])
 one_sort_more sorts before j one h k there = elim (Contains-push_cases before j k there) [ inl c ↦ one k c | inr e ↦ subst (λ (v : Join). HaveOneSort sorts v.first v.second) e h ]
 
-stated_more : (w : Written) (map : List ℕ) (lines : List Line) (l : Line) → AreStated w map lines → IsStated w map l → AreStated w map (lines ++ l ∷ [])
+stated_more : (w : Written) (map : List (Option ℕ)) (lines : List Line) (l : Line) → AreStated w map lines → IsStated w map l → AreStated w map (lines ++ l ∷ [])
 stated_more w map lines l h s j k e = elim (push_cases lines l k j e) [ inl f ↦ h j k f | inr f ↦ subst (IsStated w map) f.1 s ]
 
 -- a level with one line more
@@ -248,7 +253,7 @@ rest_grounds : (nodes : List Node) (Given : ℕ → List ℕ → ℕ → ℕ →
 rest_grounds nodes Given ctx before bs j joins (JoinsGround.next _ _ _ _ _ g h) = h
 
 pub first_stands : (w : Written) (s : Source) (level : Level) (bs : List Block) (j : Join) (joins : List Join) → JoinsStand w s level bs (j ∷ joins) → JoinStands w s level bs j
-first_stands w s level bs j joins h = record { assumed = h.assumed; ctx = h.ctx; before = h.before; place = h.place; ground = first_ground s.graph.now.nodes (IsGiven s.graph.now h.assumed) h.ctx h.before bs j joins h.grounds }
+first_stands w s level bs j joins h = record { assumed = h.assumed; ctx = h.ctx; before = h.before; place = h.place; ground = first_ground s.graph.now.nodes (IsGiven s.graph.now h.assumed) h.ctx h.before bs j joins h.grounds; named = h.named.0 }
 
 pub rest_stand : (old new : Written) (s : Source) (first then last : Level) (bs : List Block) (j : Join) (joins : List Join) (l : Line) → JoinsStand old s first bs (j ∷ joins) → GoesOn old new → LearnsAt new s first then → IsLineOf new s.map.now j.first j.second l
     → IsPushed then last l → JoinsStand new s last bs joins
@@ -259,6 +264,7 @@ rest_stand old new s first then last bs j joins l h goes learns line pushed = re
   place =
       next_place old new s first then last h.assumed h.ctx h.before bs j l h.place (first_ground s.graph.now.nodes (IsGiven s.graph.now h.assumed) h.ctx h.before bs j joins h.grounds) goes learns line pushed;
   grounds = rest_grounds s.graph.now.nodes (IsGiven s.graph.now h.assumed) h.ctx h.before bs j joins h.grounds;
+  named = h.named.1;
 }
 
 -- ---- all lines of a level
@@ -295,7 +301,7 @@ grows_next old new s first middle then last bs j joins done l h grows goes learn
 pub learns_none : (w : Written) (s : Source) (level : Level) → AreStated w s.map.now level.known.items → LearnsAt w s level level
 learns_none w s level h = record { forest_ = refl; lines = refl; more = []; known_ = sym (append-nil level.known.items); stated = h }
 
-both_stated : (w : Written) (map : List ℕ) (xs ys : List Line) → AreStated w map xs → AreStated w map ys → AreStated w map (xs ++ ys)
+both_stated : (w : Written) (map : List (Option ℕ)) (xs ys : List Line) → AreStated w map xs → AreStated w map ys → AreStated w map (xs ++ ys)
 both_stated w map [] ys h k j l e = k j l e
 both_stated w map (x ∷ xs) ys h k zero l e = h 0 l e
 both_stated w map (x ∷ xs) ys h k (suc j) l e = both_stated w map xs ys (λ i m f. h (suc i) m f) k j l e

@@ -19,9 +19,10 @@ use Rattle.pv_explain.specs.declared.follow.Line.{Line}
 use Rattle.pv_explain.specs.declared.level.Level.{Level}
 use Rattle.pv_explain.specs.declared.iteration.Unrolled.{Unrolled}
 use Rattle.pv_explain.specs.declared.induction.Begun.{Begun}
-use Rattle.pv_explain.specs.Copies.{IsCopied}
+use Rattle.pv_explain.specs.Copies.{IsCopied, HasCopy}
 use Rattle.pv_explain.specs.Sections.{IsGiven}
 use Rattle.pv_explain.specs.Lines.{LinkedBy}
+use Rattle.pv_explain.specs.Named.{OfBlock, IsReady}
 use Rattle.pv_explain.specs.Levels.{IsPlace}
 
 -- ---- one theta
@@ -76,7 +77,7 @@ pub record IsUnrolled (w : Written) (s : Source) (d z x : ℕ) (u : Unrolled) : 
 
 -- ---- the pairs of an induction
 
--- the two are thetas of depth d, whose first kids the lines of the level link
+-- the two are thetas of depth d that have copies, and whose first kids the lines of the level link
 pub record MayBegin (s : Source) (level : Level) (d : ℕ) (pair : ℕ × ℕ) : Type 0 where
   pub p : ℕ
   pub q : ℕ
@@ -85,6 +86,8 @@ pub record MayBegin (s : Source) (level : Level) (d : ℕ) (pair : ℕ × ℕ) :
   pub left : Is s.graph.now.nodes pair.0 (op.Theta d) (p ∷ q ∷ [])
   pub right : Is s.graph.now.nodes pair.1 (op.Theta d) (r ∷ s_ ∷ [])
   pub linked : LinkedBy (length s.graph.now.nodes) level p r
+  pub left_copy : HasCopy s.map.now pair.0
+  pub right_copy : HasCopy s.map.now pair.1
 
 -- what is stated of the two outside the induction; a fact outside, in the blocks `outer`, states that their copies are equal at iteration 0
 pub record IsBegun (w : Written) (outer : List OpenBlock) (s : Source) (d z : ℕ) (pair : ℕ × ℕ) (b : Begun) : Type 0 where
@@ -124,13 +127,14 @@ pub record AreLinesOf (step : ℕ) (begun : List Begun) (lines : List Line) : Ty
 
 -- ---- the block of an induction
 
--- the block has its ground at such a place
+-- the block has its ground at such a place, and what it names has copies
 pub record BlockStands (w : Written) (s : Source) (level : Level) (b : Block) : Type 0 where
   pub assumed : List ℕ
   pub ctx : Context
   pub before : List Join
   pub place : IsPlace w s level assumed ctx before
   pub ground : BlockGround s.graph.now.nodes (IsGiven s.graph.now assumed) ctx before b
+  pub named : OfBlock (IsReady s) b
 
 -- an induction at depth d over the copies of these pairs was opened
 pub record Opens (old new : Written) (d : ℕ) (begun : List Begun) : Type 0 where

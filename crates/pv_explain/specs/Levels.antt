@@ -17,6 +17,7 @@ use Rattle.pv_explain.specs.declared.follow.Line.{Line}
 use Rattle.pv_explain.specs.declared.level.Level.{Level}
 use Rattle.pv_explain.specs.Sections.{IsGiven}
 use Rattle.pv_explain.specs.Lines.{IsSource, IsLevel, AreStated, sides}
+use Rattle.pv_explain.specs.Named.{OfCited, IsReady, AreReady}
 
 -- the line is one of these, of a and b
 pub record IsFound (lines : List Line) (a b : ℕ) (l : Line) : Type 0 where
@@ -67,21 +68,23 @@ pub record IsOutside (w : Written) (g : Graph) : Type 0 where
   pub fresh : (d : ℕ) → IsFresh d (blocks (inside w))
   pub low : (e : ℕ) → In (assumed_in (inside w)) e → e < g.base
 
--- the join has its ground at such a place
+-- the join has its ground at such a place, and what it names has copies
 pub record JoinStands (w : Written) (s : Source) (level : Level) (blocks_ : List Block) (j : Join) : Type 0 where
   pub assumed : List ℕ
   pub ctx : Context
   pub before : List Join
   pub place : IsPlace w s level assumed ctx before
   pub ground : JoinGround s.graph.now.nodes (IsGiven s.graph.now assumed) ctx before blocks_ j
+  pub named : OfCited (IsReady s) blocks_ j
 
--- each of these joins has its ground at such a place, after those before it
+-- each of these joins has its ground at such a place, after those before it, and what it names has copies
 pub record JoinsStand (w : Written) (s : Source) (level : Level) (blocks_ : List Block) (joins : List Join) : Type 0 where
   pub assumed : List ℕ
   pub ctx : Context
   pub before : List Join
   pub place : IsPlace w s level assumed ctx before
   pub grounds : JoinsGround s.graph.now.nodes (IsGiven s.graph.now assumed) ctx before blocks_ joins
+  pub named : AreReady s blocks_ joins
 
 -- more is known at the level, and its lines stay
 pub record LearnsAt (w : Written) (s : Source) (old new : Level) : Type 0 where

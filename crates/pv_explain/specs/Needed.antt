@@ -1,5 +1,5 @@
--- Which joins of a search are needed: a mark for each join.
-use Rattle.std.specs.Prelude.{◌≡◌, ℕ, ◌<◌, ◌≤◌, Bool, true, false, List, [], ◌∷◌, length, Some, slice_get, take}
+-- Which joins of a search are needed: those that are marked.
+use Rattle.std.specs.Prelude.{◌≡◌, ℕ, ◌<◌, Bool, true, false, List, [], ◌∷◌, length, Some, slice_get, take}
 use Rattle.std.specs.List.{AllByRecursion, Contains}
 use Rattle.pv_paths.specs.declared.forest.Way.{Way}
 use Rattle.pv_paths.specs.Paths.{AreLinked, Joined, Leads, join_of}
@@ -8,18 +8,10 @@ use Rattle.pv_classes.specs.Linked.{Linked}
 use Rattle.pv_classes.specs.Grounds.{JoinGround, JoinsGround}
 use Rattle.pv_explain.specs.declared.source.Search.{Search}
 use Rattle.pv_explain.specs.Sections.{IsGiven, IsGrounded}
+use Rattle.pv_explain.specs.Marks.{IsMarked}
 use Rattle.pv_explain.specs.Levels.{ends_of}
 
--- ---- marks
-
-abbrev pub IsMarked : List Bool → ℕ → Type 0
-IsMarked needed i = slice_get needed i ≡ Some true
-
--- more joins before this number are marked, and no others
-pub record MarksMore (before : ℕ) (old new : List Bool) : Type 0 where
-  pub long : length new ≡ length old
-  pub stay : (k : ℕ) → IsMarked old k → IsMarked new k
-  pub rest : (k : ℕ) → before ≤ k → IsMarked new k → IsMarked old k
+-- ---- the marked joins
 
 -- the marked ones of these joins, in order
 abbrev pub marked : List Bool → List Join → List Join

@@ -11,12 +11,14 @@ ghost use Rattle.pv_explain.specs.Sections.{HasLinked, IsGrounded, IsGrown};
 ghost use Rattle.pv_explain.specs.Copying.{HasBase};
 ghost use Rattle.pv_explain.specs.Lines.{IsLevel, IsSource};
 ghost use Rattle.pv_explain.specs.Levels.{HasAll, HasLast, IsOutside};
+ghost use Rattle.pv_explain.specs.Named.{AreReady};
 ghost use Rattle.pv_explain.specs.Pairs.{GiveEach, HasLinkedPairs, LinksPairs};
 
 use crate::copy::copy_nodes;
 use crate::joins::state_joins;
 use crate::kids::kid_reason;
 use crate::level::Level;
+use crate::named::needed_nodes;
 use crate::needed::needed_joins;
 use crate::source::{Search, Source};
 use pv_graph::{Graph, NodeId};
@@ -55,6 +57,7 @@ fn state_all(
     requires graph { source.now.graph ≡ search.now.graph }
     requires outside { IsOutside writer.old search.now.graph.now }
     requires grounds { IsGrounded search.now (assumed_in (inside writer.old)) }
+    requires named { AreReady source.now search.now.blocks.now search.now.joins.now }
     ensures lines { IfOk result (λ level. HasAll writer.new source.now level search.now.joins.now) }
     ensures goes { IfOk result (λ level. GoesOn writer.old writer.new) }
 {
@@ -116,7 +119,8 @@ pub(crate) fn explain_all(
         blocks: search.blocks,
         joins: &joins,
     };
-    let map = copy_nodes(alloc, writer, search.graph, base)?;
+    let marks = needed_nodes(alloc, &needed, base)?;
+    let map = copy_nodes(alloc, writer, search.graph, base, &marks)?;
     let source = Source {
         graph: search.graph,
         map: &map,

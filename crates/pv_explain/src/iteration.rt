@@ -6,6 +6,7 @@ ghost use Rattle.pv_steps.specs.Steps.{assumed_in};
 ghost use Rattle.pv_steps.specs.Right.{Gives};
 ghost use Rattle.pv_axioms.specs.Entries.{Instance};
 ghost use Rattle.pv_writer.specs.Written.{GoesOn, HasNode, IsFact, States, inside};
+ghost use Rattle.pv_explain.specs.Copies.{HasCopy};
 ghost use Rattle.pv_explain.specs.Lines.{IsSource};
 ghost use Rattle.pv_explain.specs.Iterations.{AreKids, IsNext, IsStart, IsTheta, IsThetaAt, IsUnrolled, IsZero};
 
@@ -150,6 +151,7 @@ pub(crate) fn unroll(
 ) -> Result<Unrolled, Memory>
     requires source { IsSource writer.old source.now }
     requires theta { IsTheta source.now.graph.now.nodes depth theta }
+    requires copy { HasCopy source.now.map.now theta }
     requires zero { IsZero writer.old zero }
     ensures unrolled { IfOk result (λ u. IsUnrolled writer.new source.now depth zero theta u) }
     ensures goes { IfOk result (λ u. GoesOn writer.old writer.new) }

@@ -3,7 +3,8 @@
 ghost use Rattle.std.specs.Prelude.{◌≡◌, ℕ, ◌<◌, IfOk, length};
 ghost use Rattle.std.specs.List.{AllZip};
 ghost use Rattle.pv_writer.specs.Written.{GoesOn};
-ghost use Rattle.pv_explain.specs.Lines.{AreKidsLinked, GiveAllCopies, GivesCopies, IsLevel, IsLineOf, IsSource, LinkedBy};
+ghost use Rattle.pv_explain.specs.Copies.{HasCopy};
+ghost use Rattle.pv_explain.specs.Lines.{AreKidsLinked, GiveAllCopies, GivesCopies, HaveCopies, IsLevel, IsLineOf, IsSource, LinkedBy};
 
 use crate::copy::copy_of;
 use crate::follow::{Line, follow};
@@ -27,6 +28,7 @@ pub(crate) fn kid_reason(
     requires source { IsSource writer.old source.now }
     requires level { IsLevel writer.old source.now level.now }
     requires linked { LinkedBy (length source.now.graph.now.nodes) level.now k l }
+    requires copy { HasCopy source.now.map.now k }
     ensures reason { IfOk result (λ why. GivesCopies writer.new source.now.map.now why k l) }
     ensures goes { IfOk result (λ why. GoesOn writer.old writer.new) }
 {
@@ -47,6 +49,7 @@ fn kid_reasons(
     requires source { IsSource writer.old source.now }
     requires level { IsLevel writer.old source.now level.now }
     requires linked { AllZip (LinkedBy (length source.now.graph.now.nodes) level.now) lefts.now rights.now }
+    requires copies { HaveCopies source.now.map.now lefts.now }
     ensures reasons { IfOk result (λ reasons. GiveAllCopies writer.new source.now.map.now reasons.items lefts.now rights.now) }
     ensures goes { IfOk result (λ reasons. GoesOn writer.old writer.new) }
 {

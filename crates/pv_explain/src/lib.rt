@@ -4,13 +4,15 @@
 //! through joins, on `pv_endings` for the kids of a root and the nodes that it waits for, and on `pv_writer`, which takes right
 //! steps alone. The definition that it meets is `Derives` of `pv_steps`.
 //!
-//! A certificate has a graph of its own, into which the nodes of the search are copied (`copy_nodes`; `specs/Copies`).
+//! A certificate has a graph of its own, into which the nodes of the search that are needed are copied (`copy_nodes`; `specs/Copies`).
 //! For each join a line says by which fact the copies of its two nodes are equal (`specs/Lines`). A line is stated
 //! by an axiom, or by the kids, which earlier lines link. Lines on a path are put together by flips and chains. A level is the outside
-//! of all inductions, or the inside of one, with the lines of its joins (`specs/Levels`). `explain_all` copies the nodes of a search,
-//! states each join that is needed once, and gives a reason for each pair of nodes that is asked for (`specs/Pairs`). Which joins are
-//! needed is marked first, from the last one back (`needed_joins`; `specs/Needed`): those on the paths between the nodes of the pairs, and
-//! those on which a marked one rests. So the marked joins, in order, have their grounds without the others.
+//! of all inductions, or the inside of one, with the lines of its joins (`specs/Levels`). `explain_all` copies the nodes that are
+//! needed, states each join that is needed once, and gives a reason for each pair of nodes that is asked for (`specs/Pairs`). Which
+//! joins are needed is marked first, from the last one back (`needed_joins`; `specs/Needed`): those on the paths between the nodes of the
+//! pairs, and those on which a marked one rests. So the marked joins, in order, have their grounds without the others. Then the nodes
+//! are marked (`needed_nodes`; `specs/Named`): those that a marked join names, those that the block of its induction names, with all joins
+//! and blocks inside it, and, from the last node back, the kids of each marked one.
 //!
 //! A join by an induction cites a block. Outside the block each of its pairs is stated at iteration 0; inside it, where the
 //! pairs are known, its joins have lines of their own, and so has each pair one iteration later (`specs/Iterations`). The
@@ -32,6 +34,8 @@ mod iteration;
 mod joins;
 mod kids;
 mod level;
+mod marks;
+mod named;
 mod needed;
 mod source;
 

@@ -6,8 +6,10 @@ ghost use Rattle.pv_graph.specs.Graphs.{IsGraph};
 ghost use Rattle.pv_explain.specs.Sections.{IsGrounded};
 ghost use Rattle.pv_explain.specs.Levels.{ends_of};
 ghost use Rattle.pv_explain.specs.Pairs.{HasLinkedPairs};
-ghost use Rattle.pv_explain.specs.Needed.{AreBefore, AreMarkedOn, AreNodesOf, IsForestOf, IsMarked, LinkedBefore, LinkedByMarked, LinkedPairsBefore, LinkedPairsByMarked, MarksMore, RestsOnMarked, StayGrounded, StayLinked, if_marked, marked};
+ghost use Rattle.pv_explain.specs.Needed.{AreBefore, AreMarkedOn, AreNodesOf, IsForestOf, LinkedBefore, LinkedByMarked, LinkedPairsBefore, LinkedPairsByMarked, RestsOnMarked, StayGrounded, StayLinked, if_marked, marked};
+ghost use Rattle.pv_explain.specs.Marks.{IsMarked, MarksMore};
 
+use crate::marks::{is_marked, mark};
 use crate::source::Search;
 use pv_classes::{Join, Reason};
 use pv_graph::NodeId;
@@ -16,24 +18,6 @@ use pv_value::Memory;
 use std::alloc::Global;
 
 // ---- marks on paths
-
-// Whether a join is marked.
-fn is_marked(needed: &[bool], i: usize) -> bool
-    requires { i < length needed.now }
-    ensures { slice_get needed.now i ≡ Some result }
-{
-    needed[i]
-}
-
-// Marks a join, which comes before this number.
-fn mark(needed: &mut Vec<bool>, before: usize, join: usize)
-    requires few { before ≤ length needed.old.items }
-    requires join { join < before }
-    ensures more { MarksMore before needed.old.items needed.new.items }
-    ensures marked { IsMarked needed.new.items join }
-{
-    needed[join] = true;
-}
 
 // Marks the joins on a path, which come before this number.
 fn mark_path(needed: &mut Vec<bool>, before: usize, path: &[Way])

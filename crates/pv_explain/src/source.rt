@@ -11,9 +11,9 @@ pub struct Search<'a> {
     pub joins: &'a [Join],
 }
 
-/// A graph, and the copies of its nodes in the certificate's graph.
+/// A graph, and for each of its nodes the copy in the certificate's graph, if it has one.
 #[derive(Clone, Copy)]
 pub(crate) struct Source<'a> {
     pub(crate) graph: &'a Graph,
-    pub(crate) map: &'a [NodeId],
+    pub(crate) map: &'a [Option<NodeId>],
 }

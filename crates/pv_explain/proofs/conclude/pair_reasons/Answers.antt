@@ -29,3 +29,9 @@ loop-pair-preserved c =
 
 pub returns-clause-reasons : goal.returns-clause-reasons
 returns-clause-reasons c = subst (GiveEach c.loop-pair.writer c.loop-pair.reasons.items) (take_all c.loop-pair.pair-index c.args.pairs.now c.loop-pair-test.false) c.loop-pair.invariant.reasons
+
+pub kid_reason-requires-clause-copy : goal.kid_reason-requires-clause-copy
+kid_reason-requires-clause-copy c =
+    let links = all_at (LinksPair c.args.source.now c.args.level.now) c.args.pairs.now c.loop-pair.pair-index (0, 0) c.requires.linked c.loop-pair-test.true in
+    let p = get_or c.args.pairs.now c.loop-pair.pair-index (0, 0) in
+    (p.0, c.requires.source.copies.base_ p.0 links.first)

@@ -69,3 +69,12 @@ returns-clause-goes c =
     let shown = goes_trans c.kid_reason.new.writer c.equal_at_zero.new.writer c.meet.new.writer c.in_ok-fact.ensures.goes c.in_ok-start.ensures.goes in
     let later = goes_trans c.unroll-2.new.writer c.kid_reason.new.writer c.meet.new.writer c.in_ok-why.ensures.goes shown in
     goes_trans c.args.writer.now c.unroll.new.writer c.meet.new.writer c.in_ok-left.ensures.goes (goes_trans c.unroll.new.writer c.unroll-2.new.writer c.meet.new.writer c.in_ok-right.ensures.goes later)
+
+pub unroll-requires-clause-copy : goal.unroll-requires-clause-copy
+unroll-requires-clause-copy c = c.requires.pair.left_copy
+
+pub unroll-requires-2-clause-copy : goal.unroll-requires-2-clause-copy
+unroll-requires-2-clause-copy c = c.requires.pair.right_copy
+
+pub kid_reason-requires-clause-copy : goal.kid_reason-requires-clause-copy
+kid_reason-requires-clause-copy c = (c.in_ok-left.ensures.unrolled.a, c.in_ok-left.ensures.unrolled.first)

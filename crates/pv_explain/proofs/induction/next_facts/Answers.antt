@@ -19,3 +19,6 @@ returns-clause-facts c = (refl, c.in_ok-fact.ensures.fact)
 
 pub returns-clause-goes : goal.returns-clause-goes
 returns-clause-goes c = goes_trans c.args.writer.now c.kid_reason.new.writer c.meet.new.writer c.in_ok-why.ensures.goes c.in_ok-fact.ensures.goes
+
+pub kid_reason-requires-clause-copy : goal.kid_reason-requires-clause-copy
+kid_reason-requires-clause-copy c = (c.args.b.now.left.next.right, c.requires.pair.left)

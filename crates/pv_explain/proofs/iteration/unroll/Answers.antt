@@ -1,29 +1,25 @@
 use Rattle.pv_writer.proofs.Pushing.{goes_trans}
-use Rattle.std.proofs.lemmas.Option.{slice_get_within}
-use Rattle.std.proofs.Common.{◌∷◌, [], refl}
-use Rattle.pv_graph.specs.declared.node.Op.TheVariants as op
-use Rattle.pv_graph.specs.Nodes.{node_of}
-use Rattle.pv_explain.proofs.Iterating.{kid_low, start_goes, theta_at, theta_is, theta_later}
+use Rattle.std.proofs.Common.{refl}
+use Rattle.pv_explain.proofs.Iterating.{start_goes, theta_copies, theta_at, theta_is, theta_later}
 use Rattle.pv_explain.proofs.iteration.unroll.Goals as goal
 
 pub theta_kids-first-requires : goal.theta_kids-first-requires
 theta_kids-first-requires c = (c.args.depth, c.requires.theta)
 
 pub copy_of-copy-requires : goal.copy_of-copy-requires
-copy_of-copy-requires c =
-    let t = c.requires.theta in c.requires.source.full c.args.theta (slice_get_within c.args.source.now.graph.now.nodes c.args.theta (node_of (op.Theta c.args.depth) (t.0 ∷ t.1 ∷ [])) t.2)
+copy_of-copy-requires c = c.requires.copy
 
 pub copy_of-a-requires : goal.copy_of-a-requires
 copy_of-a-requires c =
     let k = c.theta_kids-first.result in
-    let g = c.args.source.now.graph.now in
-    c.requires.source.full k.0 (kid_low g c.requires.source.made c.args.theta c.args.depth k.0 k.1 (theta_is g.nodes c.args.theta c.args.depth k.0 k.1 c.requires.theta c.theta_kids-first.ensures)).0
+    let is = theta_is c.args.source.now.graph.now.nodes c.args.theta c.args.depth k.0 k.1 c.requires.theta c.theta_kids-first.ensures in
+    (theta_copies c.args.writer.now c.args.source.now c.args.theta c.args.depth k.0 k.1 c.requires.source is c.requires.copy).0
 
 pub copy_of-b-requires : goal.copy_of-b-requires
 copy_of-b-requires c =
     let k = c.theta_kids-first.result in
-    let g = c.args.source.now.graph.now in
-    c.requires.source.full k.1 (kid_low g c.requires.source.made c.args.theta c.args.depth k.0 k.1 (theta_is g.nodes c.args.theta c.args.depth k.0 k.1 c.requires.theta c.theta_kids-first.ensures)).1
+    let is = theta_is c.args.source.now.graph.now.nodes c.args.theta c.args.depth k.0 k.1 c.requires.theta c.theta_kids-first.ensures in
+    (theta_copies c.args.writer.now c.args.source.now c.args.theta c.args.depth k.0 k.1 c.requires.source is c.requires.copy).1
 
 pub start_of-requires-clause-theta : goal.start_of-requires-clause-theta
 start_of-requires-clause-theta c =

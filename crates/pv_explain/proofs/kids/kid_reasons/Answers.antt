@@ -1,7 +1,7 @@
 use Rattle.std.proofs.Common.{length}
 use Rattle.pv_writer.proofs.Pushing.{goes_trans}
 use Rattle.pv_explain.specs.Lines.{LinkedBy}
-use Rattle.pv_explain.proofs.Copying.{source_later}
+use Rattle.pv_explain.proofs.Copying.{copy_in, source_later}
 use Rattle.pv_explain.proofs.Congruent.{level_goes, all_copies_next, all_copies_whole, zip_get}
 use Rattle.pv_explain.proofs.kids.kid_reasons.Goals as goal
 
@@ -26,3 +26,6 @@ loop-i-preserved c = record {
 pub returns-clause-reasons : goal.returns-clause-reasons
 returns-clause-reasons c =
     all_copies_whole c.loop-i.writer c.args.source.now.map.now c.loop-i.reasons.items c.args.lefts.now c.args.rights.now c.loop-i.i (LinkedBy (length c.args.source.now.graph.now.nodes) c.args.level.now) c.requires.linked c.loop-i-test.false c.loop-i.invariant.reasons
+
+pub kid_reason-requires-clause-copy : goal.kid_reason-requires-clause-copy
+kid_reason-requires-clause-copy c = copy_in c.args.source.now.map.now c.args.lefts.now c.loop-i.i c.requires.copies c.loop-i-test.true

@@ -1,7 +1,8 @@
 use Rattle.std.specs.List.{AllZip}
 use Rattle.std.proofs.Common.{ℕ, List, length, refl, sym, subst}
 use Rattle.pv_writer.proofs.Pushing.{goes_trans}
-use Rattle.pv_explain.specs.Lines.{GiveAllCopies, LinkedBy}
+use Rattle.pv_explain.specs.Lines.{GiveAllCopies, HaveCopies, LinkedBy}
+use Rattle.pv_explain.proofs.Copying.{kids_copied}
 use Rattle.pv_explain.proofs.Congruent.{congruent_copies, kids_are}
 use Rattle.pv_explain.proofs.kids.state_kids.Goals as goal
 
@@ -28,3 +29,8 @@ returns-clause-line c = record { first = refl; second = refl; stated = record { 
 
 pub returns-clause-goes : goal.returns-clause-goes
 returns-clause-goes c = goes_trans c.args.writer.now c.kid_reasons.new.writer c.congruence.new.self c.in_ok-reasons.ensures.goes c.in_ok-fact.ensures.goes
+
+pub kid_reasons-requires-clause-copies : goal.kid_reasons-requires-clause-copies
+kid_reasons-requires-clause-copies c =
+    let s = c.args.source.now in
+    subst (HaveCopies s.map.now) (sym c.as_slice-lefts.ensures) (kids_copied s.graph.now c.args.writer.now.graph s.map.now c.requires.source.copies c.args.first c.node.result.now c.node.ensures c.requires.kids.first)

@@ -1,5 +1,5 @@
 use Rattle.std.proofs.Common.{ℕ, ◌<◌}
-use Rattle.pv_explain.specs.Needed.{IsMarked, MarksMore}
+use Rattle.pv_explain.specs.Marks.{IsMarked, MarksMore}
 use Rattle.pv_explain.proofs.needed.mark_all.Given as goal
 
 abbrev pub invariant-loop-join : goal.invariant-loop-join

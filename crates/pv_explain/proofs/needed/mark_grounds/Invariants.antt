@@ -1,5 +1,6 @@
 use Rattle.std.proofs.Common.{ℕ, ◌+◌, ◌≤◌}
-use Rattle.pv_explain.specs.Needed.{IsMarked, MarksMore, RestsOnMarked}
+use Rattle.pv_explain.specs.Needed.{RestsOnMarked}
+use Rattle.pv_explain.specs.Marks.{IsMarked, MarksMore}
 use Rattle.pv_explain.proofs.needed.mark_grounds.Given as goal
 
 abbrev pub invariant-loop-k : goal.invariant-loop-k

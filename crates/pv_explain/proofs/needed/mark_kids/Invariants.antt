@@ -1,5 +1,6 @@
 use Rattle.std.proofs.Common.{ℕ, ◌<◌, get_or}
-use Rattle.pv_explain.specs.Needed.{LinkedByMarked, MarksMore}
+use Rattle.pv_explain.specs.Needed.{LinkedByMarked}
+use Rattle.pv_explain.specs.Marks.{MarksMore}
 use Rattle.pv_explain.proofs.needed.mark_kids.Given as goal
 
 abbrev pub invariant-loop-i : goal.invariant-loop-i

@@ -2,7 +2,7 @@ use Rattle.std.proofs.Common.{◌≡◌, ℕ, ◌<◌}
 use Rattle.std.specs.Prelude.{Some, slice_get}
 use Rattle.pv_paths.specs.declared.forest.Way.{Way}
 use Rattle.pv_paths.specs.Paths.{join_of}
-use Rattle.pv_explain.specs.Needed.{IsMarked, MarksMore}
+use Rattle.pv_explain.specs.Marks.{IsMarked, MarksMore}
 use Rattle.pv_explain.proofs.needed.mark_path.Given as goal
 
 abbrev pub invariant-loop-way : goal.invariant-loop-way

@@ -10,4 +10,5 @@ pub mod Report
 pub mod Shown
 pub mod Judging
 pub mod Proving
+pub mod Tables
 pub mod Laws

@@ -20,7 +20,7 @@ use Rattle.pv_report.specs.Listed.{lines_by}
 abbrev pub lines_of : List Method → List Verdict → List (List ℕ)
 lines_of methods verdicts = lines_by line_of methods verdicts
 
--- one line for each method of the first file, in its order, with these verdicts, within these options
+-- one line for each method of the first file, in its order, with these verdicts, by these options
 pub record IsReport (options : Options) (a b : List ℕ) (verdicts : List Verdict) (text : List ℕ) : Type 0 where
   pub first : ClassFile
   pub second : ClassFile

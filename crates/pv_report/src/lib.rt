@@ -1,14 +1,16 @@
 //! The report on two class files.
 //!
 //! This layer stands on `pv_build`, which converts two methods into one graph, on `pv_alike`, which makes the least graph of their
-//! roots, on `pv_prove`, which searches there for a proof that the roots are equal, and on those below them; that a root has the outcomes
-//! of its method is a law of `pv_runs`. `pv_token` shows names and writes numbers.
+//! roots, on `pv_counted`, which clears it of tokens that end because of counted loops, on `pv_prove`, which searches for a proof that
+//! the roots are equal, on `pv_certify`, which gives the steps of that proof, and on those below them; that a root has the outcomes of
+//! its method is a law of `pv_runs`. `pv_token` shows names and writes numbers.
 //! `specs/` says which method is the partner of another (`Partners`), what the least graph of two methods' roots is
-//! (`Roots`), what is said of a method, within limits on the search (`Verdicts`), what the lines are (`Lines`), what a report is
-//! (`Report`), and which numbers the statuses have (`Statuses`). The two files are read into a pair; then all verdicts are made, by the
-//! least graphs and one table of axioms; and then the lines.
+//! (`Roots`), by which axioms, within which limits and in which graphs a search may find them equal (`Options`), what is said of a method
+//! with these options (`Verdicts`), what the lines are (`Lines`), what a report is (`Report`), and which numbers the statuses have
+//! (`Statuses`). The two files are read into a pair; then all verdicts are made, by the least graphs and one table of axioms, which is
+//! made when the first search needs it; and then the lines.
 //!
-//! The layer above uses the clause of `judge`: the text and the status are those of the bytes that were fetched, within these limits
+//! The layer above uses the clause of `judge`: the text and the status are those of the bytes that were fetched, with these options
 //! (`Judging`), and there is one of each (`law_judged`). It uses that two methods have the same meaning
 //! where the roots of their least graph have the same values, as they do where the verdict is `Equivalent` (`least_meaning` of
 //! `proofs/SameMeanings`), and that a line determines its method (`law_lines`). The report on a certificate uses the parts too: the

@@ -1,10 +1,8 @@
 //! What is said of two files.
 
-ghost use Rattle.std.specs.Prelude.{◌≡◌, ◌↔◌, ◌++◌, ◌∷◌, [], None, Some, length, map, IfOk, OnOk, IsTrue};
+ghost use Rattle.std.specs.Prelude.{◌≡◌, ◌↔◌, ◌++◌, ◌∷◌, [], None, Some, length, IfOk, OnOk, IsTrue};
 ghost use Rattle.std.specs.List.{AllZip, flat_map};
 ghost use Rattle.pv_cert.specs.Lines.{title_text};
-ghost use Rattle.pv_pattern.specs.Seen.{axiom_seen};
-ghost use Rattle.pv_prove.specs.Finding.{axioms_in};
 ghost use Rattle.pv_token.specs.Spellings.{AreBytes};
 ghost use Rattle.pv_report.specs.Lines.{bad_class, line_text};
 ghost use Rattle.pv_report.specs.declared.verdict.Graphs.{Graphs};
@@ -18,12 +16,12 @@ ghost use Rattle.pv_report.specs.Shown.{IsSectionOf, equivalent_of, section_of, 
 use crate::line::{push_bad_class, push_line};
 use crate::pair::{BadClass, Fetched, Pair, read_pair};
 use crate::status::Status;
-use crate::verdict::{Detail, Judgement, Means, Verdict, judgement_on};
+use crate::verdict::{Detail, Judgement, Means, Table, Verdict, judgement_on};
 use pv_base::Gate;
 use pv_cert::Section;
 use pv_class::Method;
 use pv_list::Listed;
-use pv_prove::{Limits, axioms_in};
+use pv_prove::Limits;
 use pv_steps::Step;
 use pv_value::Memory;
 use std::alloc::{AllocError, Global};
@@ -69,12 +67,7 @@ pub fn judge<G: Gate>(
             });
         }
     };
-    let table = axioms_in(alloc, limits.axioms)?;
-    let means = Means {
-        table: &table,
-        limits,
-        detail,
-    };
+    let means = Means { limits, detail };
     let judgements = judge_all(alloc, gate, means, &pair)?;
     let answer = answer_of(alloc, pair.first.methods.as_slice(), &judgements.verdicts)?;
     Ok(Report {
@@ -165,18 +158,18 @@ fn judge_all<G: Gate>(
     means: Means,
     pair: &Pair,
 ) -> Result<Judgements, Memory>
-    requires table { map axiom_seen means.table.now ≡ axioms_in means.limits.axioms }
     requires read { IsReadPair pair.now }
-    ensures verdicts { IfOk result (λ found. AllZip (IsVerdict (options_of means.entry.limits means.entry.detail) pair.now.first pair.now.second) pair.now.first.methods found.verdicts.items) }
-    ensures sections { IfOk result (λ found. means.entry.detail ≡ Detail.Steps → AllZip (IsSectionOf pair.now.first pair.now.second) (equivalent_of pair.now.first.methods found.verdicts.items) found.sections.items) }
+    ensures verdicts { IfOk result (λ found. AllZip (IsVerdict (options_of means.limits means.detail) pair.now.first pair.now.second) pair.now.first.methods found.verdicts.items) }
+    ensures sections { IfOk result (λ found. means.detail ≡ Detail.Steps → AllZip (IsSectionOf pair.now.first pair.now.second) (equivalent_of pair.now.first.methods found.verdicts.items) found.sections.items) }
 {
     let methods = pair.first.methods.as_slice();
+    let mut table = Table::new();
     let mut judgements = Judgements {
         verdicts: Vec::new(alloc),
         sections: Vec::new(alloc),
     };
     for place in 0..methods.len() {
-        let found = judgement_on(alloc, gate, means, pair, place)?;
+        let found = judgement_on(alloc, gate, means, &mut table, pair, place)?;
         judgements.push(&methods[place], found)?;
     }
     Ok(judgements)

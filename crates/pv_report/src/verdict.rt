@@ -1,12 +1,13 @@
 //! What is said of a method.
 
-ghost use Rattle.std.specs.Prelude.{◌≡◌, ◌↔◌, ◌<◌, [], length, map, slice_get, true, Some, None, IfOk, IsTrue};
+ghost use Rattle.std.specs.Prelude.{◌≡◌, ◌↔◌, ◌<◌, [], length, map, slice_get, true, Some, None, IfOk, OnOk, IsTrue};
 ghost use Rattle.pv_denote.specs.Meaning.{Same};
 ghost use Rattle.pv_class.specs.declared.file.Method.{Method};
 ghost use Rattle.pv_alike.specs.Least.{IsLeastOf};
 ghost use Rattle.pv_pattern.specs.Seen.{axiom_seen};
 ghost use Rattle.pv_prove.specs.Finding.{IsShown, axioms_in, verdict_of};
-ghost use Rattle.pv_report.specs.Options.{options_of};
+ghost use Rattle.pv_report.specs.Options.{AxiomSet, options_of};
+ghost use Rattle.pv_report.specs.Tables.{HasMade, IsTableOf};
 ghost use Rattle.pv_report.specs.Roots.{IsWhole};
 ghost use Rattle.pv_report.specs.Verdicts.{FindsCleared, HasCode};
 ghost use Rattle.pv_report.specs.Judging.{IsRead, IsReadPair, IsLeastOfSome, IsLeastOnPlaces, IsFoundBy, IsVerdictAt, IsVerdictBy, IsVerdictOnPlaces, said_of};
@@ -26,7 +27,7 @@ use pv_graph::{Graph, NodeId};
 use pv_heights::laws::law_verdict;
 use pv_list::Listed;
 use pv_pattern::Axiom;
-use pv_prove::{Found, Limits, Outcome, find};
+use pv_prove::{AxiomSet, Found, Limits, Outcome, axioms_in, find};
 use pv_steps::Step;
 use pv_value::Memory;
 use std::alloc::Global;
@@ -93,12 +94,51 @@ impl Detail {
     }
 }
 
-/// What a search takes: the axioms, its limits, and what it is to find.
+/// What a search takes, beside the axioms: its limits, and what it is to find.
 #[derive(Clone, Copy)]
-pub(crate) struct Means<'a> {
-    pub(crate) table: &'a [Axiom],
+pub(crate) struct Means {
     pub(crate) limits: Limits,
     pub(crate) detail: Detail,
+}
+
+/// The axioms of searches, which are made when the first search needs them.
+#[derive(Drop)]
+pub(crate) struct Table {
+    made: Option<Vec<Axiom>>,
+}
+
+impl Table {
+    // No axioms so far.
+    pub(crate) fn new() -> Table
+        ensures { (set : AxiomSet) → IsTableOf set result }
+    {
+        Table { made: None }
+    }
+
+    // Makes the axioms of this set, if they aren't made yet.
+    fn make(&mut self, alloc: Global, set: AxiomSet) -> Result<(), Memory>
+        requires { IsTableOf set self.old }
+        ensures { OnOk result (HasMade set self.new) }
+    {
+        match &self.made {
+            Some(_) => Ok(()),
+            None => {
+                self.made = Some(axioms_in(alloc, set)?);
+                Ok(())
+            }
+        }
+    }
+
+    // The axioms of this set, which are made.
+    fn axioms(&self) -> &[Axiom]
+        requires { (set : AxiomSet) × HasMade set self.now }
+        ensures { (set : AxiomSet) → HasMade set self.now → map axiom_seen result.now ≡ axioms_in set }
+    {
+        match &self.made {
+            Some(axioms) => axioms,
+            None => unreachable!(),
+        }
+    }
 }
 
 /// The verdict on a method, and the steps that show it, where they are wanted and there are any.
@@ -126,19 +166,21 @@ pub(crate) fn judgement_on<G: Gate>(
     alloc: Global,
     gate: &G,
     means: Means,
+    table: &mut Table,
     pair: &Pair,
     method: usize,
 ) -> Result<Judgement, Memory>
-    requires table { map axiom_seen means.table.now ≡ axioms_in means.limits.axioms }
+    requires table { IsTableOf means.limits.axioms table.old }
     requires read { IsReadPair pair.now }
     requires there { method < length pair.now.first.methods }
-    ensures verdict { IfOk result (λ found. IsVerdictAt (options_of means.entry.limits means.entry.detail) pair.now.first method pair.now.second found.verdict) }
-    ensures steps { IfOk result (λ found. IsProvedAt means.entry.detail pair.now.first method pair.now.second found) }
+    ensures verdict { IfOk result (λ found. IsVerdictAt (options_of means.limits means.detail) pair.now.first method pair.now.second found.verdict) }
+    ensures steps { IfOk result (λ found. IsProvedAt means.detail pair.now.first method pair.now.second found) }
+    ensures table { OnOk result (IsTableOf means.limits.axioms table.new) }
 {
     let one = &pair.first.methods.as_slice()[method];
     match partner_of(one, &pair.second.methods)? {
         None => Ok(Judgement::bare(Verdict::Missing)),
-        Some(partner) => judgement_with(alloc, gate, means, pair, method, partner),
+        Some(partner) => judgement_with(alloc, gate, means, table, pair, method, partner),
     }
 }
 
@@ -155,19 +197,21 @@ fn judgement_with<G: Gate>(
     alloc: Global,
     gate: &G,
     means: Means,
+    table: &mut Table,
     pair: &Pair,
     method: usize,
     partner: usize,
 ) -> Result<Judgement, Memory>
-    requires table { map axiom_seen means.table.now ≡ axioms_in means.limits.axioms }
+    requires table { IsTableOf means.limits.axioms table.old }
     requires read { IsReadPair pair.now }
     requires there { method < length pair.now.first.methods }
     requires partner { partner < length pair.now.second.methods }
-    ensures verdict { IfOk result (λ found. IsVerdictOnPlaces (options_of means.entry.limits means.entry.detail) pair.now.first method pair.now.second partner found.verdict) }
-    ensures steps { IfOk result (λ found. IsProvedOnPlaces means.entry.detail pair.now.first method pair.now.second partner found) }
+    ensures verdict { IfOk result (λ found. IsVerdictOnPlaces (options_of means.limits means.detail) pair.now.first method pair.now.second partner found.verdict) }
+    ensures steps { IfOk result (λ found. IsProvedOnPlaces means.detail pair.now.first method pair.now.second partner found) }
+    ensures table { OnOk result (IsTableOf means.limits.axioms table.new) }
 {
     match least_roots(alloc, &pair.first, method, &pair.second, partner)? {
-        Ok(roots) => judgement_by(alloc, gate, means, &roots),
+        Ok(roots) => judgement_by(alloc, gate, means, table, &roots),
         Err(verdict) => Ok(Judgement::bare(verdict)),
     }
 }
@@ -178,18 +222,20 @@ fn judgement_by<G: Gate>(
     alloc: Global,
     gate: &G,
     means: Means,
+    table: &mut Table,
     roots: &Least,
 ) -> Result<Judgement, Memory>
-    requires table { map axiom_seen means.table.now ≡ axioms_in means.limits.axioms }
+    requires table { IsTableOf means.limits.axioms table.old }
     requires least { IsLeastOfSome roots.now }
-    ensures verdict { IfOk result (λ found. IsVerdictBy (options_of means.entry.limits means.entry.detail) roots.now found.verdict) }
-    ensures steps { IfOk result (λ found. IsProvedBy means.entry.detail roots.now found) }
+    ensures verdict { IfOk result (λ found. IsVerdictBy (options_of means.limits means.detail) roots.now found.verdict) }
+    ensures steps { IfOk result (λ found. IsProvedBy means.detail roots.now found) }
+    ensures table { OnOk result (IsTableOf means.limits.axioms table.new) }
 {
-    let found = found_by(alloc, gate, means, roots)?;
+    let found = found_by(alloc, gate, means, table, roots)?;
     if found.verdict.is_equivalent() || !means.detail.may_clear() {
         return Ok(found);
     }
-    if finds_cleared(alloc, gate, means, roots)? {
+    if finds_cleared(alloc, gate, means, table, roots)? {
         return Ok(Judgement::bare(Verdict::Equivalent));
     }
     Ok(found)
@@ -200,20 +246,21 @@ fn finds_cleared<G: Gate>(
     alloc: Global,
     gate: &G,
     means: Means,
+    table: &mut Table,
     roots: &Least,
 ) -> Result<bool, Memory>
-    requires table { map axiom_seen means.table.now ≡ axioms_in means.limits.axioms }
+    requires table { IsTableOf means.limits.axioms table.old }
     requires least { IsLeastOfSome roots.now }
-    ensures finds { IfOk result (λ yes. IsTrue yes ↔ FindsCleared Graphs.LeastOrCleared means.entry.limits roots.now) }
+    ensures finds { IfOk result (λ yes. IsTrue yes ↔ FindsCleared Graphs.LeastOrCleared means.limits roots.now) }
     ensures same { IfOk result (λ yes. IsTrue yes → Same roots.now.graph roots.now.first roots.now.second) }
+    ensures table { OnOk result (IsTableOf means.limits.axioms table.new) }
 {
     let cleared = clear(alloc, roots)?;
     let means = Means {
-        table: means.table,
         limits: means.limits,
         detail: Detail::Verdict(Graphs::Least),
     };
-    let found = found_by(alloc, gate, means, &cleared)?;
+    let found = found_by(alloc, gate, means, table, &cleared)?;
     Ok(found.verdict.is_equivalent())
 }
 
@@ -223,12 +270,14 @@ fn found_by<G: Gate>(
     alloc: Global,
     gate: &G,
     means: Means,
+    table: &mut Table,
     roots: &Least,
 ) -> Result<Judgement, Memory>
-    requires table { map axiom_seen means.table.now ≡ axioms_in means.limits.axioms }
+    requires table { IsTableOf means.limits.axioms table.old }
     requires least { IsLeastOfSome roots.now }
-    ensures verdict { IfOk result (λ found. IsFoundBy means.entry.limits roots.now found.verdict) }
-    ensures steps { IfOk result (λ found. IsProvedBy means.entry.detail roots.now found) }
+    ensures verdict { IfOk result (λ found. IsFoundBy means.limits roots.now found.verdict) }
+    ensures steps { IfOk result (λ found. IsProvedBy means.detail roots.now found) }
+    ensures table { OnOk result (IsTableOf means.limits.axioms table.new) }
 {
     if roots.first() == roots.second() {
         law_verdict();
@@ -238,7 +287,8 @@ fn found_by<G: Gate>(
             steps: no_steps(alloc, means.detail),
         });
     }
-    let found = find(alloc, gate, roots, means.table, means.limits)?;
+    table.make(alloc, means.limits.axioms)?;
+    let found = find(alloc, gate, roots, table.axioms(), means.limits)?;
     let steps = steps_of(alloc, roots, means, &found)?;
     Ok(Judgement {
         verdict: said_of(found.outcome),
@@ -266,7 +316,7 @@ fn steps_of(
     requires first { roots.now.first < length roots.now.graph.nodes }
     requires second { roots.now.second < length roots.now.graph.nodes }
     requires shown { IsShown roots.now means.limits found.now.searches found.now.outcome }
-    ensures { IfOk result (λ steps. IsStepsOf means.entry.detail roots.now found.now.outcome steps) }
+    ensures { IfOk result (λ steps. IsStepsOf means.detail roots.now found.now.outcome steps) }
 {
     match (means.detail, found.outcome) {
         (Detail::Steps, Outcome::Met(meeting)) => {

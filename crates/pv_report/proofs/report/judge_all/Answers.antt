@@ -27,4 +27,5 @@ loop-place-preserved g c =
           let long = zip_length (IsVerdict options first second) (take k first.methods) c.loop-place.judgements.verdicts.items c.loop-place.invariant.0 in
           rw (c.in_ok-push.ensures.verdicts, c.in_ok-push.ensures.sections, take_next first.methods k x at)
           (shown_next first second (take k first.methods) c.loop-place.judgements.verdicts.items c.loop-place.judgements.sections.items x v steps long c.push.ensures.title (c.loop-place.invariant.1 wanted) have),
+      c.in_ok-found.ensures.table,
     )

@@ -16,7 +16,7 @@ use Rattle.pv_top.specs.declared.words.Mode.{Mode}
 use Rattle.pv_top.specs.declared.words.Command.{Command}
 use Rattle.pv_top.specs.declared.words.Command.TheVariants.{Validate, Check, Refute}
 use Rattle.pv_top.specs.Commands.{named}
-use Rattle.pv_top.specs.Words.{AreOf, IsCommand, IsLimit, IsMode, IsSet, set_word, check_words, refute_words, validate_words}
+use Rattle.pv_top.specs.Words.{AreOf, IsCommand, IsLimit, IsMode, IsSet, arguments_alone, set_word, refute_words, validate_words}
 
 -- ---- the words are one command at most
 
@@ -44,6 +44,11 @@ mode_once true (Some name) m n p q = absurd p
 same_mode : (b d : Bool) (c e : Option (List ℕ)) (m n : Mode (List ℕ)) → b ≡ d → c ≡ e → IsMode b c m → IsMode d e n → m ≡ n
 same_mode b d c e m n flag cert p q = mode_once d e m n (subst (λ (x : Bool). IsMode x e m) flag (subst (λ (o : Option (List ℕ)). IsMode b o m) cert p)) q
 
+arguments_once : (n : ℕ) (words rest more : List (List ℕ)) (name : List ℕ) (a b : List (List ℕ)) → words ≡ name ∷ rest → words ≡ name ∷ more → Give (arguments_alone n) rest [] [] a → Give (arguments_alone n) more [] [] b → a ≡ b
+arguments_once n words rest more name a b is are p q =
+    let same : rest ≡ more = let e = sym is ∙ are in cc e in
+    (is_one (arguments_alone n) refl more _ _ _ _ _ _ (subst (λ (w : List (List ℕ)). Give (arguments_alone n) w [] [] a) same p) q).2
+
 words_once : (words : List (List ℕ)) (c d : Command (List ℕ)) → AreOf words c → AreOf words d → c ≡ d
 words_once words (Validate a b t r k m) (Validate x y u s l n) (rest, is, p) (more, are, q) =
     let same : rest ≡ more = let e = sym is ∙ are in cc e in
@@ -60,13 +65,7 @@ words_once words (Validate a b t r k m) (Validate x y u s l n) (rest, is, p) (mo
     let budget : k ≡ l = limit_once 1 MOST_BUDGET DEFAULT_BUDGET q.budget_word k l (omega arith) (subst (λ (o : Option (List ℕ)). IsLimit 1 MOST_BUDGET DEFAULT_BUDGET o k) text p.budget_is) q.budget_is in
     let mode : m ≡ n = same_mode p.counted_flag q.counted_flag p.cert_word q.cert_word m n flag file p.mode_is q.mode_is in
     cc (first, second, axioms, rounds, budget, mode)
-words_once words (Check a b c) (Check x y z) (rest, is, p) (more, are, q) =
-    let same : rest ≡ more = let e = sym is ∙ are in cc e in
-    let one = is_one check_words refl more _ _ _ _ _ _ (subst (λ (w : List (List ℕ)). Give check_words w [] [] (a ∷ b ∷ c ∷ [])) same p) q in
-    let first : a ≡ x = let e = one.2 in cc e in
-    let second : b ≡ y = let e = one.2 in cc e in
-    let third : c ≡ z = let e = one.2 in cc e in
-    cc (first, second, third)
+words_once words (Check a b c) (Check x y z) (rest, is, p) (more, are, q) = let one = arguments_once 3 words rest more (codes "check") _ _ is are p q in cc one
 words_once words (Refute a b r k) (Refute x y s l) (rest, is, p) (more, are, q) =
     let same : rest ≡ more = let e = sym is ∙ are in cc e in
     let one = is_one refute_words refl more _ _ _ _ _ _ (subst (λ (w : List (List ℕ)). Give refute_words w [] (p.tries_word ∷ p.steps_word ∷ []) (a ∷ b ∷ [])) same p.given) q.given in
@@ -95,8 +94,8 @@ pub whole_words : (whole words : List (List ℕ)) (r : Result (Option (Command (
 whole_words whole words r e h = subst (λ (ws : List (List ℕ)). IfOk r (λ c. IsCommand ws (option_map named c))) (sym e) h
 
 -- words that give `check` nothing are no command
-pub no_check : (rest : List (List ℕ)) → ((f : List Bool) (o : List (Option (List ℕ))) (a : List (List ℕ)) → Give check_words rest f o a → ⊥) → (c : Command (List ℕ)) → AreOf (codes "check" ∷ rest) c → ⊥
-no_check rest none (Check a b cert) (more, e, g) = none [] [] (a ∷ b ∷ cert ∷ []) (subst (λ (w : List (List ℕ)). Give check_words w [] [] (a ∷ b ∷ cert ∷ [])) (let same : more ≡ rest = cc (sym e) in same) g)
+pub no_check : (rest : List (List ℕ)) → ((a : List (List ℕ)) → Give (arguments_alone 3) rest [] [] a → ⊥) → (c : Command (List ℕ)) → AreOf (codes "check" ∷ rest) c → ⊥
+no_check rest none (Check a b cert) (more, e, g) = none _ (subst (λ (w : List (List ℕ)). Give (arguments_alone 3) w [] [] (a ∷ b ∷ cert ∷ [])) (let same : more ≡ rest = cc (sym e) in same) g)
 no_check rest none _ (more, e, g) = absurd (cc e)
 
 -- nor are words that give `validate` nothing

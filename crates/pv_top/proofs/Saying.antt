@@ -4,16 +4,11 @@ use Rattle.std.specs.Prelude.{codes}
 use Rattle.std.proofs.lemmas.List.{append_cancel_left, append-nil, take-append-drop}
 use Rattle.pv_base.specs.Stored.{Stored}
 use Rattle.pv_base.specs.Outside.{more}
-use Rattle.pv_report.specs.Options.{Options}
-use Rattle.pv_differences.specs.declared.finding.RunLimits.{RunLimits}
-use Rattle.pv_differences.specs.Refuted.{Refuted}
 use Rattle.pv_report.specs.declared.status.Status.{Status}
 use Rattle.pv_report.specs.declared.status.Status.TheVariants as status
-use Rattle.pv_report.specs.Report.{Judged}
-use Rattle.pv_sections.specs.Ruled.{Ruled}
 use Rattle.pv_top.specs.declared.words.Command.{Command}
 use Rattle.pv_top.specs.declared.words.Command.TheVariants.{Validate, Check, Refute}
-use Rattle.pv_top.specs.Run.{Puts, Says, Answered, IsAnswer, SaidOf, graphs_in}
+use Rattle.pv_top.specs.Run.{Puts, Says, Answered, IsAnswer, SaidOf}
 use Rattle.pv_top.specs.Fetching.{ReadFailed}
 use Rattle.pv_top.specs.Promise.{IsLineOf, EndsWith, HaveOneMeaning, EachEquivalent}
 use Rattle.pv_top.proofs.Asking.{more_nothing}
@@ -32,31 +27,18 @@ is_said status.ReadFault = false
 is_said status.Memory = false
 is_said s = true
 
--- .. is that of a report
-judged_said : (options : Options) (a b text : List ℕ) (s : Status) → Judged options a b text s → is_said s ≡ true
-judged_said options a b text status.AllEquivalent h = refl
-judged_said options a b text status.Others h = refl
-judged_said options a b text status.BadClass h = refl
-judged_said options a b text _ (vs, r, is) = absurd is
-
-ruled_said : (a b cert text : List ℕ) (s : Status) → Ruled a b cert text s → is_said s ≡ true
-ruled_said a b cert text status.AllEquivalent h = refl
-ruled_said a b cert text status.Others h = refl
-ruled_said a b cert text status.BadClass h = refl
-ruled_said a b cert text status.BadCert h = refl
-ruled_said a b cert text _ (fs, r, is) = absurd is
-
-refuted_said : (limits : RunLimits) (a b text : List ℕ) (s : Status) → Refuted limits a b text s → is_said s ≡ true
-refuted_said limits a b text status.AllEquivalent h = refl
-refuted_said limits a b text status.Others h = refl
-refuted_said limits a b text status.BadClass h = refl
-refuted_said limits a b text _ (fs, r, is) = absurd is
-
+-- .. is that of an answer
 pub answer_said : (c : Command (List ℕ)) (contents : List (List ℕ)) (text : List ℕ) (s : Status) → IsAnswer c contents text s → is_said s ≡ true
-answer_said (Validate a b axioms rounds budget mode) (x ∷ y ∷ []) text s h = judged_said (record { limits = record { axioms = axioms; rounds = rounds; budget = budget }; graphs = graphs_in mode }) x y text s h
-answer_said (Check a b c) (x ∷ y ∷ z ∷ []) text s h = ruled_said x y z text s h
-answer_said (Refute a b tries steps) (x ∷ y ∷ []) text s h = refuted_said (record { tries = tries; steps = steps }) x y text s h
-answer_said _ _ text s h = absurd h
+answer_said c contents text status.AllEquivalent h = refl
+answer_said c contents text status.Others h = refl
+answer_said c contents text status.BadClass h = refl
+answer_said c contents text status.BadCert h = refl
+answer_said c contents text status.BadWords h = refl
+answer_said c contents text status.WriteFault h = refl
+answer_said (Validate a b axioms rounds budget mode) (x ∷ y ∷ []) text _ (vs, r, is) = absurd is
+answer_said (Check a b c) (x ∷ y ∷ z ∷ []) text _ (fs, r, is) = absurd is
+answer_said (Refute a b tries steps) (x ∷ y ∷ []) text _ (fs, r, is) = absurd is
+answer_said _ _ text _ h = absurd h
 
 pub result_said : (old new : Option (List ℕ)) (text : List ℕ) (meant result : Status) (rose : Type 0) → is_said meant ≡ true → Says old new text meant result rose → is_said result ≡ true
 result_said old new text meant result rose is says =

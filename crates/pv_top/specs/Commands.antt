@@ -1,13 +1,14 @@
 -- The command that was read from words.
-use Rattle.std.specs.Prelude.{ℕ, Bool, List, ◌∷◌, Option, Some, None, codes, option_map}
+use Rattle.std.specs.Prelude.{ℕ, Bool, List, [], ◌∷◌, Option, Some, None, option_map}
 use Rattle.std.specs.Borrow.{Bor}
 use Rattle.pv_report.specs.Options.{AxiomSet}
 use Rattle.pv_words.specs.Answers.{texts}
+use Rattle.pv_words.specs.Words.{Give}
 use Rattle.pv_top.specs.declared.words.Mode.{Mode}
 use Rattle.pv_top.specs.declared.words.Mode.TheVariants.{Plain, Counted, Cert}
 use Rattle.pv_top.specs.declared.words.Command.{Command}
 use Rattle.pv_top.specs.declared.words.Command.TheVariants.{Validate, Check, Refute}
-use Rattle.pv_top.specs.Words.{IsCommand, IsLimit, IsMode, IsSet}
+use Rattle.pv_top.specs.Words.{IsCommand, IsLimit, IsMode, IsSet, arguments_alone}
 
 -- a mode by its name
 abbrev pub named_mode : Mode (Bor (List ℕ)) → Mode (List ℕ)
@@ -24,15 +25,14 @@ named (Refute a b tries steps) = Refute a.now b.now tries steps
 abbrev pub IsRead : List (Bor (List ℕ)) → Option (Command (Bor (List ℕ))) → Type 0
 IsRead words command = IsCommand (texts words) (option_map named command)
 
--- .. of the words after the name of a command
-abbrev pub IsReadValidate : List (Bor (List ℕ)) → Option (Command (Bor (List ℕ))) → Type 0
-IsReadValidate words command = IsCommand (codes "validate" ∷ texts words) (option_map named command)
+-- .. of this name and the words after it
+abbrev pub IsReadAs : List ℕ → List (Bor (List ℕ)) → Option (Command (Bor (List ℕ))) → Type 0
+IsReadAs name words command = IsCommand (name ∷ texts words) (option_map named command)
 
-abbrev pub IsReadCheck : List (Bor (List ℕ)) → Option (Command (Bor (List ℕ))) → Type 0
-IsReadCheck words command = IsCommand (codes "check" ∷ texts words) (option_map named command)
-
-abbrev pub IsReadRefute : List (Bor (List ℕ)) → Option (Command (Bor (List ℕ))) → Type 0
-IsReadRefute words command = IsCommand (codes "refute" ∷ texts words) (option_map named command)
+-- the arguments that words give a command with this many alone, None where they give it none
+abbrev pub ReadsArguments : ℕ → List (Bor (List ℕ)) → Option (List (Bor (List ℕ))) → Type 0
+ReadsArguments n words (Some arguments) = Give (arguments_alone n) (texts words) [] [] (texts arguments)
+ReadsArguments n words None = (arguments : List (List ℕ)) → Give (arguments_alone n) (texts words) [] [] arguments → ⊥
 
 -- the limit that an option gives, None where its text is none
 abbrev pub ReadsLimit : (least most default : ℕ) → Option (Bor (List ℕ)) → Option ℕ → Type 0

@@ -40,9 +40,9 @@ IsMode true (Some name) mode = ⊥
 abbrev pub validate_words : words.Command
 validate_words = record { flags = codes "counted" ∷ []; names = codes "axioms" ∷ codes "rounds" ∷ codes "budget" ∷ codes "cert" ∷ []; count = 2 }
 
--- `check` has no options, and three arguments
-abbrev pub check_words : words.Command
-check_words = record { flags = []; names = []; count = 3 }
+-- a command with this many arguments, and with neither flags nor options
+abbrev pub arguments_alone : ℕ → words.Command
+arguments_alone n = record { flags = []; names = []; count = n }
 
 -- `refute` has the options `--tries` and `--steps`, and two arguments
 abbrev pub refute_words : words.Command
@@ -72,7 +72,7 @@ pub record GiveRefute (rest : List (List ℕ)) (a b : List ℕ) (tries steps : �
 -- the words are those of a command: its name, and what gives its options and arguments
 abbrev pub AreOf : List (List ℕ) → Command (List ℕ) → Type 0
 AreOf words (Validate a b axioms rounds budget mode) = (rest : List (List ℕ)) × (words ≡ codes "validate" ∷ rest) × GiveValidate rest a b axioms rounds budget mode
-AreOf words (Check a b cert) = (rest : List (List ℕ)) × (words ≡ codes "check" ∷ rest) × Give check_words rest [] [] (a ∷ b ∷ cert ∷ [])
+AreOf words (Check a b cert) = (rest : List (List ℕ)) × (words ≡ codes "check" ∷ rest) × Give (arguments_alone 3) rest [] [] (a ∷ b ∷ cert ∷ [])
 AreOf words (Refute a b tries steps) = (rest : List (List ℕ)) × (words ≡ codes "refute" ∷ rest) × GiveRefute rest a b tries steps
 
 -- the command that the words are, None where they are none

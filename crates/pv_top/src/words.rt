@@ -1,8 +1,9 @@
 //! The words of the command line.
 
-ghost use Rattle.std.specs.Prelude.{IfOk};
-ghost use Rattle.pv_top.specs.Commands.{IsRead, IsReadCheck, IsReadRefute, IsReadValidate, ReadsLimit, ReadsMode, ReadsSet};
+ghost use Rattle.std.specs.Prelude.{IfOk, codes};
+ghost use Rattle.pv_top.specs.Commands.{IsRead, IsReadAs, ReadsArguments, ReadsLimit, ReadsMode, ReadsSet};
 
+use pv_list::Listed;
 use pv_report::AxiomSet;
 use pv_value::Memory;
 use pv_words::{Shape, number_in, read_words};
@@ -94,7 +95,7 @@ pub(crate) fn command_of<'a>(
 
 // The command `validate` with these words after its name.
 fn validate_of<'a>(alloc: Global, words: &'a [&'a str]) -> Result<Option<Command<&'a str>>, Memory>
-    ensures { IfOk result (λ command. IsReadValidate words.now command) }
+    ensures { IfOk result (λ command. IsReadAs (codes "validate") words.now command) }
 {
     let shape = Shape {
         flags: &["counted"],
@@ -135,17 +136,12 @@ fn validate_of<'a>(alloc: Global, words: &'a [&'a str]) -> Result<Option<Command
 
 // The command `check` with these words after its name.
 fn check_of<'a>(alloc: Global, words: &'a [&'a str]) -> Result<Option<Command<&'a str>>, Memory>
-    ensures { IfOk result (λ command. IsReadCheck words.now command) }
+    ensures { IfOk result (λ command. IsReadAs (codes "check") words.now command) }
 {
-    let shape = Shape {
-        flags: &[],
-        options: &[],
-        arguments: 3,
-    };
-    let Some(given) = read_words(alloc, &shape, words)? else {
+    let Some(given) = arguments_of(alloc, words, 3)? else {
         return Ok(None);
     };
-    let [first, second, cert] = given.arguments.as_slice() else {
+    let [first, second, cert] = given.as_slice() else {
         unreachable!();
     };
     Ok(Some(Command::Check {
@@ -157,7 +153,7 @@ fn check_of<'a>(alloc: Global, words: &'a [&'a str]) -> Result<Option<Command<&'
 
 // The command `refute` with these words after its name.
 fn refute_of<'a>(alloc: Global, words: &'a [&'a str]) -> Result<Option<Command<&'a str>>, Memory>
-    ensures { IfOk result (λ command. IsReadRefute words.now command) }
+    ensures { IfOk result (λ command. IsReadAs (codes "refute") words.now command) }
 {
     let shape = Shape {
         flags: &[],
@@ -183,6 +179,25 @@ fn refute_of<'a>(alloc: Global, words: &'a [&'a str]) -> Result<Option<Command<&
         tries,
         steps,
     }))
+}
+
+// The arguments of a command with `count` arguments and with neither flags nor options; None, where the words give it none.
+fn arguments_of<'a>(
+    alloc: Global,
+    words: &'a [&'a str],
+    count: usize,
+) -> Result<Option<Listed<&'a str>>, Memory>
+    ensures { IfOk result (λ arguments. ReadsArguments count words.now arguments) }
+{
+    let shape = Shape {
+        flags: &[],
+        options: &[],
+        arguments: count,
+    };
+    match read_words(alloc, &shape, words)? {
+        Some(given) => Ok(Some(given.arguments)),
+        None => Ok(None),
+    }
 }
 
 // The limit that an option gives: its number within its bounds, or the default; None, where its text is no such number.

@@ -18,7 +18,7 @@ import tempfile
 
 TOP = os.path.dirname(os.path.dirname(os.path.abspath(__file__)))
 PROGRAM = os.environ.get("CASES", os.path.join(TOP, "crates", "cases", "out", "cases"))
-PARAMETERS, LIMIT = 200, 500_000
+PARAMETERS, LIMIT = 330, 500_000
 
 
 def chain(nodes):

@@ -1,0 +1,120 @@
+//! What is said of two files and a chain between them.
+
+ghost use Rattle.std.specs.Prelude.{◌≡◌, IfOk};
+ghost use Rattle.pv_chain.specs.Chains.{Fits};
+ghost use Rattle.pv_report.specs.Judging.{IsReadPair};
+ghost use Rattle.pv_report.specs.Listed.{AreLines};
+ghost use Rattle.pv_links.specs.Findings.{IsFinding, links};
+ghost use Rattle.pv_links.specs.Lines.{link_line};
+ghost use Rattle.pv_links.specs.Made.{AreRead, IsSaidOf};
+ghost use Rattle.pv_links.specs.Reading.{ChainRulesFetched};
+ghost use Rattle.pv_links.specs.Ruled.{IsStatusOf};
+
+use crate::chain::{chain_in, is_between, middle_of};
+use crate::classes::Classes;
+use crate::digest::bytes_of;
+use crate::finding::{LinkFinding, find};
+use crate::flaw::ChainFlaw;
+use crate::line::{bad_chain, push_link};
+use crate::links::like_in;
+use pv_axioms::Axioms;
+use pv_base::Gate;
+use pv_cert::Section;
+use pv_chain::Chain;
+use pv_report::{Answer, Fetched, Pair, Status, bad_class, read_pair};
+use pv_value::Memory;
+use std::alloc::Global;
+
+/// What is said of two files and a chain between them: a line for each section of its first certificate that has one of the same name
+/// and descriptor in the second, in the order of the first; or one line on the first of the two files that is no class file, or else
+/// on the chain where it has no reading or a certificate of it names other files. The limit of the first two fetches is `LONGEST_FILE`,
+/// that of the third `LONGEST_CHAIN`. The gate is passed before each step of a section, and changes no answer. Out of memory is the one
+/// error.
+pub fn check_chain<G: Gate>(
+    alloc: Global,
+    gate: &G,
+    first: &Fetched,
+    last: &Fetched,
+    chain: &Fetched,
+) -> Result<Answer, Memory>
+    ensures { IfOk result (λ answer. ChainRulesFetched first.now last.now chain.now answer.text.items answer.status) }
+{
+    let pair = match read_pair(alloc, first, last)? {
+        Ok(pair) => pair,
+        Err(bad) => return Ok(bad_class(alloc, bad)?),
+    };
+    let chain = match chain_in(alloc, chain)? {
+        Ok(chain) => chain,
+        Err(flaw) => return Ok(bad_chain(alloc, flaw)?),
+    };
+    if !is_between(&chain, bytes_of(first), bytes_of(last)) {
+        return Ok(bad_chain(alloc, ChainFlaw::Digest)?);
+    }
+    report_on(alloc, gate, pair, &chain)
+}
+
+// What is said of the links of a chain between two classes.
+fn report_on<G: Gate>(alloc: Global, gate: &G, pair: Pair, chain: &Chain) -> Result<Answer, Memory>
+    requires read { IsReadPair pair }
+    requires fits { Fits chain.now }
+    ensures { IfOk result (λ answer. IsSaidOf pair chain.now answer.text.items answer.status) }
+{
+    let classes = Classes {
+        first: pair.first,
+        middle: middle_of(alloc, chain)?,
+        last: pair.second,
+    };
+    let (sections, others) = (
+        chain.first.sections.as_slice(),
+        chain.second.sections.as_slice(),
+    );
+    let said = said_of(alloc, gate, &classes, sections, others)?;
+    let status = status_of(&said.findings);
+    Ok(Answer {
+        text: said.text,
+        status,
+    })
+}
+
+// What is said of links, and the lines that say it.
+#[derive(Drop)]
+struct Said {
+    findings: Vec<LinkFinding>,
+    text: Vec<u8>,
+}
+
+// What is said of the sections that have one like them among the others, in their order.
+fn said_of<G: Gate>(
+    alloc: Global,
+    gate: &G,
+    classes: &Classes,
+    sections: &[Section],
+    others: &[Section],
+) -> Result<Said, Memory>
+    requires { AreRead classes.now }
+    ensures { IfOk result (λ said. AreLines (IsFinding classes.now.first classes.now.middle classes.now.last) link_line (links sections.now others.now) said.findings.items said.text.items) }
+{
+    let axioms = Axioms::new(alloc)?;
+    let mut findings = Vec::new(alloc);
+    let mut text = Vec::new(alloc);
+    for section in sections {
+        if let Some(other) = like_in(section, others) {
+            let finding = find(alloc, gate, &axioms, classes, section, other)?;
+            push_link(alloc, &mut text, section, finding)?;
+            findings.push(finding)?;
+        }
+    }
+    Ok(Said { findings, text })
+}
+
+// The status that goes with these findings.
+fn status_of(findings: &[LinkFinding]) -> Status
+    ensures { IsStatusOf findings.now result }
+{
+    for finding in findings {
+        if !finding.is_equivalent() {
+            return Status::Others;
+        }
+    }
+    Status::AllEquivalent
+}

@@ -80,6 +80,7 @@ pub fn answer<R: Files + Threads + Sync>(rt: &R, bench: &Bench, line: &str) -> A
         "one-line" => runs::one_line(rt, bench, rest),
         "placed" => runs::placing(rt, bench, rest),
         "certified" => runs::certified(rt, bench, rest),
+        "linked" => runs::linked(rt, bench, rest),
 
         _ => Err(NoAnswer::Unreadable),
     }

@@ -8,6 +8,7 @@
 //! | `one-line BYTES BYTES WORD ..` | whether by `validate A B WORD ..` the status is at most 2 and what was sent is one line |
 //! | `placed NAME WORD ..; SETTING` | the status, the calls that the store got, and the text that it holds under the name afterwards |
 //! | `certified BYTES BYTES WORD ..` | the statuses and what was sent, by `validate --cert C A B WORD ..` and by `check A B C` after it |
+//! | `linked BYTES BYTES BYTES` | the statuses and what was sent by `compose A B C X Y D`, over these files and the certificates that `validate --cert` places, and by `check-chain A C D` after it |
 //!
 //! A WORD is `""` for the empty one. A SETTING is words `NAME=BYTES`, which are files, `fail=2,6`, the
 //! numbers of the calls that fail, and first `room=9`, the bytes that the sink has room for.
@@ -92,13 +93,45 @@ fn holds_file(bench: &Bench, files: &mut MemFiles, name: &str, bytes: &[u8]) -> 
     }
 }
 
+// A file for a store.
+fn entry(bench: &Bench, name: &[u8], bytes: &str) -> Result<(Name, Vec<u8>), NoAnswer> {
+    Ok((Name::new(bench.alloc(), name)?, bench.bytes(bytes)?))
+}
+
 // A store that holds the files A and B.
 fn two_files(bench: &Bench, first: &str, second: &str) -> Result<MemFiles, NoAnswer> {
     let alloc = bench.alloc();
     let mut entries = Vec::new(alloc);
-    entries.push((Name::new(alloc, b"A")?, bench.bytes(first)?))?;
-    entries.push((Name::new(alloc, b"B")?, bench.bytes(second)?))?;
+    entries.push(entry(bench, b"A", first)?)?;
+    entries.push(entry(bench, b"B", second)?)?;
     Ok(MemFiles::new(alloc, entries, Vec::new(alloc)))
+}
+
+// A store that holds the files A, B and C.
+fn three_files(
+    bench: &Bench,
+    first: &str,
+    second: &str,
+    third: &str,
+) -> Result<MemFiles, NoAnswer> {
+    let alloc = bench.alloc();
+    let mut entries = Vec::new(alloc);
+    entries.push(entry(bench, b"A", first)?)?;
+    entries.push(entry(bench, b"B", second)?)?;
+    entries.push(entry(bench, b"C", third)?)?;
+    Ok(MemFiles::new(alloc, entries, Vec::new(alloc)))
+}
+
+// What a command answers and sends, over a store.
+fn sent_by<R: Threads + Sync>(
+    rt: &R,
+    alloc: Global,
+    command: &[&str],
+    files: &mut MemFiles,
+) -> Result<(Status, MemSink), NoAnswer> {
+    let mut out = MemSink::new(alloc, ROOM)?;
+    let status = run(rt, alloc, command, files, &mut out, &OpenGate);
+    Ok((status, out))
 }
 
 // What a run over the files A and B answers and sends, where these words are its name and what comes after the names of the files.
@@ -178,6 +211,33 @@ pub fn certified<R: Threads + Sync>(rt: &R, bench: &Bench, rest: &str) -> Answer
     let mut checked = MemSink::new(alloc, ROOM)?;
     let command = ["check", "A", "B", "C"];
     let seen = run(rt, alloc, &command, &mut files, &mut checked, &OpenGate);
+    let (sent, said) = (sent_text(&out)?, sent_text(&checked)?);
+    Ok(format!(in alloc; "{made:?} {sent:?}; {seen:?} {said:?}")?)
+}
+
+/// `linked BYTES BYTES BYTES`
+pub fn linked<R: Threads + Sync>(rt: &R, bench: &Bench, rest: &str) -> Answer {
+    let alloc = bench.alloc();
+    let words = words(alloc, rest)?;
+    let [first, second, third] = words.as_slice() else {
+        return Err(NoAnswer::Unreadable);
+    };
+    let mut files = three_files(bench, first, second, third)?;
+    sent_by(
+        rt,
+        alloc,
+        &["validate", "--cert", "X", "A", "B"],
+        &mut files,
+    )?;
+    sent_by(
+        rt,
+        alloc,
+        &["validate", "--cert", "Y", "B", "C"],
+        &mut files,
+    )?;
+    let compose = ["compose", "A", "B", "C", "X", "Y", "D"];
+    let (made, out) = sent_by(rt, alloc, &compose, &mut files)?;
+    let (seen, checked) = sent_by(rt, alloc, &["check-chain", "A", "C", "D"], &mut files)?;
     let (sent, said) = (sent_text(&out)?, sent_text(&checked)?);
     Ok(format!(in alloc; "{made:?} {sent:?}; {seen:?} {said:?}")?)
 }

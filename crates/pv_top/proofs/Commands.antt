@@ -14,7 +14,7 @@ use Rattle.pv_words.proofs.Cited.{is_one, one_number}
 use Rattle.pv_top.specs.declared.words.TheConstants.{DEFAULT_ROUNDS, MOST_ROUNDS, DEFAULT_BUDGET, MOST_BUDGET, DEFAULT_TRIES, MOST_TRIES, DEFAULT_STEPS, MOST_STEPS}
 use Rattle.pv_top.specs.declared.words.Mode.{Mode}
 use Rattle.pv_top.specs.declared.words.Command.{Command}
-use Rattle.pv_top.specs.declared.words.Command.TheVariants.{Validate, Check, Refute}
+use Rattle.pv_top.specs.declared.words.Command.TheVariants.{Validate, Check, Compose, CheckChain, Refute}
 use Rattle.pv_top.specs.Commands.{named}
 use Rattle.pv_top.specs.Words.{AreOf, IsCommand, IsLimit, IsMode, IsSet, arguments_alone, set_word, refute_words, validate_words}
 
@@ -66,6 +66,8 @@ words_once words (Validate a b t r k m) (Validate x y u s l n) (rest, is, p) (mo
     let mode : m ≡ n = same_mode p.counted_flag q.counted_flag p.cert_word q.cert_word m n flag file p.mode_is q.mode_is in
     cc (first, second, axioms, rounds, budget, mode)
 words_once words (Check a b c) (Check x y z) (rest, is, p) (more, are, q) = let one = arguments_once 3 words rest more (codes "check") _ _ is are p q in cc one
+words_once words (Compose a b c d e f) (Compose g h i j k l) (rest, is, p) (more, are, q) = let one = arguments_once 6 words rest more (codes "compose") _ _ is are p q in cc one
+words_once words (CheckChain a b c) (CheckChain x y z) (rest, is, p) (more, are, q) = let one = arguments_once 3 words rest more (codes "check-chain") _ _ is are p q in cc one
 words_once words (Refute a b r k) (Refute x y s l) (rest, is, p) (more, are, q) =
     let same : rest ≡ more = let e = sym is ∙ are in cc e in
     let one = is_one refute_words refl more _ _ _ _ _ _ (subst (λ (w : List (List ℕ)). Give refute_words w [] (p.tries_word ∷ p.steps_word ∷ []) (a ∷ b ∷ [])) same p.given) q.given in
@@ -97,6 +99,14 @@ whole_words whole words r e h = subst (λ (ws : List (List ℕ)). IfOk r (λ c. 
 pub no_check : (rest : List (List ℕ)) → ((a : List (List ℕ)) → Give (arguments_alone 3) rest [] [] a → ⊥) → (c : Command (List ℕ)) → AreOf (codes "check" ∷ rest) c → ⊥
 no_check rest none (Check a b cert) (more, e, g) = none _ (subst (λ (w : List (List ℕ)). Give (arguments_alone 3) w [] [] (a ∷ b ∷ cert ∷ [])) (let same : more ≡ rest = cc (sym e) in same) g)
 no_check rest none _ (more, e, g) = absurd (cc e)
+
+pub no_compose : (rest : List (List ℕ)) → ((a : List (List ℕ)) → Give (arguments_alone 6) rest [] [] a → ⊥) → (c : Command (List ℕ)) → AreOf (codes "compose" ∷ rest) c → ⊥
+no_compose rest none (Compose a b c x y out) (more, e, g) = none _ (subst (λ (w : List (List ℕ)). Give (arguments_alone 6) w [] [] (a ∷ b ∷ c ∷ x ∷ y ∷ out ∷ [])) (let same : more ≡ rest = cc (sym e) in same) g)
+no_compose rest none _ (more, e, g) = absurd (cc e)
+
+pub no_check_chain : (rest : List (List ℕ)) → ((a : List (List ℕ)) → Give (arguments_alone 3) rest [] [] a → ⊥) → (c : Command (List ℕ)) → AreOf (codes "check-chain" ∷ rest) c → ⊥
+no_check_chain rest none (CheckChain a b chain) (more, e, g) = none _ (subst (λ (w : List (List ℕ)). Give (arguments_alone 3) w [] [] (a ∷ b ∷ chain ∷ [])) (let same : more ≡ rest = cc (sym e) in same) g)
+no_check_chain rest none _ (more, e, g) = absurd (cc e)
 
 -- nor are words that give `validate` nothing
 pub no_validate : (rest : List (List ℕ)) → ((f : List Bool) (o : List (Option (List ℕ))) (a : List (List ℕ)) → Give validate_words rest f o a → ⊥) → (c : Command (List ℕ)) → AreOf (codes "validate" ∷ rest) c → ⊥

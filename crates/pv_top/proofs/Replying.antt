@@ -1,6 +1,6 @@
 -- What a command places and says, and what is asked and left by it.
-use Rattle.std.proofs.Common.{◌≡◌, ◌≢◌, ◌⊎◌, ◌≤◌, ℕ, Bool, true, false, List, [], ◌∷◌, ◌++◌, length, map, take, Option, Some, None, inl, inr, refl, sym, ap, subst, ◌∙◌, arith}
-use Rattle.std.specs.Prelude.{cond}
+use Rattle.std.proofs.Common.{◌≡◌, ◌≢◌, ◌⊎◌, ◌≤◌, ℕ, Bool, true, false, List, [], ◌∷◌, ◌++◌, length, map, take, Option, Some, None, Result, Ok, Err, get_or, inl, inr, refl, sym, ap, subst, ◌∙◌, arith}
+use Rattle.std.specs.Prelude.{cond, IfOk}
 use Rattle.std.specs.Bool.{nat_eq}
 use Rattle.std.specs.Cmp.Lexicographic.{pointwise, same_text, texts_ties}
 use Rattle.std.proofs.lemmas.Cmp.{nat_list_cmp_total}
@@ -15,11 +15,14 @@ use Rattle.pv_report.specs.declared.pair.Fetched.{Fetched}
 use Rattle.pv_report.specs.declared.status.Status.{Status}
 use Rattle.pv_report.specs.declared.status.Status.TheVariants as status
 use Rattle.pv_report.specs.Report.{Judged}
+use Rattle.pv_links.specs.Composed.{Composed}
+use Rattle.pv_links.specs.Reading.{AreContents, ComposesFetched}
+use Rattle.pv_top.specs.declared.top.Reply.{Reply}
 use Rattle.pv_top.specs.declared.words.Command.{Command}
-use Rattle.pv_top.specs.declared.words.Command.TheVariants.{Validate}
+use Rattle.pv_top.specs.declared.words.Command.TheVariants.{Validate, Compose}
 use Rattle.pv_top.specs.Words.{fetches, names_of, placed_name}
-use Rattle.pv_top.specs.Run.{Says, Answered, IsAnswer, graphs_in, all_calls, fetch_calls, place_calls, GrewBy, HasBadFile, AskedFor, CallsFor, HoldsPlaced, LeavesAt, LeavesNamed, LeavesBy, Leaves}
-use Rattle.pv_top.specs.Fetching.{HoldAll, AnswersFetched, AsksPlaced, FetchesOf, LeavesPlaced, PlaceFailed, Places, PlacesFetched, ReadFailed, SaysAfter}
+use Rattle.pv_top.specs.Run.{Says, Answered, IsAnswer, graphs_in, all_calls, fetch_calls, place_calls, GrewBy, HasBadFile, IsBad, AskedFor, CallsFor, HoldsPlaced, LeavesAt, LeavesNamed, LeavesBy, Leaves}
+use Rattle.pv_top.specs.Fetching.{HoldAll, AnswersFetched, AreFetched, AsksPlaced, ComposesIn, FetchesOf, LeavesPlaced, PlaceFailed, Places, PlacesFetched, ReadFailed, SaysAfter, content_of}
 use Rattle.pv_top.proofs.Answering.{Contents, contents_of, said_of, said_result}
 use Rattle.pv_top.proofs.Asking.{grew_more, more_nothing}
 use Rattle.pv_top.proofs.Saying.{answered_said, as_put, no_read_fault}
@@ -44,14 +47,78 @@ report_whole status.Others is = refl
 report_whole s is = absurd (cc is)
 
 -- where something is placed, a report is said
-judged_report : (options : Options) (a b text : List ℕ) (s : Status) → s ≢ status.BadClass → Judged options a b text s → is_report s ≡ true
+judged_report : (options : Options) (a b text : List ℕ) (s : Status) → (IsBad s → ⊥) → Judged options a b text s → is_report s ≡ true
 judged_report options a b text status.AllEquivalent other h = refl
 judged_report options a b text status.Others other h = refl
-judged_report options a b text status.BadClass other h = absurd (other refl)
+judged_report options a b text status.BadClass other h = absurd (other tt)
 judged_report options a b text _ other h = absurd h.2
+
+composed_report : (a b c x y text : List ℕ) (s : Status) → (IsBad s → ⊥) → Composed a b c x y text s → is_report s ≡ true
+composed_report a b c x y text status.AllEquivalent other h = refl
+composed_report a b c x y text status.BadClass other h = absurd (other tt)
+composed_report a b c x y text status.BadCert other h = absurd (other tt)
+composed_report a b c x y text _ other h = absurd h
+
+-- a composition that places nothing has the status of a bad file
+composed_bad : (a b c x y text : List ℕ) (s : Status) → s ≢ status.AllEquivalent → Composed a b c x y text s → IsBad s
+composed_bad a b c x y text status.AllEquivalent other h = absurd (other refl)
+composed_bad a b c x y text status.BadClass other h = tt
+composed_bad a b c x y text status.BadCert other h = tt
+composed_bad a b c x y text _ other h = absurd h
+
+-- what holds of the bytes of three files and two certificates, holds of all contents that were fetched for a composition
+five_contents : (P : List (List ℕ) → Type 0) (name a b c x y : List ℕ) (first second third one two : Fetched) → ((j k l m n : List ℕ) → AreContents first second third one two j k l m n → P (j ∷ k ∷ l ∷ m ∷ n ∷ [])) → (contents : List (List ℕ))
+    → AreFetched (fetches (Compose a b c x y name)) (first ∷ second ∷ third ∷ one ∷ two ∷ []) contents → P contents
+five_contents P name a b c x y first second third one two h (j ∷ k ∷ l ∷ m ∷ n ∷ []) f = h j k l m n (record { first = f.0; second = f.1.0; third = f.1.1.0; one = f.1.1.1.0; two = f.1.1.1.1.0 })
+five_contents P name a b c x y first second third one two h [] f = absurd f
+five_contents P name a b c x y first second third one two h (j ∷ []) f = absurd f.1
+five_contents P name a b c x y first second third one two h (j ∷ k ∷ []) f = absurd f.1.1
+five_contents P name a b c x y first second third one two h (j ∷ k ∷ l ∷ []) f = absurd f.1.1.1
+five_contents P name a b c x y first second third one two h (j ∷ k ∷ l ∷ m ∷ []) f = absurd f.1.1.1.1
+five_contents P name a b c x y first second third one two h (j ∷ k ∷ l ∷ m ∷ n ∷ o ∷ more) f = absurd f.1.1.1.1.1
+
+-- five that were fetched, by their places
+pub five_items : (fetched : List Fetched) (a b c d e : Fetched) → length fetched ≡ 5 → a ≡ get_or fetched 0 a → b ≡ get_or fetched 1 b → c ≡ get_or fetched 2 c → d ≡ get_or fetched 3 d → e ≡ get_or fetched 4 e → a ∷ b ∷ c ∷ d ∷ e ∷ [] ≡ fetched
+five_items (v ∷ w ∷ x ∷ y ∷ z ∷ []) a b c d e n p q r s t = cc (p, q, r, s, t)
+five_items [] a b c d e n p q r s t = absurd (omega (arith, n))
+five_items (v ∷ []) a b c d e n p q r s t = absurd (omega (arith, n))
+five_items (v ∷ w ∷ []) a b c d e n p q r s t = absurd (omega (arith, n))
+five_items (v ∷ w ∷ x ∷ []) a b c d e n p q r s t = absurd (omega (arith, n))
+five_items (v ∷ w ∷ x ∷ y ∷ []) a b c d e n p q r s t = absurd (omega (arith, n))
+five_items (v ∷ w ∷ x ∷ y ∷ z ∷ o ∷ more) a b c d e n p q r s t = absurd (omega (arith, n))
+
+module _ (name a b c x y : List ℕ) (first second third one two : Fetched) (text : List ℕ) (s : Status) where
+  -- what is said of them is what the command answers
+  chain_answers : ComposesFetched first second third one two text s → AnswersFetched (Compose a b c x y name) (first ∷ second ∷ third ∷ one ∷ two ∷ []) text s
+  chain_answers answers = five_contents (λ (contents : List (List ℕ)). IsAnswer (Compose a b c x y name) contents text s) name a b c x y first second third one two answers
+
+  -- .. and their chain what it places
+  chain_places : (p : Option (List ℕ × List ℕ)) → ComposesFetched first second third one two text s → ComposesIn name first second third one two s p → PlacesFetched (Compose a b c x y name) (first ∷ second ∷ third ∷ one ∷ two ∷ []) s p
+  chain_places (Some p) answers makes = five_contents (λ (contents : List (List ℕ)). Places (Compose a b c x y name) contents s (Some p)) name a b c x y first second third one two (λ j k l m n are. (ap Some (sym makes.0), makes.1 j k l m n are, λ bad. subst IsBad makes.2 bad))
+  chain_places None answers makes = five_contents (λ (contents : List (List ℕ)). Places (Compose a b c x y name) contents s None) name a b c x y first second third one two (λ j k l m n are. inr (composed_bad j k l m n text s makes (answers j k l m n are)))
+
+module _ (command : Command (List ℕ)) (fetched : List Fetched) (name a b c x y : List ℕ) (first second third one two : Fetched) (is : command ≡ Compose a b c x y name) (items : first ∷ second ∷ third ∷ one ∷ two ∷ [] ≡ fetched) where
+  -- .. where there is a reply
+  pub reply_answers : {E : Type 0} (r : Result Reply E) → IfOk r (λ reply. ComposesFetched first second third one two reply.answer.text.items reply.answer.status) → IfOk r (λ reply. AnswersFetched command fetched reply.answer.text.items reply.answer.status)
+  reply_answers (Err e) answers = tt
+  reply_answers (Ok reply) answers =
+      let text = reply.answer.text.items in
+      let s = reply.answer.status in
+      let all = chain_answers name a b c x y first second third one two text s answers in
+      subst (λ (k : Command (List ℕ)). AnswersFetched k fetched text s) (sym is) (subst (λ (f : List Fetched). AnswersFetched (Compose a b c x y name) f text s) items all)
+
+  pub reply_places : {E : Type 0} (r : Result Reply E) → IfOk r (λ reply. ComposesFetched first second third one two reply.answer.text.items reply.answer.status) → IfOk r (λ reply. ComposesIn name first second third one two reply.answer.status (content_of reply.placed))
+      → IfOk r (λ reply. PlacesFetched command fetched reply.answer.status (content_of reply.placed))
+  reply_places (Err e) answers makes = tt
+  reply_places (Ok reply) answers makes =
+      let s = reply.answer.status in
+      let p = content_of reply.placed in
+      let all = chain_places name a b c x y first second third one two reply.answer.text.items s p answers makes in
+      subst (λ (k : Command (List ℕ)). PlacesFetched k fetched s p) (sym is) (subst (λ (f : List Fetched). PlacesFetched (Compose a b c x y name) f s p) items all)
 
 placed_report : (c : Command (List ℕ)) (contents : List (List ℕ)) (p : List ℕ × List ℕ) (text : List ℕ) (s : Status) → IsAnswer c contents text s → Places c contents s (Some p) → is_report s ≡ true
 placed_report (Validate a b axioms rounds budget mode) (x ∷ y ∷ []) p text s answer places = judged_report (record { limits = record { axioms = axioms; rounds = rounds; budget = budget }; graphs = graphs_in mode }) x y text s places.2 answer
+placed_report (Compose a b c x y out) (j ∷ k ∷ l ∷ m ∷ n ∷ []) p text s answer places = composed_report j k l m n text s places.2 answer
 placed_report _ _ p text s answer places = absurd places.1
 
 -- what is said has its own status, or that of a fault of the sink
@@ -134,16 +201,16 @@ module _ (held : Option Stored) (c : Command (List ℕ)) (fetched : List Fetched
           | inr failed ↦ inr failed.1
         ]
 
-    -- .. and where nothing is: the command has no name for it, or a file is no class file
-    bare_result : IsReply held c fetched None text meant → Says old new text meant result write_rose → (placed_name c ≡ None) ⊎ (HasBadFile held c × ((result ≡ status.BadClass) ⊎ ((result ≡ status.WriteFault) × write_rose)))
+    -- .. and where nothing is: the command has no name for it, or a file is bad
+    bare_result : IsReply held c fetched None text meant → Says old new text meant result write_rose → (placed_name c ≡ None) ⊎ (HasBadFile held c × (IsBad result ⊎ ((result ≡ status.WriteFault) × write_rose)))
     bare_result r says =
         let g = got r.holds in
         elim (r.places g.contents g.are_fetched) [
           | inl none ↦ inl none
           | inr bad ↦ inr (
-            record { contents = g.contents; are_held = g.are_held; text = text; answer = subst (IsAnswer c g.contents text) bad (r.answers g.contents g.are_fetched) },
+            record { contents = g.contents; are_held = g.are_held; text = text; meant = meant; bad = bad; answer = r.answers g.contents g.are_fetched },
             elim (said_status old new text meant result write_rose says) [
-              | inl e ↦ inl (e ∙ bad)
+              | inl e ↦ inl (subst IsBad (sym e) bad)
               | inr e ↦ inr e
             ],
           )
@@ -191,8 +258,13 @@ module _ (held : Option Stored) (c : Command (List ℕ)) (old new : Option (List
   unnamed_asked status.ReadFault other none grew = absurd (other refl)
   unnamed_asked _ other none grew = grew
 
-  bad_asked : (s : Status) → HasBadFile held c → (s ≡ status.BadClass) ⊎ ((s ≡ status.WriteFault) × write_rose) → GrewBy old new (fetch_calls c) → AskedFor held c old new write_rose s
-  bad_asked s bad (inl is) grew = subst (λ (t : Status). AskedFor held c old new write_rose t) (sym is) grew
+  bad_said : (s : Status) → IsBad s → GrewBy old new (fetch_calls c) → AskedFor held c old new write_rose s
+  bad_said status.BadClass is grew = grew
+  bad_said status.BadCert is grew = grew
+  bad_said _ is grew = absurd is
+
+  bad_asked : (s : Status) → HasBadFile held c → IsBad s ⊎ ((s ≡ status.WriteFault) × write_rose) → GrewBy old new (fetch_calls c) → AskedFor held c old new write_rose s
+  bad_asked s bad (inl is) grew = bad_said s is grew
   bad_asked s bad (inr is) grew = subst (λ (t : Status). AskedFor held c old new write_rose t) (sym is.0) (inr (is.1, bad, grew))
 
 -- what a reply asks
@@ -261,9 +333,14 @@ module _ (c : Command (List ℕ)) (files_rose write_rose : Type 0) where
       go None e = left_named None held held s e refl
       go (Some name) e = left_named (Some name) held held s e (same_left c name files_rose write_rose held s is fault)
 
-  -- .. since one of its files is no class file
-  unchanged_bad : (held : Option Stored) (s : Status) → HasBadFile held c → (s ≡ status.BadClass) ⊎ ((s ≡ status.WriteFault) × write_rose) → Leaves (Some c) held held files_rose write_rose s
-  unchanged_bad held s bad (inl e) = unchanged held s (ap is_report e) (λ fault. absurd (cc (e, fault)))
+  -- .. since one of its files is bad
+  unchanged_said : (held : Option Stored) (s : Status) → IsBad s → Leaves (Some c) held held files_rose write_rose s
+  unchanged_said held status.BadClass is = unchanged held status.BadClass refl (λ fault. absurd (cc fault))
+  unchanged_said held status.BadCert is = unchanged held status.BadCert refl (λ fault. absurd (cc fault))
+  unchanged_said held _ is = absurd is
+
+  unchanged_bad : (held : Option Stored) (s : Status) → HasBadFile held c → IsBad s ⊎ ((s ≡ status.WriteFault) × write_rose) → Leaves (Some c) held held files_rose write_rose s
+  unchanged_bad held s bad (inl is) = unchanged_said held s is
   unchanged_bad held s bad (inr e) = unchanged held s (ap is_report e.0) (λ fault. (e.1, bad))
 
   -- .. since a fetch failed, or memory ran out

@@ -7,7 +7,7 @@ use Rattle.pv_base.specs.Outside.{more}
 use Rattle.pv_report.specs.declared.status.Status.{Status}
 use Rattle.pv_report.specs.declared.status.Status.TheVariants as status
 use Rattle.pv_top.specs.declared.words.Command.{Command}
-use Rattle.pv_top.specs.declared.words.Command.TheVariants.{Validate, Check, Refute}
+use Rattle.pv_top.specs.declared.words.Command.TheVariants.{Validate, Check, Compose, CheckChain, Refute}
 use Rattle.pv_top.specs.Run.{Puts, Says, Answered, IsAnswer, SaidOf}
 use Rattle.pv_top.specs.Fetching.{ReadFailed}
 use Rattle.pv_top.specs.Promise.{IsLineOf, EndsWith, HaveOneMeaning, EachEquivalent}
@@ -37,6 +37,8 @@ answer_said c contents text status.BadWords h = refl
 answer_said c contents text status.WriteFault h = refl
 answer_said (Validate a b axioms rounds budget mode) (x ∷ y ∷ []) text _ (vs, r, is) = absurd is
 answer_said (Check a b c) (x ∷ y ∷ z ∷ []) text _ (fs, r, is) = absurd is
+answer_said (Compose a b c x y out) (j ∷ k ∷ l ∷ m ∷ n ∷ []) text _ is = absurd is
+answer_said (CheckChain a c chain) (x ∷ y ∷ z ∷ []) text _ (fs, r, is) = absurd is
 answer_said (Refute a b tries steps) (x ∷ y ∷ []) text _ (fs, r, is) = absurd is
 answer_said _ _ text _ h = absurd h
 

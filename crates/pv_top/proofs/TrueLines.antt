@@ -26,6 +26,14 @@ use Rattle.pv_sections.specs.Lines.{bad_certificate, flaw_words, section_line}
 use Rattle.pv_sections.specs.Ruled.{IsCertReport, Ruled}
 use Rattle.pv_sections.proofs.Cited.{accepted_meaning, bad_certificate_other, bad_certificate_whole, only_accepted, whole_section}
 use Rattle.pv_sections.specs.declared.flaw.Flaw.{Flaw}
+use Rattle.pv_links.specs.declared.finding.LinkFinding.{LinkFinding}
+use Rattle.pv_links.specs.declared.finding.LinkFinding.TheVariants as link
+use Rattle.pv_links.specs.Composed.{Composed}
+use Rattle.pv_links.specs.Findings as links
+use Rattle.pv_links.specs.Lines.{bad_link_words, chain_flaw_words, link_line}
+use Rattle.pv_links.specs.Stages.{ordinal_word}
+use Rattle.pv_links.specs.Ruled.{ChainRuled, IsChainReport}
+use Rattle.pv_links.proofs.Cited.{bad_chain_other, bad_chain_whole, bad_link_other, bad_link_whole, bad_stage_other, bad_stage_whole, equivalent_means, composed_other, composed_whole, only_link, whole_link}
 use Rattle.pv_top.specs.Promise.{IsLineOf}
 use Rattle.pv_top.proofs.Files.{HoldsBoth, has_bytes}
 use Rattle.pv_top.proofs.Saying.{IsTrueOf}
@@ -112,6 +120,48 @@ ruled_line held a b first second cert text status.BadCert h bad = flaw_line held
 ruled_line held a b first second cert text status.AllEquivalent h (fs, r, is) = finding_line held a b first second cert text fs h r
 ruled_line held a b first second cert text status.Others h (fs, r, is) = finding_line held a b first second cert text fs h r
 ruled_line held a b first second cert text _ h (fs, r, is) = absurd is
+
+-- ---- a composition
+
+pub composed_line : (held : Option Stored) (a c first second third one two text : List ℕ) (s : Status) → Composed first second third one two text s → IsTrueOf held a c text
+composed_line held a c first second third one two text status.BadClass (s, f, bad, e) = one_other held a c text (in_words (codes "bad" ∷ codes "class" ∷ ordinal_word s ∷ fault_words f)) e (bad_stage_whole s f) (bad_stage_other s f)
+composed_line held a c first second third one two text status.BadCert (classes, (l, bad, e)) = one_other held a c text (in_words (codes "bad" ∷ codes "link" ∷ bad_link_words l)) e (bad_link_whole l) (bad_link_other l)
+composed_line held a c first second third one two text status.AllEquivalent (made, e) = one_other held a c text (codes "composed") e composed_whole composed_other
+composed_line held a c first second third one two text _ none = absurd none
+
+-- ---- a report on a chain
+
+links_line : (held : Option Stored) (a c first last chain text : List ℕ) (findings : List LinkFinding) → HoldsBoth held a c first last → IsChainReport first last chain findings text → IsTrueOf held a c text
+links_line held a c first last chain text findings h r line l ends =
+    let found = line_among (links.IsFinding r.first r.middle r.last) link_line whole_link (links.links r.chain.first.sections r.chain.second.sections) findings line r.lines.each (subst (λ (t : List ℕ). IsLineOf t line) r.lines.text_is l) in
+    let x = found.thing in
+    let is = only_link x found.answer ends.0 (sym found.says ∙ ends.1) in
+    let equal = equivalent_means first last chain text findings r x h.first_bytes h.second_bytes (subst (λ (f : LinkFinding). links.IsFinding r.first r.middle r.last x f) is found.is) in
+    let m = equal.0 in
+    let named = equal.2 in
+    record {
+      first = first;
+      second = last;
+      first_held = h.first_held;
+      second_held = h.second_held;
+      first_file = r.first;
+      second_file = r.last;
+      first_is = r.first_is;
+      second_is = r.last_is;
+      method = m;
+      among = named.among;
+      partner = equal.1;
+      partner_is = equal.3;
+      says = found.says ∙ ap (link_line x) is ∙ ap (λ (n : List ℕ). method_line n x.0.desc (verdict_words Equivalent)) (sym named.name_is) ∙ ap (λ (d : List ℕ). method_line m.name d (verdict_words Equivalent)) (sym named.desc_is);
+      equivalent = equal.4;
+    }
+
+pub chain_line : (held : Option Stored) (a c first last chain text : List ℕ) (s : Status) → HoldsBoth held a c first last → ChainRuled first last chain text s → IsTrueOf held a c text
+chain_line held a c first last chain text status.BadClass h bad = bad_pair held a c first last text bad
+chain_line held a c first last chain text status.BadCert h (one, two, (f, bad, e)) = one_other held a c text (in_words (codes "bad" ∷ codes "chain" ∷ chain_flaw_words f)) e (bad_chain_whole f) (bad_chain_other f)
+chain_line held a c first last chain text status.AllEquivalent h (fs, r, is) = links_line held a c first last chain text fs h r
+chain_line held a c first last chain text status.Others h (fs, r, is) = links_line held a c first last chain text fs h r
+chain_line held a c first last chain text _ h (fs, r, is) = absurd is
 
 -- ---- a report on differences
 

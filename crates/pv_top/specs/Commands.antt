@@ -7,7 +7,7 @@ use Rattle.pv_words.specs.Words.{Give}
 use Rattle.pv_top.specs.declared.words.Mode.{Mode}
 use Rattle.pv_top.specs.declared.words.Mode.TheVariants.{Plain, Counted, Cert}
 use Rattle.pv_top.specs.declared.words.Command.{Command}
-use Rattle.pv_top.specs.declared.words.Command.TheVariants.{Validate, Check, Refute}
+use Rattle.pv_top.specs.declared.words.Command.TheVariants.{Validate, Check, Compose, CheckChain, Refute}
 use Rattle.pv_top.specs.Words.{IsCommand, IsLimit, IsMode, IsSet, arguments_alone}
 
 -- a mode by its name
@@ -20,6 +20,8 @@ named_mode (Cert name) = Cert name.now
 abbrev pub named : Command (Bor (List ℕ)) → Command (List ℕ)
 named (Validate a b axioms rounds budget mode) = Validate a.now b.now axioms rounds budget (named_mode mode)
 named (Check a b cert) = Check a.now b.now cert.now
+named (Compose a b c x y out) = Compose a.now b.now c.now x.now y.now out.now
+named (CheckChain a c chain) = CheckChain a.now c.now chain.now
 named (Refute a b tries steps) = Refute a.now b.now tries steps
 
 abbrev pub IsRead : List (Bor (List ℕ)) → Option (Command (Bor (List ℕ))) → Type 0

@@ -13,12 +13,14 @@ use Rattle.pv_report.specs.declared.status.Status.{Status}
 use Rattle.pv_report.specs.declared.status.Status.TheVariants as status
 use Rattle.pv_report.specs.Judging.{IsFetched, IsFetchedWithin}
 use Rattle.pv_sections.specs.Certified.{IsCertificateFor}
+use Rattle.pv_links.specs.Composed.{IsChainFor}
+use Rattle.pv_links.specs.Reading.{AreContents}
 use Rattle.pv_top.specs.declared.words.Command.{Command}
 use Rattle.pv_top.specs.declared.top.Wanted.{Wanted}
 use Rattle.pv_top.specs.declared.top.Placed.{Placed}
 use Rattle.pv_top.specs.Promise.{Holds}
 use Rattle.pv_top.specs.Words.{fetches, placed_name}
-use Rattle.pv_top.specs.Run.{IsAnswer, IsPlaced, IsThere, GrewBy, Says}
+use Rattle.pv_top.specs.Run.{IsAnswer, IsBad, IsPlaced, IsThere, GrewBy, Says}
 
 -- ---- fetches
 
@@ -81,10 +83,10 @@ abbrev pub named_as : List ℕ → Option (Vec ℕ) → Option (List ℕ × List
 named_as name bytes = option_map (λ v. (name, v.items)) bytes
 
 -- what a command places, by the bytes of its files and the status of its answer; nothing, where it has no name for it or one of its
--- files has no reading
+-- files is bad
 abbrev pub Places : Command (List ℕ) → List (List ℕ) → Status → Option (List ℕ × List ℕ) → Type 0
-Places c contents s (Some p) = (placed_name c ≡ Some p.0) × IsPlaced c contents p.1 × (s ≢ status.BadClass)
-Places c contents s None = (placed_name c ≡ None) ⊎ (s ≡ status.BadClass)
+Places c contents s (Some p) = (placed_name c ≡ Some p.0) × IsPlaced c contents p.1 × (IsBad s → ⊥)
+Places c contents s None = (placed_name c ≡ None) ⊎ IsBad s
 
 -- .. by what was fetched
 abbrev pub PlacesFetched : Command (List ℕ) → List Fetched → Status → Option (List ℕ × List ℕ) → Type 0
@@ -94,6 +96,11 @@ PlacesFetched c fetched s placed = (contents : List (List ℕ)) → AreFetched (
 abbrev pub ShowsIn : Limits → List ℕ → Fetched → Fetched → Status → Option (List ℕ × List ℕ) → Type 0
 ShowsIn limits name first second s (Some p) = (p.0 ≡ name) × ((a b : List ℕ) → IsFetched first a → IsFetched second b → IsCertificateFor limits a b p.1) × (s ≢ status.BadClass)
 ShowsIn limits name first second s None = s ≡ status.BadClass
+
+-- the chain of three files and two certificates that were fetched, under this name; nothing, where one of them is bad
+abbrev pub ComposesIn : List ℕ → (first second third one two : Fetched) → Status → Option (List ℕ × List ℕ) → Type 0
+ComposesIn name first second third one two s (Some p) = (p.0 ≡ name) × ((a b c x y : List ℕ) → AreContents first second third one two a b c x y → IsChainFor a b c x y p.1) × (s ≡ status.AllEquivalent)
+ComposesIn name first second third one two s None = s ≢ status.AllEquivalent
 
 -- ---- how it is given
 

@@ -12,12 +12,14 @@ use Rattle.pv_report.specs.Report.{Judged}
 use Rattle.pv_differences.specs.Refuted.{Refuted}
 use Rattle.pv_sections.specs.Certified.{IsCertificateFor}
 use Rattle.pv_sections.specs.Ruled.{Ruled}
+use Rattle.pv_links.specs.Composed.{Composed, IsChainFor}
+use Rattle.pv_links.specs.Ruled.{ChainRuled}
 use Rattle.pv_report.specs.declared.verdict.Graphs.{Graphs}
 use Rattle.pv_report.specs.declared.verdict.Graphs.TheVariants.{Least, LeastOrCleared}
 use Rattle.pv_top.specs.declared.words.Mode.{Mode}
 use Rattle.pv_top.specs.declared.words.Mode.TheVariants.{Counted}
 use Rattle.pv_top.specs.declared.words.Command.{Command}
-use Rattle.pv_top.specs.declared.words.Command.TheVariants.{Validate, Check, Refute}
+use Rattle.pv_top.specs.declared.words.Command.TheVariants.{Validate, Check, Compose, CheckChain, Refute}
 use Rattle.pv_top.specs.Words.{fetches, names_of, placed_name, bad_words}
 use Rattle.pv_top.specs.Promise.{Holds}
 
@@ -41,6 +43,8 @@ graphs_in mode = Least
 abbrev pub IsAnswer : Command (List ℕ) → List (List ℕ) → List ℕ → Status → Type 0
 IsAnswer (Validate a b axioms rounds budget mode) (x ∷ y ∷ []) text s = Judged (record { limits = record { axioms = axioms; rounds = rounds; budget = budget }; graphs = graphs_in mode }) x y text s
 IsAnswer (Check a b cert) (x ∷ y ∷ z ∷ []) text s = Ruled x y z text s
+IsAnswer (Compose a b c x y out) (j ∷ k ∷ l ∷ m ∷ n ∷ []) text s = Composed j k l m n text s
+IsAnswer (CheckChain a c chain) (x ∷ y ∷ z ∷ []) text s = ChainRuled x y z text s
 IsAnswer (Refute a b tries steps) (x ∷ y ∷ []) text s = Refuted (record { tries = tries; steps = steps }) x y text s
 IsAnswer c contents text s = ⊥
 
@@ -58,12 +62,20 @@ pub record SaidOf (held : Option Stored) (c : Command (List ℕ)) (old new : Opt
   pub answer : IsAnswer c contents text meant
   pub says : Says old new text meant result write_rose
 
--- one of the command's files is no class file, as its answer says
+-- the status of an answer that a file is no class, or no certificate or chain for the others
+abbrev pub IsBad : Status → Type 0
+IsBad status.BadClass = Unit {0}
+IsBad status.BadCert = Unit {0}
+IsBad s = ⊥
+
+-- so it is of one of the command's files, as its answer says
 pub record HasBadFile (held : Option Stored) (c : Command (List ℕ)) : Type 0 where
   pub contents : List (List ℕ)
   pub are_held : AreContents held c contents
   pub text : List ℕ
-  pub answer : IsAnswer c contents text status.BadClass
+  pub meant : Status
+  pub bad : IsBad meant
+  pub answer : IsAnswer c contents text meant
 
 -- the command places something, and this failed before anything was said
 abbrev pub FailsToPlace : Command (List ℕ) → Option (List ℕ) → Option (List ℕ) → Type 0 → Type 0
@@ -100,7 +112,7 @@ IsThere held name = (bytes : List ℕ) × Holds held name bytes
 abbrev pub GrewBy : Option (List Asked) → Option (List Asked) → List Asked → Type 0
 GrewBy old new calls = new ≡ more old calls
 
--- The record of calls grows by all calls of the command; by its fetches alone, where a file of it is no class file. Where a fetch fails,
+-- The record of calls grows by all calls of the command; by its fetches alone, where a file of it is bad. Where a fetch fails,
 -- it grows by those up to this one, and the names before it are there; where memory runs out, by the first n calls, for some n.
 abbrev pub AskedFor : Option Stored → Command (List ℕ) → Option (List Asked) → Option (List Asked) → Type 0 → Status → Type 0
 AskedFor held c old new write_rose status.Memory = (n : ℕ) × GrewBy old new (take n (all_calls c))
@@ -120,6 +132,7 @@ CallsFor held (Some c) old new write_rose result = AskedFor held c old new write
 -- the bytes that a command places, by the bytes of its files
 abbrev pub IsPlaced : Command (List ℕ) → List (List ℕ) → List ℕ → Type 0
 IsPlaced (Validate a b axioms rounds budget mode) (x ∷ y ∷ []) bytes = IsCertificateFor (record { axioms = axioms; rounds = rounds; budget = budget }) x y bytes
+IsPlaced (Compose a b c x y out) (j ∷ k ∷ l ∷ m ∷ n ∷ []) bytes = IsChainFor j k l m n bytes
 IsPlaced c contents bytes = ⊥
 
 -- the name holds what the command places for what the store had under the names of its files, and nothing else changed
@@ -130,7 +143,7 @@ pub record HoldsPlaced (old new : Stored) (c : Command (List ℕ)) (name : List 
   pub placed : IsPlaced c contents bytes
   pub new_is : new ≡ insert old name bytes
 
--- where the sink failed, the command had placed what it places; or one of its files is no class file, and nothing changed
+-- where the sink failed, the command had placed what it places; or one of its files is bad, and nothing changed
 abbrev pub LeavesUnsaid : List ℕ → Command (List ℕ) → Stored → Stored → Type 0
 LeavesUnsaid name c old new = HoldsPlaced old new c name ⊎ (HasBadFile (Some old) c × (new ≡ old))
 

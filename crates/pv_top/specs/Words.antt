@@ -5,6 +5,7 @@ use Rattle.pv_report.specs.Options.{AxiomSet}
 use Rattle.pv_report.specs.Options.{Core, All}
 use Rattle.pv_report.specs.Lines.{line_text}
 use Rattle.pv_sections.specs.declared.certificate.TheConstants.{LONGEST_CERT}
+use Rattle.pv_links.specs.declared.chain.TheConstants.{LONGEST_CHAIN}
 use Rattle.pv_words.specs.Words as words
 use Rattle.pv_words.specs.Words.{Give}
 use Rattle.pv_words.specs.Numbers.{IsNumber}
@@ -12,7 +13,7 @@ use Rattle.pv_top.specs.declared.words.TheConstants.{DEFAULT_ROUNDS, MOST_ROUNDS
 use Rattle.pv_top.specs.declared.words.Mode.{Mode}
 use Rattle.pv_top.specs.declared.words.Mode.TheVariants.{Plain, Counted, Cert}
 use Rattle.pv_top.specs.declared.words.Command.{Command}
-use Rattle.pv_top.specs.declared.words.Command.TheVariants.{Validate, Check, Refute}
+use Rattle.pv_top.specs.declared.words.Command.TheVariants.{Validate, Check, Compose, CheckChain, Refute}
 
 -- the value of an option is this number, which lies between two bounds; an option that isn't given has a default
 abbrev pub IsLimit : (least most default : ℕ) → Option (List ℕ) → ℕ → Type 0
@@ -73,6 +74,8 @@ pub record GiveRefute (rest : List (List ℕ)) (a b : List ℕ) (tries steps : �
 abbrev pub AreOf : List (List ℕ) → Command (List ℕ) → Type 0
 AreOf words (Validate a b axioms rounds budget mode) = (rest : List (List ℕ)) × (words ≡ codes "validate" ∷ rest) × GiveValidate rest a b axioms rounds budget mode
 AreOf words (Check a b cert) = (rest : List (List ℕ)) × (words ≡ codes "check" ∷ rest) × Give (arguments_alone 3) rest [] [] (a ∷ b ∷ cert ∷ [])
+AreOf words (Compose a b c x y out) = (rest : List (List ℕ)) × (words ≡ codes "compose" ∷ rest) × Give (arguments_alone 6) rest [] [] (a ∷ b ∷ c ∷ x ∷ y ∷ out ∷ [])
+AreOf words (CheckChain a c chain) = (rest : List (List ℕ)) × (words ≡ codes "check-chain" ∷ rest) × Give (arguments_alone 3) rest [] [] (a ∷ c ∷ chain ∷ [])
 AreOf words (Refute a b tries steps) = (rest : List (List ℕ)) × (words ≡ codes "refute" ∷ rest) × GiveRefute rest a b tries steps
 
 -- the command that the words are, None where they are none
@@ -84,6 +87,8 @@ IsCommand words None = (c : Command (List ℕ)) → AreOf words c → ⊥
 abbrev pub fetches : Command (List ℕ) → List (List ℕ × ℕ)
 fetches (Validate a b axioms rounds budget mode) = (a, LONGEST_FILE) ∷ (b, LONGEST_FILE) ∷ []
 fetches (Check a b cert) = (a, LONGEST_FILE) ∷ (b, LONGEST_FILE) ∷ (cert, LONGEST_CERT) ∷ []
+fetches (Compose a b c x y out) = (a, LONGEST_FILE) ∷ (b, LONGEST_FILE) ∷ (c, LONGEST_FILE) ∷ (x, LONGEST_CERT) ∷ (y, LONGEST_CERT) ∷ []
+fetches (CheckChain a c chain) = (a, LONGEST_FILE) ∷ (c, LONGEST_FILE) ∷ (chain, LONGEST_CHAIN) ∷ []
 fetches (Refute a b tries steps) = (a, LONGEST_FILE) ∷ (b, LONGEST_FILE) ∷ []
 
 abbrev pub names_of : Command (List ℕ) → List (List ℕ)
@@ -98,17 +103,23 @@ cert_in mode = None
 abbrev pub placed_name : Command (List ℕ) → Option (List ℕ)
 placed_name (Validate a b axioms rounds budget mode) = cert_in mode
 placed_name (Check a b cert) = None
+placed_name (Compose a b c x y out) = Some out
+placed_name (CheckChain a c chain) = None
 placed_name (Refute a b tries steps) = None
 
 -- the two class files of whose methods a command speaks
 abbrev pub first_of : Command (List ℕ) → List ℕ
 first_of (Validate a b axioms rounds budget mode) = a
 first_of (Check a b cert) = a
+first_of (Compose a b c x y out) = a
+first_of (CheckChain a c chain) = a
 first_of (Refute a b tries steps) = a
 
 abbrev pub second_of : Command (List ℕ) → List ℕ
 second_of (Validate a b axioms rounds budget mode) = b
 second_of (Check a b cert) = b
+second_of (Compose a b c x y out) = c
+second_of (CheckChain a c chain) = c
 second_of (Refute a b tries steps) = b
 
 -- the line on words that aren't a command

@@ -8,18 +8,20 @@ ghost use Rattle.pv_base.specs.declared.outside.Asked.TheVariants.{Fetch, Place}
 ghost use Rattle.pv_words.specs.Answers.{texts};
 ghost use Rattle.pv_report.specs.Judging.{JudgesFetched};
 ghost use Rattle.pv_report.specs.Options.{in_least, options_of};
+ghost use Rattle.pv_links.specs.Reading.{ComposesFetched};
 ghost use Rattle.pv_report.specs.declared.verdict.Detail.TheVariants as Detail;
 ghost use Rattle.pv_top.specs.Words.{IsCommand, fetches, first_of, names_of, second_of};
 ghost use Rattle.pv_top.specs.Commands.{named};
 ghost use Rattle.pv_top.specs.Run.{Answered, CallsFor, Leaves, Says};
 ghost use Rattle.pv_top.specs.Promise.{EachEquivalent};
-ghost use Rattle.pv_top.specs.Fetching.{AnswersFetched, Asks, AsksAll, AsksPlaced, ChangesAt, HoldAll, HoldsFetched, HoldsWanted, LeavesPlaced, PlaceFailed, PlacesFetched, PlacesIn, ReadFailed, SaysAfter, ShowsIn, content_of, named_as, wanted_names};
+ghost use Rattle.pv_top.specs.Fetching.{AnswersFetched, Asks, AsksAll, AsksPlaced, ChangesAt, ComposesIn, HoldAll, HoldsFetched, HoldsWanted, LeavesPlaced, PlaceFailed, PlacesFetched, PlacesIn, ReadFailed, SaysAfter, ShowsIn, content_of, named_as, wanted_names};
 ghost use Rattle.pv_top.specs.declared.words.Command as commands;
 
 use crate::words::{Command, Mode, command_of};
 use pv_base::{FileFault, Files, Gate, Sink};
 use pv_class::LONGEST_FILE;
 use pv_differences::{RunLimits, refute_all};
+use pv_links::{Composition, LONGEST_CHAIN, check_chain, compose};
 use pv_report::{Answer, Detail, Fetched, Graphs, Limits, Status, judge};
 use pv_sections::{LONGEST_CERT, Shown, rule, show};
 use pv_value::Memory;
@@ -54,7 +56,9 @@ pub(crate) struct Placed<'a> {
 /// meaning; with `--cert` it places under FILE, before that, the certificate of what is equivalent; with `--counted` it also searches
 /// in the graphs from which the tokens that end because of counted loops are cleared.
 /// `check A B CERT` fetches a certificate too, and says, in a line for each of its sections, whether
-/// the steps of the section show this of the two methods that it names. `refute [--tries N] [--steps N] A B` says, in a line for each
+/// the steps of the section show this of the two methods that it names. `compose A B C CERT1 CERT2 OUT` places under OUT the chain of a certificate
+/// for A and B and one for B and C, and `check-chain A C CHAIN` says, in a line for each section of the first that has one of the same method
+/// in the second, whether the two show this of the methods of A and C. `refute [--tries N] [--steps N] A B` says, in a line for each
 /// method of A, whether runs of it and its partner end with different outcomes. The gate is passed before each step, and by a search
 /// before each node at which the left side of an axiom may start.
 pub fn run<R: Threads + Sync, F: Files, K: Sink, G: Gate>(
@@ -151,6 +155,19 @@ fn reply_to<'a, G: Gate>(
             let answer = rule(alloc, gate, first, second, cert)?;
             Ok(said(answer))
         }
+        Command::Compose { out, .. } => {
+            let [first, second, third, one, two] = fetched else {
+                unreachable!();
+            };
+            compose_in(alloc, out, first, second, third, one, two)
+        }
+        Command::CheckChain { .. } => {
+            let [first, last, chain] = fetched else {
+                unreachable!();
+            };
+            let answer = check_chain(alloc, gate, first, last, chain)?;
+            Ok(said(answer))
+        }
         Command::Refute { tries, steps, .. } => {
             let [first, second] = fetched else {
                 unreachable!();
@@ -211,7 +228,27 @@ fn show_in<'a, G: Gate>(
     })
 }
 
-// A certificate, if any, under its name.
+// What is said of three class files and of two certificates between them, with the chain that they make under a name.
+fn compose_in<'a>(
+    alloc: Global,
+    name: &'a str,
+    first: &Fetched,
+    second: &Fetched,
+    third: &Fetched,
+    one: &Fetched,
+    two: &Fetched,
+) -> Result<Reply<'a>, Memory>
+    ensures answer { IfOk result (λ reply. ComposesFetched first.now second.now third.now one.now two.now reply.answer.text.items reply.answer.status) }
+    ensures placed { IfOk result (λ reply. ComposesIn name.entry.now first.now second.now third.now one.now two.now reply.answer.status (content_of reply.placed)) }
+{
+    let Composition { answer, chain } = compose(alloc, first, second, third, one, two)?;
+    Ok(Reply {
+        placed: placed_as(name, chain),
+        answer,
+    })
+}
+
+// A certificate or a chain, if any, under its name.
 fn placed_as<'a>(name: &'a str, certificate: Option<Vec<u8>>) -> Option<Placed<'a>>
     ensures { content_of result ≡ named_as name.entry.now certificate }
 {
@@ -294,6 +331,55 @@ fn fetch_files<F: Files>(
                 Wanted {
                     name: cert,
                     limit: LONGEST_CERT,
+                },
+            ];
+            fetch_all(alloc, &all, files)
+        }
+        Command::Compose {
+            first,
+            second,
+            third,
+            one,
+            two,
+            ..
+        } => {
+            let all = [
+                Wanted {
+                    name: first,
+                    limit: LONGEST_FILE,
+                },
+                Wanted {
+                    name: second,
+                    limit: LONGEST_FILE,
+                },
+                Wanted {
+                    name: third,
+                    limit: LONGEST_FILE,
+                },
+                Wanted {
+                    name: one,
+                    limit: LONGEST_CERT,
+                },
+                Wanted {
+                    name: two,
+                    limit: LONGEST_CERT,
+                },
+            ];
+            fetch_all(alloc, &all, files)
+        }
+        Command::CheckChain { first, last, chain } => {
+            let all = [
+                Wanted {
+                    name: first,
+                    limit: LONGEST_FILE,
+                },
+                Wanted {
+                    name: last,
+                    limit: LONGEST_FILE,
+                },
+                Wanted {
+                    name: chain,
+                    limit: LONGEST_CHAIN,
                 },
             ];
             fetch_all(alloc, &all, files)

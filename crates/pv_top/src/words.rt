@@ -62,6 +62,21 @@ pub enum Command<N> {
         second: N,
         cert: N,
     },
+    /// Make a chain of two certificates, for the first and the second class file and for the second and the third, and place it.
+    Compose {
+        first: N,
+        second: N,
+        third: N,
+        one: N,
+        two: N,
+        out: N,
+    },
+    /// Check a chain of two certificates for two class files.
+    CheckChain {
+        first: N,
+        last: N,
+        chain: N,
+    },
     /// Run the methods of two class files, by `tries` tries of at most `steps` steps each.
     Refute {
         first: N,
@@ -86,6 +101,10 @@ pub(crate) fn command_of<'a>(
         validate_of(alloc, rest)
     } else if name == "check" {
         check_of(alloc, rest)
+    } else if name == "compose" {
+        compose_of(alloc, rest)
+    } else if name == "check-chain" {
+        check_chain_of(alloc, rest)
     } else if name == "refute" {
         refute_of(alloc, rest)
     } else {
@@ -148,6 +167,46 @@ fn check_of<'a>(alloc: Global, words: &'a [&'a str]) -> Result<Option<Command<&'
         first: *first,
         second: *second,
         cert: *cert,
+    }))
+}
+
+// The command `compose` with these words after its name.
+fn compose_of<'a>(alloc: Global, words: &'a [&'a str]) -> Result<Option<Command<&'a str>>, Memory>
+    ensures { IfOk result (λ command. IsReadAs (codes "compose") words.now command) }
+{
+    let Some(given) = arguments_of(alloc, words, 6)? else {
+        return Ok(None);
+    };
+    let [first, second, third, one, two, out] = given.as_slice() else {
+        unreachable!();
+    };
+    Ok(Some(Command::Compose {
+        first: *first,
+        second: *second,
+        third: *third,
+        one: *one,
+        two: *two,
+        out: *out,
+    }))
+}
+
+// The command `check-chain` with these words after its name.
+fn check_chain_of<'a>(
+    alloc: Global,
+    words: &'a [&'a str],
+) -> Result<Option<Command<&'a str>>, Memory>
+    ensures { IfOk result (λ command. IsReadAs (codes "check-chain") words.now command) }
+{
+    let Some(given) = arguments_of(alloc, words, 3)? else {
+        return Ok(None);
+    };
+    let [first, last, chain] = given.as_slice() else {
+        unreachable!();
+    };
+    Ok(Some(Command::CheckChain {
+        first: *first,
+        last: *last,
+        chain: *chain,
     }))
 }
 

@@ -10,9 +10,10 @@
 //! end.
 //!
 //! The layer above uses `certify`: the steps derive (`derives`), each is the last or is cited by a later one (`lean`), and each has a
-//! spelling (`spelled`).
+//! spelling (`spelled`). It takes the search itself (`find` of `pv_prove`, with its limits and its table) from here too.
 #![tactic(auto)]
 
 mod steps;
 
+pub use pv_prove::{AxiomSet, Found, Limits, Outcome, axioms_in, find};
 pub use steps::certify;

@@ -9,7 +9,10 @@
 //! (`law_grounds_stay`, `specs/Grounds`). New classes are grounded, and a round keeps them so (`law_round`, `specs/Rounds`); so all
 //! joins of a search have their grounds in its graph. The proofs have the first for whatever may be given (`proofs/Staying`). And what
 //! rests so is the same (`law_same`, `specs/Same`): nodes of the least graph that a search put into one class have the same values where
-//! the nodes that count as ending have values (`proofs/Holding` has this of each join, inside the inductions around it).
+//! the nodes that count as ending have values (`proofs/Holding` has this of each join, inside the inductions around it). It takes searches
+//! (`Search`, `Looked` of `pv_rounds`) from here too.
 #![tactic(auto)]
 
 pub mod laws;
+
+pub use pv_rounds::{Looked, Search};

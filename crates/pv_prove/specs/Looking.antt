@@ -8,7 +8,8 @@ use Rattle.pv_heights.specs.Searches.{TwoSearches, UndecidedBefore, Answers}
 use Rattle.pv_rounds.specs.declared.search.Search.{Search}
 use Rattle.pv_rounds.specs.declared.search.Looked.{Looked}
 use Rattle.pv_rounds.specs.declared.search.Looked.TheVariants.{Over, Saturated}
-use Rattle.pv_rounds.specs.Searching.{Begins, IsBegun, IsOver, IsSaturatedNow, Looks, GoesOn}
+pub use Rattle.pv_rounds.specs.Searching.{IsLeastGraph, IsBegun, IsOver, Looks}
+use Rattle.pv_rounds.specs.Searching.{Begins, IsSaturatedNow, GoesOn}
 use Rattle.pv_grounds.specs.Same.{IsGroundedSearch}
 use Rattle.pv_prove.specs.declared.outcome.Limits.{Limits}
 use Rattle.pv_prove.specs.declared.outcome.Outcome.{Outcome}

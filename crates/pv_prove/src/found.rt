@@ -3,9 +3,8 @@
 ghost use Rattle.std.specs.Prelude.{◌≡◌, ◌<◌, zero, IfOk, length, map};
 ghost use Rattle.pv_heights.specs.Verdicts.{IsVerdict, Verdict};
 ghost use Rattle.pv_pattern.specs.Seen.{axiom_seen};
-ghost use Rattle.pv_rounds.specs.Searching.{IsLeastGraph};
 ghost use Rattle.pv_prove.specs.Finding.{HaveMade, IsShown, MetAreSame, axioms_in, question, verdict_of};
-ghost use Rattle.pv_prove.specs.Looking.{Ends};
+ghost use Rattle.pv_prove.specs.Looking.{Ends, IsLeastGraph};
 
 use crate::outcome::{Limits, Outcome};
 use crate::searches::{Searches, Seen};

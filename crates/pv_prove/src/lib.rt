@@ -33,5 +33,6 @@ mod table;
 pub use found::{Found, find};
 pub use meeting::{Meeting, how_met};
 pub use outcome::{Limits, Outcome};
+pub use pv_grounds::Search;
 pub use searches::Searches;
 pub use table::{AxiomSet, axioms_in};

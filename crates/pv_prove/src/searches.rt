@@ -4,9 +4,8 @@ ghost use Rattle.std.specs.Prelude.{◌≡◌, ℕ, zero, IfOk, OnOk, map};
 ghost use Rattle.pv_alike.specs.Least.{Rooted};
 ghost use Rattle.pv_axioms.specs.Entries.{AreAxioms};
 ghost use Rattle.pv_pattern.specs.Seen.{axiom_seen};
-ghost use Rattle.pv_rounds.specs.Searching.{IsBegun, IsLeastGraph, IsOver, Looks};
 ghost use Rattle.pv_prove.specs.Finding.{HaveMade, axioms_in, ending_of};
-ghost use Rattle.pv_prove.specs.Looking.{AreBegun, AreOpen, BeginsOther, ForOther, GoOn, GoesFurther, LooksOther, OtherGoes, Sees, seen_of};
+ghost use Rattle.pv_prove.specs.Looking.{AreBegun, AreOpen, BeginsOther, ForOther, GoOn, GoesFurther, IsBegun, IsLeastGraph, IsOver, Looks, LooksOther, OtherGoes, Sees, seen_of};
 
 use crate::meeting::how_met;
 use crate::outcome::{Limits, Outcome};
@@ -14,8 +13,8 @@ use pv_alike::Least;
 use pv_base::Gate;
 use pv_endings::endings;
 use pv_graph::{Graph, NodeId};
+use pv_grounds::{Looked, Search};
 use pv_pattern::Axiom;
-use pv_rounds::{Looked, Search};
 use pv_value::Memory;
 use std::alloc::Global;
 

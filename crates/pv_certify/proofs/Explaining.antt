@@ -12,11 +12,7 @@ use Rattle.pv_classes.specs.Blocks.{Block}
 use Rattle.pv_classes.specs.Grounds.{JoinsGround}
 use Rattle.pv_classes.specs.Linked.{Linked}
 use Rattle.pv_classes.specs.Partition.{AreOne}
-use Rattle.pv_heights.specs.Searches.{OneClass}
-use Rattle.pv_rounds.specs.declared.search.Search.{Search}
-use Rattle.pv_rounds.specs.Searching.{IsSearch}
-use Rattle.pv_grounds.specs.Rounds.{AreGrounded}
-use Rattle.pv_grounds.specs.Same.{IsGroundedSearch}
+use Rattle.pv_prove.proofs.Cited.{OneClass, Search, IsSearch, AreGrounded, IsGroundedSearch}
 use Rattle.pv_explain.specs.declared.source.Search as made
 use Rattle.pv_explain.specs.Sections.{HasLinked, IsGiven, IsGrounded, IsGrown}
 use Rattle.pv_prove.specs.Meetings.{AreMetKids, KidsMeet}

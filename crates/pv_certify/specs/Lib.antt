@@ -1,2 +1,4 @@
 -- what contracts say
 pub mod Met
+-- what a search found
+pub mod Searched

@@ -23,7 +23,7 @@ use Rattle.pv_steps.specs.Right.{IsFresh}
 use Rattle.pv_steps.specs.Facts.{View, Keeps, Satisfies, Holds}
 use Rattle.pv_steps.proofs.Blocks.{Under, holds_under}
 use Rattle.pv_axioms.proofs.Cited.{sound}
-use Rattle.pv_saturate.proofs.Lists.{get_in, in_get}
+use Rattle.pv_rounds.proofs.Cited.{get_in, in_get}
 use Rattle.pv_heights.proofs.Zips.{zip_flip}
 use Rattle.pv_classes.specs.declared.join.Join.{Join}
 use Rattle.pv_classes.specs.Blocks.{Block, listed, depth_of, pairs_of, joins_of, inner_of}

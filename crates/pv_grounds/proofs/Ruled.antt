@@ -5,7 +5,7 @@ use Rattle.pv_graph.specs.declared.node.Node.{Node}
 use Rattle.pv_graph.specs.Walks.{In, Move, Edge, Walk, stop, step, KeepsRule}
 use Rattle.pv_graph.specs.Graphs.{Graph, form_of, form_at, IsGraph, IsWellMade, Extends}
 use Rattle.pv_graph.proofs.Cited.{found, form_there, node_at}
-use Rattle.pv_saturate.proofs.Lists.{get_in}
+use Rattle.pv_rounds.proofs.Cited.{get_in}
 
 early_or_late : (n m : ℕ) → (n < m) ⊎ (m ≤ n)
 early_or_late n m = grind arith

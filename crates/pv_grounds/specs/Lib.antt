@@ -4,3 +4,5 @@ pub mod Grounds
 pub mod Rounds
 -- what joined nodes mean
 pub mod Same
+-- the searches that they speak of
+pub mod Searches

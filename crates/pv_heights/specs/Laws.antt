@@ -4,7 +4,7 @@ use Rattle.pv_graph.specs.Walks.{In}
 use Rattle.pv_graph.specs.Graphs.{Graph, form_at, IsGraph, Extends}
 use Rattle.pv_pattern.specs.Patterns.{Axiom}
 use Rattle.pv_pattern.specs.Binding.{BindsItsNames}
-use Rattle.pv_axioms.specs.Entries.{axioms}
+pub use Rattle.pv_axioms.specs.Entries.{core_axioms, axioms}
 use Rattle.pv_heights.specs.Systems.{Joined}
 use Rattle.pv_steps.specs.Facts.{View}
 use Rattle.pv_heights.specs.Sides.{Match}

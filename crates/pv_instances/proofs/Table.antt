@@ -10,7 +10,7 @@ use Rattle.pv_scalar.specs.Table.{scalar_axioms}
 use Rattle.pv_loopax.specs.Table.{loop_axioms}
 use Rattle.pv_heapax.specs.Table.{heap_axioms}
 use Rattle.pv_choiceax.specs.Table.{choice_axioms}
-use Rattle.pv_axioms.specs.Entries.{core_axioms, axioms}
+use Rattle.pv_heights.specs.Laws.{core_axioms, axioms}
 use Rattle.pv_instances.specs.Sorted.{IsSorted}
 use Rattle.pv_instances.specs.Facts.{Said, tells}
 use Rattle.pv_instances.specs.Fits.{fits, head_said, keeps_sort_at, keeps_sort, keep_sorts}

@@ -1,6 +1,6 @@
 //! The laws of the sorts of axioms and classes, each as the contract of a function that does nothing.
 
-ghost use Rattle.pv_axioms.specs.Entries.{axioms};
+ghost use Rattle.pv_heights.specs.Laws.{axioms};
 ghost use Rattle.pv_instances.specs.Classes.{BeginningHasSorts, ClosingKeepsSorts, SidesHaveSorts};
 ghost use Rattle.pv_instances.specs.Laws.{KeepSorts};
 

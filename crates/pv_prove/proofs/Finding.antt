@@ -9,8 +9,7 @@ use Rattle.pv_endings.specs.Endings.{AreEndingsOf}
 use Rattle.pv_heights.specs.Verdicts.{Verdict, IsVerdict}
 use Rattle.pv_heights.proofs.Verdicts.{answers_are_verdicts}
 use Rattle.pv_heights.proofs.Once.{verdict_once}
-use Rattle.pv_rounds.specs.declared.search.Search.{Search}
-use Rattle.pv_rounds.specs.Searching.{Begins, IsLeastGraph}
+use Rattle.pv_grounds.specs.Searches.{Search, Begins, IsLeastGraph}
 use Rattle.pv_grounds.specs.Same.{IsGroundedSearch}
 use Rattle.pv_grounds.proofs.Cited.{new_grounded, induct_grounded}
 use Rattle.pv_prove.specs.declared.table.AxiomSet.{AxiomSet}

@@ -6,10 +6,7 @@ use Rattle.pv_pattern.specs.Patterns.{Axiom}
 use Rattle.pv_heights.specs.Searches.{base_view, AtLeastAt, IsSaturatedAt}
 use Rattle.pv_heights.proofs.Cited.{base_view_is, graph_whole, saturated_reached}
 use Rattle.pv_match.specs.declared.found.Match.{Match}
-use Rattle.pv_rounds.specs.declared.search.Search.{Search}
-use Rattle.pv_rounds.specs.declared.search.Looked.{Looked}
-use Rattle.pv_rounds.specs.declared.search.Looked.TheVariants.{Over, Saturated, Open}
-use Rattle.pv_rounds.specs.Searching.{axioms_of, IsSearch, IsBegun, IsOver, IsSaturatedNow, Looks, MakesRound, GoesOn}
+use Rattle.pv_grounds.specs.Searches.{Search, Looked, Over, Saturated, Open, axioms_of, IsSearch, IsBegun, IsOver, IsSaturatedNow, Looks, MakesRound, GoesOn}
 use Rattle.pv_grounds.specs.Rounds.{AreGrounded}
 use Rattle.pv_grounds.proofs.Cited.{round_grounded}
 use Rattle.pv_prove.specs.declared.searches.Searches.{Searches}

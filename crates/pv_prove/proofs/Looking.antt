@@ -5,10 +5,9 @@ use Rattle.pv_pattern.specs.Patterns.{Axiom}
 use Rattle.pv_endings.specs.Endings.{AreEndingsOf}
 use Rattle.pv_heights.specs.Searches.{Reached, TwoSearches, SeesMeet, SeesOver, SeesSaturated, SeesNothing, UndecidedBefore, first, next, Answers, met, over, saturated, ended}
 use Rattle.pv_heights.specs.Verdicts.{Question}
-use Rattle.pv_rounds.specs.declared.search.Search.{Search}
-use Rattle.pv_rounds.specs.declared.search.Looked.{Looked}
-use Rattle.pv_rounds.specs.declared.search.Looked.TheVariants as looked
-use Rattle.pv_rounds.specs.Searching.{IsOver, Looks}
+use Rattle.pv_grounds.specs.Searches.{Search, Looked}
+use Rattle.pv_grounds.specs.Searches as looked
+use Rattle.pv_grounds.specs.Searches.{IsOver, Looks}
 use Rattle.pv_prove.specs.declared.meeting.Meeting.{Meeting}
 use Rattle.pv_prove.specs.declared.outcome.Limits.{Limits}
 use Rattle.pv_prove.specs.declared.outcome.Outcome.{Outcome}

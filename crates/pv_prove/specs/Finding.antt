@@ -6,8 +6,7 @@ use Rattle.pv_axioms.specs.Entries.{core_axioms, axioms}
 use Rattle.pv_denote.specs.Meaning.{Same}
 use Rattle.pv_endings.specs.Endings.{AreEndingsOf}
 use Rattle.pv_heights.specs.Verdicts.{Question, Verdict, equivalent, apart, rounds, budget}
-use Rattle.pv_rounds.specs.declared.search.Search.{Search}
-use Rattle.pv_rounds.specs.Searching.{axioms_of, IsSearch}
+use Rattle.pv_grounds.specs.Searches.{Search, axioms_of, IsSearch}
 use Rattle.pv_grounds.specs.Same.{IsGroundedSearch}
 use Rattle.pv_prove.specs.declared.meeting.Meeting.{Meeting}
 use Rattle.pv_prove.specs.declared.table.AxiomSet.{AxiomSet}

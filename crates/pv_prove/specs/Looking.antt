@@ -5,11 +5,9 @@ use Rattle.pv_alike.specs.Least.{Rooted}
 use Rattle.pv_pattern.specs.Patterns.{Axiom}
 use Rattle.pv_endings.specs.Endings.{AreEndingsOf}
 use Rattle.pv_heights.specs.Searches.{TwoSearches, UndecidedBefore, Answers}
-use Rattle.pv_rounds.specs.declared.search.Search.{Search}
-use Rattle.pv_rounds.specs.declared.search.Looked.{Looked}
-use Rattle.pv_rounds.specs.declared.search.Looked.TheVariants.{Over, Saturated}
-pub use Rattle.pv_rounds.specs.Searching.{IsLeastGraph, IsBegun, IsOver, Looks}
-use Rattle.pv_rounds.specs.Searching.{Begins, IsSaturatedNow, GoesOn}
+use Rattle.pv_grounds.specs.Searches.{Search, Looked, Over, Saturated}
+pub use Rattle.pv_grounds.specs.Searches.{IsLeastGraph, IsBegun, IsOver, Looks}
+use Rattle.pv_grounds.specs.Searches.{Begins, IsSaturatedNow, GoesOn}
 use Rattle.pv_grounds.specs.Same.{IsGroundedSearch}
 use Rattle.pv_prove.specs.declared.outcome.Limits.{Limits}
 use Rattle.pv_prove.specs.declared.outcome.Outcome.{Outcome}

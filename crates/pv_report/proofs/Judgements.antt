@@ -3,7 +3,7 @@ use Rattle.std.proofs.Common.{◌≡◌, ℕ, List, Option, Some, None, Ok, Err,
 use Rattle.std.specs.List.{AllZip, flat_map}
 use Rattle.pv_cert.specs.declared.cert.Section.{Section}
 use Rattle.pv_class.specs.declared.fault.ClassFault.{ClassFault}
-use Rattle.pv_prove.specs.declared.outcome.Limits.{Limits}
+use Rattle.pv_certify.specs.Searched.{Limits}
 use Rattle.pv_report.specs.Options.{Options, in_least}
 use Rattle.pv_report.specs.declared.pair.Fetched.{Fetched}
 use Rattle.pv_report.specs.declared.pair.Pair.{Pair}

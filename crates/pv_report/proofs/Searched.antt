@@ -13,12 +13,8 @@ use Rattle.pv_counted.proofs.Cited.{cleared_once}
 use Rattle.pv_endings.specs.Endings.{AreEndingsOf}
 use Rattle.pv_heights.specs.Laws.{OneRootEqual}
 use Rattle.pv_heights.specs.Verdicts as search
-use Rattle.pv_rounds.specs.Searching.{IsLeastGraph}
-use Rattle.pv_prove.specs.declared.outcome.Limits.{Limits}
-use Rattle.pv_prove.specs.declared.outcome.Outcome.{Outcome}
-use Rattle.pv_prove.specs.declared.outcome.Outcome.TheVariants.{Met, Budget, Apart, Rounds}
-use Rattle.pv_prove.specs.Finding.{question, verdict_of, MetAreSame}
-use Rattle.pv_prove.proofs.Cited.{verdict_by_nodes}
+use Rattle.pv_certify.specs.Searched.{IsLeastGraph, Limits, Outcome, Met, Budget, Apart, Rounds, question, verdict_of, MetAreSame}
+use Rattle.pv_certify.proofs.Cited.{verdict_by_nodes}
 use Rattle.pv_report.specs.declared.verdict.Detail.{Detail}
 use Rattle.pv_report.specs.declared.verdict.Detail.TheVariants as detail
 use Rattle.pv_report.specs.declared.verdict.Graphs.TheVariants.{Least, LeastOrCleared}

@@ -8,9 +8,9 @@ use Rattle.pv_cert.specs.declared.cert.Section.{Section}
 use Rattle.pv_cert.specs.Lines.{title_text}
 use Rattle.pv_class.specs.declared.file.ClassFile.{ClassFile}
 use Rattle.pv_class.specs.declared.file.Method.{Method}
-use Rattle.pv_prove.specs.declared.outcome.Outcome.{Outcome}
-use Rattle.pv_prove.specs.declared.outcome.Outcome.TheVariants as outcome
-use Rattle.pv_prove.specs.Finding.{verdict_of}
+use Rattle.pv_certify.specs.Searched.{Outcome}
+use Rattle.pv_certify.specs.Searched as outcome
+use Rattle.pv_certify.specs.Searched.{verdict_of}
 use Rattle.pv_steps.specs.declared.step.Step.{Step}
 use Rattle.pv_report.specs.declared.verdict.Judgement.{Judgement}
 use Rattle.pv_report.specs.declared.verdict.Verdict.{Verdict}

@@ -21,11 +21,11 @@ use Rattle.pv_alike.specs.Least.{Rooted}
 use Rattle.pv_heights.specs.Verdicts as search
 use Rattle.pv_alike.specs.Laws.{IsSameRooted}
 use Rattle.pv_counted.proofs.Cited.{cleared_kept}
-use Rattle.pv_prove.specs.declared.outcome.Limits.{Limits}
+use Rattle.pv_certify.specs.Searched.{Limits}
 use Rattle.pv_report.specs.declared.verdict.Graphs.{Graphs}
 use Rattle.pv_report.specs.declared.verdict.Graphs.TheVariants.{Least, LeastOrCleared}
 use Rattle.pv_report.specs.Options.{Options}
-use Rattle.pv_prove.proofs.Cited.{verdict_by_nodes}
+use Rattle.pv_certify.proofs.Cited.{verdict_by_nodes}
 use Rattle.pv_report.specs.Roots.{HaveLeast}
 use Rattle.pv_report.specs.Judging.{said_of}
 use Rattle.pv_report.specs.Verdicts.{HasCode, Finds, FindsCleared, FindsEqual, FindsOther, IsVerdict, IsVerdictOn, LackRoots}

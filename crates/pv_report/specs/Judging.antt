@@ -19,7 +19,7 @@ use Rattle.pv_graph.specs.Graphs.{Graph}
 use Rattle.pv_alike.specs.Least.{Rooted, IsLeastOf}
 use Rattle.pv_heights.specs.Verdicts as search
 use Rattle.pv_denote.specs.Meaning.{Same}
-use Rattle.pv_prove.specs.declared.outcome.Limits.{Limits}
+use Rattle.pv_certify.specs.Searched.{Limits}
 use Rattle.pv_report.specs.Options.{Options}
 use Rattle.pv_report.specs.declared.verdict.Verdict.TheVariants as verdict
 use Rattle.pv_report.specs.Roots.{HaveLeast}

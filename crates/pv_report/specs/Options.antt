@@ -1,7 +1,5 @@
 -- By which axioms, within which limits and in which graphs a search is to find roots equal.
-pub use Rattle.pv_prove.specs.declared.outcome.Limits.{Limits}
-pub use Rattle.pv_prove.specs.declared.table.AxiomSet.{AxiomSet}
-pub use Rattle.pv_prove.specs.declared.table.AxiomSet.TheVariants.{Core, All}
+pub use Rattle.pv_certify.specs.Searched.{Limits, AxiomSet, Core, All}
 use Rattle.pv_report.specs.declared.verdict.Detail.{Detail}
 use Rattle.pv_report.specs.declared.verdict.Detail.TheVariants as detail
 use Rattle.pv_report.specs.declared.verdict.Graphs.{Graphs}

@@ -7,12 +7,10 @@ use Rattle.pv_cert.specs.declared.cert.Section.{Section}
 use Rattle.pv_cert.specs.StepLines.{StepFits}
 use Rattle.pv_class.specs.declared.file.ClassFile.{ClassFile}
 use Rattle.pv_class.specs.declared.file.Method.{Method}
-use Rattle.pv_prove.specs.declared.outcome.Limits.{Limits}
-use Rattle.pv_prove.specs.declared.outcome.Outcome.{Outcome}
-use Rattle.pv_prove.specs.declared.outcome.Outcome.TheVariants.{Met}
+use Rattle.pv_certify.specs.Searched.{Limits, Outcome, Met}
 use Rattle.pv_steps.specs.declared.step.Step.{Step}
 use Rattle.pv_steps.specs.Accepted.{Derives}
-use Rattle.pv_trim.specs.Citing.{IsLean}
+use Rattle.pv_certify.specs.Searched.{IsLean}
 use Rattle.pv_report.specs.declared.pair.Fetched.{Fetched}
 use Rattle.pv_report.specs.declared.verdict.Judgement.{Judgement}
 use Rattle.pv_report.specs.declared.verdict.Verdict.{Verdict}

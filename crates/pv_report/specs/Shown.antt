@@ -7,10 +7,10 @@ use Rattle.pv_cert.specs.Reading.{SectionFits}
 use Rattle.pv_class.specs.declared.file.ClassFile.{ClassFile}
 use Rattle.pv_class.specs.declared.file.Method.{Method}
 use Rattle.pv_class.specs.ClassFiles.{IsClass}
-use Rattle.pv_prove.specs.declared.outcome.Limits.{Limits}
+use Rattle.pv_certify.specs.Searched.{Limits}
 use Rattle.pv_steps.specs.declared.step.Step.{Step}
 use Rattle.pv_steps.specs.Accepted.{Derives}
-use Rattle.pv_trim.specs.Citing.{IsLean}
+use Rattle.pv_certify.specs.Searched.{IsLean}
 use Rattle.pv_report.specs.declared.verdict.Verdict.{Verdict}
 use Rattle.pv_report.specs.declared.verdict.Verdict.TheVariants.{Equivalent}
 use Rattle.pv_report.specs.Options.{in_least}

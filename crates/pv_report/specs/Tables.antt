@@ -3,7 +3,7 @@ use Rattle.std.specs.Prelude.{◌≡◌, Some, map}
 use Rattle.std.specs.Global.{Vec}
 use Rattle.pv_pattern.specs.declared.pattern.Axiom.{Axiom}
 use Rattle.pv_pattern.specs.Seen.{axiom_seen}
-pub use Rattle.pv_prove.specs.Finding.{axioms_in}
+pub use Rattle.pv_certify.specs.Searched.{axioms_in}
 use Rattle.pv_report.specs.Options.{AxiomSet}
 use Rattle.pv_report.specs.declared.verdict.Table.{Table}
 

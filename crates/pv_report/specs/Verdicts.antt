@@ -8,9 +8,8 @@ use Rattle.pv_build.specs.Conversion.{Meets, Form}
 use Rattle.pv_denote.specs.Meaning.{Same}
 use Rattle.pv_heights.specs.Verdicts as search
 use Rattle.pv_counted.specs.Cleared.{IsCleared}
-use Rattle.pv_prove.specs.declared.outcome.Limits.{Limits}
-pub use Rattle.pv_prove.specs.Finding.{IsShown, verdict_of}
-use Rattle.pv_prove.specs.Finding.{question}
+use Rattle.pv_certify.specs.Searched.{Limits, question}
+pub use Rattle.pv_certify.specs.Searched.{IsShown, verdict_of}
 use Rattle.pv_report.specs.declared.verdict.Graphs.{Graphs}
 use Rattle.pv_report.specs.declared.verdict.Graphs.TheVariants.{Least, LeastOrCleared}
 use Rattle.pv_report.specs.Options.{Options}

@@ -13,3 +13,5 @@ pub mod Joined
 -- 4. A round as a whole.
 pub mod Rounding
 pub mod Searching
+-- 5. What other crates cite.
+pub mod Cited

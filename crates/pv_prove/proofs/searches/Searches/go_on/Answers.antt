@@ -1,6 +1,5 @@
 use Rattle.std.proofs.Common.{inr}
-use Rattle.pv_rounds.specs.declared.search.Search.{Search}
-use Rattle.pv_rounds.specs.Searching.{IsBegun, IsOver}
+use Rattle.pv_grounds.specs.Searches.{Search, IsBegun, IsOver}
 use Rattle.pv_prove.proofs.Growing.{both_go, of_other}
 use Rattle.pv_prove.proofs.searches.Searches.go_on.Goals as goal
 

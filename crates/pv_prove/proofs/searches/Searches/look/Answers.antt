@@ -1,6 +1,5 @@
 use Rattle.std.proofs.Common.{Some, None, rules, sym, subst}
-use Rattle.pv_rounds.specs.declared.search.Search.{Search}
-use Rattle.pv_rounds.specs.Searching.{IsBegun}
+use Rattle.pv_grounds.specs.Searches.{Search, IsBegun}
 use Rattle.pv_prove.specs.Looking.{Sees}
 use Rattle.pv_prove.specs.Meetings.{IsMeeting}
 use Rattle.pv_prove.proofs.Growing.{of_other}

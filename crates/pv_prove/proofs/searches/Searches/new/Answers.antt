@@ -4,7 +4,7 @@ use Rattle.pv_pattern.specs.Patterns.{Axiom}
 use Rattle.pv_pattern.specs.Seen.{axiom_seen}
 use Rattle.pv_axioms.specs.Entries.{AreAxioms}
 use Rattle.pv_endings.specs.Endings.{AreEndingsOf}
-use Rattle.pv_rounds.specs.Searching.{Begins}
+use Rattle.pv_grounds.specs.Searches.{Begins}
 use Rattle.pv_prove.specs.declared.searches.Searches.{Searches}
 use Rattle.pv_prove.specs.Looking.{BeginsOther}
 use Rattle.pv_prove.proofs.Finding.{begun, set_are}

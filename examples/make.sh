@@ -15,15 +15,7 @@ java_home=$(dirname "$(dirname "$(readlink -f "$(command -v javac)")")")
 
 mkdir "$work/before"
 javac --release 8 -g:none -d "$work/before" "$here/Ints.java"
-python3 - "$java_home/lib/ct.sym" "$work/java8.jar" <<'END'
-import sys, zipfile
-with zipfile.ZipFile(sys.argv[1]) as api, zipfile.ZipFile(sys.argv[2], "w") as jar:
-    for name in api.namelist():
-        releases, module, path = (name.split("/", 2) + ["", ""])[:3]
-        if "8" in releases and module == "java.base" and path.endswith(".sig"):
-            data = api.read(name)
-            jar.writestr(path[:-4] + ".class", data[:4] + bytes([0, 0, 0, 52]) + data[8:])
-END
+python3 "$here/java8.py" "$java_home/lib/ct.sym" "$work/java8.jar"
 cp "$here/ints.pro" "$work"
 (cd "$work" && proguard @ints.pro >log) || { cat "$work/log" >&2; exit 1; }
 mkdir -p "$into/before" "$into/after"

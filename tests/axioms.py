@@ -14,14 +14,12 @@ taken without them: each must differ somewhere, and the last line has those that
 import argparse
 import itertools
 import multiprocessing
-import os
 import random
 import re
-import subprocess
 import sys
 
-TOP = os.path.dirname(os.path.dirname(os.path.abspath(__file__)))
-PROGRAM = os.environ.get("CASES", os.path.join(TOP, "crates", "cases", "out", "cases"))
+from programs import ask
+
 IN_A_LINE, FUEL, MORE_FUEL = 20, 40, 120
 
 # The operations: the sorts of the kids and of the value; s is any sort.
@@ -414,11 +412,8 @@ def questions(line, instance, number):
 
 def answers(lines, fuel):
     """What the program answers to the steps of each line with this fuel."""
-    given = "".join("graph " + "; ".join(line.steps).replace("{fuel}", str(fuel)) + "\n" for line in lines)
-    ran = subprocess.run([PROGRAM], input=given, capture_output=True, text=True)
-    found = [text.split("; ") for text in ran.stdout.splitlines()]
-    if len(found) != len(lines):
-        sys.exit(f"{len(found)} answers to {len(lines)} lines: {ran.stderr}")
+    given = ["graph " + "; ".join(line.steps).replace("{fuel}", str(fuel)) for line in lines]
+    found = [text.split("; ") for text in ask(given)]
     for line, said in zip(lines, found):
         wrong = [k for k, a in line.wanted.items() if len(said) != len(line.steps) or said[k] != a]
         if wrong:
@@ -487,11 +482,8 @@ def main():
     reader.add_argument("--no-conditions", action="store_true")
     reader.add_argument("--jobs", type=int, default=1)
     given = reader.parse_args()
-    if not os.access(PROGRAM, os.X_OK):
-        sys.exit("no program: run 'cd crates/cases && rt run < stdin' first")
-    ask = lambda lines: subprocess.run([PROGRAM], input=lines, capture_output=True, text=True, check=True).stdout
-    numbers = given.only or [int(n) for n in ask("axioms\n").replace(";", "").split()]
-    texts = ask("".join(f"axiom {n}\n" for n in numbers)).splitlines()
+    numbers = given.only or [int(n) for n in ask(["axioms"])[0].replace(";", "").split()]
+    texts = ask([f"axiom {n}" for n in numbers])
     jobs = [(n, text, given.seed, given.instances, given.no_conditions) for n, text in zip(numbers, texts)]
     if given.no_conditions:
         jobs = [job for job in jobs if parse_all(job[1])[2]]

@@ -12,16 +12,14 @@ COUNT is how many changed certificates there are, 1000000 if left out. The progr
 `cd crates/cases && rt run < stdin` leaves.
 """
 
-import os
 import random
 import re
-import subprocess
 import sys
 import time
 
-from cases import TOP, case_rows, written
+from cases import case_rows, written
+from programs import ask
 
-PROGRAM = os.path.join(TOP, "crates", "cases", "out", "cases")
 BATCH = 5000
 
 NUMBER = rb"(?:0|[1-9][0-9]{0,9})"
@@ -152,11 +150,7 @@ def main(args):
     answers, wrong, began = {}, 0, time.time()
     for first in range(0, count, BATCH):
         batch = [changed(rand.choice(texts), rand) for _ in range(min(BATCH, count - first))]
-        given = "".join(f"cert {text.hex().upper() or '-'}\n" for text in batch)
-        ran = subprocess.run([PROGRAM], input=given, capture_output=True, text=True, timeout=600)
-        said = ran.stdout.splitlines()
-        if ran.returncode != 0 or len(said) != len(batch):
-            sys.exit(f"the program ended with {ran.returncode} after {len(said)} of {len(batch)} lines")
+        said = ask([f"cert {text.hex().upper() or '-'}" for text in batch], seconds=600)
         for text, answer in zip(batch, said):
             end, want = answer.rsplit("; ", 1)[-1], read(text)
             answers[re.sub(r"\d+", "N", want)] = answers.get(re.sub(r"\d+", "N", want), 0) + 1
@@ -168,6 +162,4 @@ def main(args):
 
 
 if __name__ == "__main__":
-    if not os.access(PROGRAM, os.X_OK):
-        sys.exit(__doc__)
     main(sys.argv[1:])

@@ -31,7 +31,7 @@ from certs import ROWS, fits
 from checker import AXIOMS, verdict
 from converter import ClassFile, least_graph, shown, with_deep_calls
 from mutants import written_classes
-from pairs import PROGRAM, called, pairs_of
+from pairs import called, pairs_of
 from sections import changed
 
 
@@ -174,8 +174,6 @@ def main():
     parser.add_argument("--random", type=int, nargs=2)
     parser.add_argument("files", nargs="*")
     args = parser.parse_args()
-    if not os.access(PROGRAM, os.X_OK):
-        sys.exit("no program: run 'cd crates/punthizha && rt run' first")
     counts, rand, began = Counts(), random.Random(args.seed), time.time()
     with tempfile.TemporaryDirectory() as work:
         if args.random:

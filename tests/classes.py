@@ -11,13 +11,11 @@ so that inductions hold.
     tests/classes.py [SEED [GRAPHS [NODES]]]      by default 1, 100000 graphs of at most 40 nodes each
 """
 
-import os
 import random
-import subprocess
 import sys
 
-TOP = os.path.dirname(os.path.dirname(os.path.abspath(__file__)))
-PROGRAM = os.path.join(TOP, "crates", "cases", "out", "cases")
+from programs import ask
+
 DEPTHS = 3
 LOOKS = ("theta", "eval", "pass", "shift")
 
@@ -203,12 +201,9 @@ def is_right(line, answers, told):
 def main():
     given = [int(word) for word in sys.argv[1:]]
     seed, count, most = given + [1, 100000, 40][len(given) :]
-    if not os.access(PROGRAM, os.X_OK):
-        sys.exit("no program: run 'cd crates/cases && rt run < stdin' first")
     r = random.Random(seed)
     cases = [case(r, most) for _ in range(count)]
-    done = subprocess.run([PROGRAM], input="".join(line + "\n" for line, _ in cases).encode(), capture_output=True, timeout=3600)
-    told = done.stdout.decode().splitlines()
+    told = ask([line for line, _ in cases], seconds=3600)
     wrong = [(line, answer, text) for (line, answer), text in zip(cases, told) if not is_right(line, answer, text)]
     inductions = sum(answer[0] != answer[3] for _, answer in cases)
     for line, answer, text in wrong[:5]:

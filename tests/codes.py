@@ -10,23 +10,14 @@ each code of a class file, spells what was decoded back, and compares. The class
 
 import os
 import re
-import shutil
-import subprocess
 import sys
 import tempfile
 import time
 from concurrent.futures import ThreadPoolExecutor
 
-TOP = os.path.dirname(os.path.dirname(os.path.abspath(__file__)))
-PROGRAM = os.path.join(TOP, "crates", "cases", "out", "cases")
+from programs import ask, jdk_classes
+
 BATCH = 400
-
-
-def image():
-    if len(sys.argv) > 1:
-        return sys.argv[1]
-    java = os.path.realpath(shutil.which("java"))
-    return os.path.join(os.path.dirname(os.path.dirname(java)), "lib", "modules")
 
 
 def major(path):
@@ -38,9 +29,7 @@ def major(path):
 def run(work, paths):
     """The counts of files, methods and bytes, and the lines of what is wrong."""
     names = [os.path.relpath(path, work) for path in paths]
-    lines = "".join(f"respell-file {name}\n" for name in names)
-    done = subprocess.run([PROGRAM], cwd=work, input=lines.encode(), capture_output=True, timeout=600)
-    answers = done.stdout.decode(errors="replace").splitlines()
+    answers = ask([f"respell-file {name}" for name in names], seconds=600, folder=work)
     methods, size, wrong = 0, 0, []
     for name, answer in zip(names, answers):
         counts = re.fullmatch(r"(\d+) methods, (\d+) bytes", answer)
@@ -49,22 +38,12 @@ def run(work, paths):
         else:
             methods += int(counts[1])
             size += int(counts[2])
-    if done.stderr or done.returncode or len(answers) != len(names):
-        wrong.append(f"status {done.returncode}, {len(answers)} of {len(names)} answers, the first file {names[0]}")
     return (len(names), methods, size), wrong
 
 
 def main():
-    if not os.access(PROGRAM, os.X_OK):
-        sys.exit("no program: run 'cd crates/cases && rt run < stdin' first")
     with tempfile.TemporaryDirectory() as work:
-        subprocess.run(["jimage", "extract", "--dir", work, image()], check=True)
-        found = sorted(
-            os.path.join(folder, name)
-            for folder, _, names in os.walk(work)
-            for name in names
-            if name.endswith(".class")
-        )
+        found = jdk_classes(work, *sys.argv[1:2])
         paths = [path for path in found if 45 <= major(path) <= 69]
         batches = [paths[i : i + BATCH] for i in range(0, len(paths), BATCH)]
         begin = time.monotonic()

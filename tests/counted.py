@@ -10,14 +10,13 @@ same. It counts the methods in which some loop is counted, and the values of run
     tests/counted.py [SEED [METHODS [ARGUMENTS [STEPS]]]]      by default 1, 1000 methods, 10 lists of arguments each, 300 steps, and as much fuel
 """
 
-import os
 import random
 import subprocess
 import sys
 from concurrent.futures import ThreadPoolExecutor
 
-TOP = os.path.dirname(os.path.dirname(os.path.abspath(__file__)))
-PROGRAM = os.path.join(TOP, "crates", "cases", "out", "cases")
+from programs import ask
+
 # A value takes time that grows with the product of iterations and slots, so some methods are left out. Methods are asked of in groups, and
 # those of a group that takes longer one after another.
 SECONDS, GROUP = 5, 50
@@ -124,11 +123,9 @@ def answers(group):
     """The answers on the methods of a group, None for one whose values take too long."""
     asked = [lines(*it) for it in group]
     try:
-        given = "".join(f"{line}\n" for it in asked for line in it)
-        ran = subprocess.run([PROGRAM], input=given, capture_output=True, text=True, timeout=SECONDS)
+        said = iter(ask([line for it in asked for line in it], seconds=SECONDS))
     except subprocess.TimeoutExpired:
         return [None] if len(group) == 1 else [answers([it])[0] for it in group]
-    said = iter(ran.stdout.splitlines())
     found = [[next(said) for _ in it] for it in asked]
     return [(it[1], list(zip(it[2::2], it[3::2]))) for it in found]
 
@@ -136,8 +133,6 @@ def answers(group):
 def main():
     given = [int(word) for word in sys.argv[1:]]
     seed, count, arguments, steps = given + [1, 1000, 10, 300][len(given):]
-    if not os.access(PROGRAM, os.X_OK):
-        sys.exit("no program: run 'cd crates/cases && rt run < stdin' first")
     r = random.Random(seed)
     methods = [Method(r).text() for _ in range(count)]
     lists = [[f"{argument(r)} {argument(r)}" for _ in range(arguments)] for _ in methods]

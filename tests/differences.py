@@ -17,7 +17,7 @@ import tempfile
 from collections import Counter
 
 from mutants import compiled_runner, results, written_classes
-from pairs import PROGRAM, called
+from pairs import called
 
 TRIES = 512
 # Ten thousand instructions take a JVM that interprets some 300 microseconds.
@@ -71,8 +71,6 @@ def compare(number, one, mutants, left, right):
 
 
 def main():
-    if not os.access(PROGRAM, os.X_OK):
-        sys.exit("no program: run 'cd crates/punthizha && rt run' first")
     seed, classes, methods = [int(it) for it in sys.argv[1:]] + [1, 40, 50][len(sys.argv) - 1 :]
     with tempfile.TemporaryDirectory() as work:
         one, other, mutants, runner = places = [os.path.join(work, it) for it in ("one", "other", "mutants", "runner")]

@@ -11,7 +11,6 @@ many lines say what, without places. No method of the JDK may be `types` or `cod
 """
 
 import os
-import shutil
 import struct
 import subprocess
 import sys
@@ -20,16 +19,10 @@ import time
 from collections import Counter
 from concurrent.futures import ThreadPoolExecutor
 
-TOP = os.path.dirname(os.path.dirname(os.path.abspath(__file__)))
-PROGRAM = os.environ.get("PUNTHIZHA") or os.path.join(TOP, "crates", "punthizha", "out", "punthizha")
+from programs import jdk_classes, punthizha
+
+PROGRAM = punthizha()
 SIZES = {3: 4, 4: 4, 5: 8, 6: 8, 7: 2, 8: 2, 9: 4, 10: 4, 11: 4, 12: 4, 15: 3, 16: 2, 17: 4, 18: 4, 19: 2, 20: 2}
-
-
-def image():
-    if len(sys.argv) > 1:
-        return sys.argv[1]
-    java = os.path.realpath(shutil.which("java"))
-    return os.path.join(os.path.dirname(os.path.dirname(java)), "lib", "modules")
 
 
 def members(data, at):
@@ -98,19 +91,11 @@ def said(line, front):
 
 
 def main():
-    if not os.access(PROGRAM, os.X_OK):
-        sys.exit("no program: run 'cd crates/punthizha && rt run' first")
     with tempfile.TemporaryDirectory() as work:
-        subprocess.run(["jimage", "extract", "--dir", work, image()], check=True)
-        paths = [
-            os.path.join(folder, name)
-            for folder, _, names in os.walk(work)
-            for name in names
-            if name.endswith(".class")
-        ]
+        paths = jdk_classes(work, *sys.argv[1:2])
         begin = time.monotonic()
         with ThreadPoolExecutor(2) as pool:
-            answers = list(pool.map(run, sorted(paths)))
+            answers = list(pool.map(run, paths))
         took = time.monotonic() - begin
     read = [a for a in answers if a[1] is not None]
     wrong = [a for a in read if not a[1]]

@@ -27,7 +27,7 @@ from collections import Counter
 
 from checked import methods_of
 from converter import least_graph, with_deep_calls
-from pairs import PROGRAM, called, class_files, pairs_of, pairs_of_sources
+from pairs import called, class_files, pairs_of, pairs_of_sources
 
 CALLS = ("callend", "callres", "callfault", "callheap")
 MEMBERS = ("getstatic", "putstatic", "getfield", "putfield", "load", "store")
@@ -102,8 +102,6 @@ def pairs_named(words, options, work):
 
 
 def main():
-    if not os.access(PROGRAM, os.X_OK):
-        sys.exit("no program: run 'cd crates/punthizha && rt run' first")
     options = [it for it in sys.argv[1:] if it.startswith("--")]
     words = [it for it in sys.argv[1:] if not it.startswith("--")]
     found = Counter()

@@ -9,14 +9,12 @@ steps are replayed: T1 drops an edge from a node to itself, T2 merges a node int
     tests/loops.py [SEED [SHAPES [NODES]]]      by default 1, 100000 shapes of at most 12 nodes each
 """
 
-import os
 import random
 import re
-import subprocess
 import sys
 
-TOP = os.path.dirname(os.path.dirname(os.path.abspath(__file__)))
-PROGRAM = os.path.join(TOP, "crates", "cases", "out", "cases")
+from programs import ask
+
 DEEPEST = 16
 
 
@@ -138,13 +136,9 @@ def is_right(edges, answer):
 def main():
     given = [int(word) for word in sys.argv[1:]]
     seed, count, most = given + [1, 100000, 12][len(given):]
-    if not os.access(PROGRAM, os.X_OK):
-        sys.exit("no program: run 'cd crates/cases && rt run < stdin' first")
     r = random.Random(seed)
     shapes = [random_shape(r, most) for _ in range(count)]
-    lines = "".join("loops " + " ".join(",".join(map(str, t)) or "-" for t in edges) + "\n" for edges in shapes)
-    done = subprocess.run([PROGRAM], input=lines.encode(), capture_output=True, timeout=600)
-    answers = done.stdout.decode().splitlines()
+    answers = ask(["loops " + " ".join(",".join(map(str, t)) or "-" for t in edges) for edges in shapes], seconds=600)
     wrong = [(e, a) for e, a in zip(shapes, answers) if not is_right(e, a)]
     irreducible = sum(answer.startswith("irreducible") for answer in answers)
     for edges, answer in wrong[:5]:

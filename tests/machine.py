@@ -10,14 +10,13 @@ static methods of java.lang that take and give ints and longs and name nothing i
 
 import os
 import random
-import shutil
 import struct
 import subprocess
 import sys
 import tempfile
 
-TOP = os.path.dirname(os.path.dirname(os.path.abspath(__file__)))
-PROGRAM = os.path.join(TOP, "crates", "cases", "out", "cases")
+from programs import ask, jdk_classes
+
 SIZES = {3: 4, 4: 4, 5: 8, 6: 8, 7: 2, 8: 2, 9: 4, 10: 4, 11: 4, 12: 4, 15: 3, 16: 2, 17: 4, 18: 4, 19: 2, 20: 2}
 RANGES = {"I": (-(2**31), 2**31 - 1), "J": (-(2**63), 2**63 - 1), "Z": (0, 1), "B": (-128, 127), "C": (0, 65535), "S": (-32768, 32767)}
 STEPS = 1000000
@@ -382,13 +381,9 @@ def numbers(r, params):
 
 def main():
     seed, count, lists = [int(w) for w in (sys.argv[1:] + ["1", "2000", "50"][len(sys.argv) - 1 :])[:3]]
-    if not os.access(PROGRAM, os.X_OK):
-        sys.exit("no program: run 'cd crates/cases && rt run < stdin' first")
     r = random.Random(seed)
     with tempfile.TemporaryDirectory() as work:
-        java = os.path.realpath(shutil.which("java"))
-        image = os.path.join(os.path.dirname(os.path.dirname(java)), "lib", "modules")
-        subprocess.run(["jimage", "extract", "--dir", work, "--include", "regex:/java.base/java/lang/[A-Za-z0-9]*.class", image], check=True)
+        jdk_classes(work, only="regex:/java.base/java/lang/[A-Za-z0-9]*.class")
         methods = []
         for k in range(count):
             result, code = random_code(seed * 1000003 + k)
@@ -411,8 +406,7 @@ def main():
         )
         if told.returncode:
             sys.exit(told.stderr)
-        ran = subprocess.run([PROGRAM], input="\n".join(machine) + "\n", capture_output=True, text=True, check=True)
-    ours, theirs = ran.stdout.splitlines(), told.stdout.splitlines()
+        ours, theirs = ask(machine), told.stdout.splitlines()
     wrong = [k for k in range(len(machine)) if k >= len(ours) or k >= len(theirs) or ours[k] != theirs[k]]
     for k in wrong[:10]:
         print(jvm[k], machine[k], ours[k] if k < len(ours) else "-", theirs[k] if k < len(theirs) else "-")

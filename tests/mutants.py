@@ -18,7 +18,7 @@ import tempfile
 from collections import Counter
 from concurrent.futures import ThreadPoolExecutor
 
-from pairs import PROGRAM, called, check
+from pairs import called, check
 
 ARGUMENTS = 24
 RUNNER = """
@@ -239,8 +239,6 @@ def report(what, classes, one, other, left, right):
 
 
 def main():
-    if not os.access(PROGRAM, os.X_OK):
-        sys.exit("no program: run 'cd crates/punthizha && rt run' first")
     seed, classes, methods = [int(it) for it in sys.argv[1:]] + [1, 40, 50][len(sys.argv) - 1 :]
     with tempfile.TemporaryDirectory() as work:
         one, other, mutants, runner = places = [os.path.join(work, it) for it in ("one", "other", "mutants", "runner")]

@@ -2,7 +2,10 @@
 # Checks what README.md and docs/ say against the tree and the program.
 #
 #   the kit         README names the kit that `rt version` prints
-#   the example     README shows what examples/run.sh prints, and examples/report.txt keeps it
+#   the size        README has at most 16 KB
+#   the examples    README shows what examples/run.sh and examples/bug.sh print, and a section of the certificate for the first;
+#                   examples/report.txt keeps the report
+#   the drawing     docs/layers.svg is what tests/layers.py makes of crates.txt
 #   names           each name that a page gives is found (tests/names.py)
 #   definitions     docs/DEFINITIONS.md lists the definitions that the clauses of `run` lead to (tests/definitions.py)
 #
@@ -10,6 +13,9 @@
 # PUNTHIZHA names.
 set -u
 top=$(cd "$(dirname "$0")/.." && pwd)
+program=${PUNTHIZHA:-$top/crates/punthizha/out/punthizha}
+work=$(mktemp -d) || exit 2
+trap 'rm -rf "$work"' EXIT
 failed=0
 
 verdict() {
@@ -26,12 +32,26 @@ shown() {
   awk -v word="\`\`\`$1" '$0 == "```" { inside = 0 } inside; $0 == word { inside = 1 }' "$top/README.md"
 }
 
+# section METHOD: the section on a method of the certificate for the example
+section() {
+  "$program" validate --cert "$work/cert" "$top/examples/before/Ints.class" "$top/examples/after/Ints.class" >"$work/said"
+  awk -v head="method $1 " 'index($0, head) == 1 { inside = 1 } inside; $0 == "end" { inside = 0 }' "$work/cert"
+}
+
 [ "$(shown kit)" = "$(rt version)" ]
 verdict $? "the kit is $(rt version)"
+[ "$(wc -c <"$top/README.md")" -le 16384 ]
+verdict $? 'README has at most 16 KB'
 [ "$(shown report)" = "$(cat "$top/examples/report.txt")" ]
 verdict $? 'README shows the report that is kept'
 [ "$(sh "$top/examples/run.sh")" = "$(cat "$top/examples/report.txt")" ]
 verdict $? 'examples/run.sh prints the report that is kept'
+[ "$(shown bug)" = "$(sh "$top/examples/bug.sh")" ]
+verdict $? 'README shows what examples/bug.sh prints'
+[ "$(shown section)" = "$(section sumOfEights)" ]
+verdict $? 'README shows the section on sumOfEights'
+python3 "$top/tests/layers.py" | cmp -s - "$top/docs/layers.svg"
+verdict $? 'docs/layers.svg is the drawing of crates.txt'
 python3 "$top/tests/names.py"
 verdict $? 'each name is found'
 python3 "$top/tests/definitions.py"

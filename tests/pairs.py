@@ -26,8 +26,9 @@ import zipfile
 from collections import Counter
 from concurrent.futures import ThreadPoolExecutor
 
-TOP = os.path.dirname(os.path.dirname(os.path.abspath(__file__)))
-PROGRAM = os.environ.get("PUNTHIZHA") or os.path.join(TOP, "crates", "punthizha", "out", "punthizha")
+from programs import punthizha
+
+PROGRAM = punthizha()
 RULES = """-injars {before}
 -outjars {after}
 -libraryjars {library}
@@ -173,8 +174,6 @@ def pairs_of(jars, work, same):
 
 
 def main():
-    if not os.access(PROGRAM, os.X_OK):
-        sys.exit("no program: run 'cd crates/punthizha && rt run' first")
     options = [it for it in sys.argv[1:] if it.startswith("--")]
     jars = [it for it in sys.argv[1:] if not it.startswith("--")]
     with tempfile.TemporaryDirectory() as work:

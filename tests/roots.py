@@ -12,14 +12,13 @@ cleared graph, from which the tokens that end because of counted loops are gone 
     tests/roots.py [--loops] [--cleared] [SEED [METHODS [ARGUMENTS]]]      by default 1, 2000 methods, 10 lists of arguments each
 """
 
-import os
 import random
 import subprocess
 import sys
 from concurrent.futures import ThreadPoolExecutor
 
-TOP = os.path.dirname(os.path.dirname(os.path.abspath(__file__)))
-PROGRAM = os.path.join(TOP, "crates", "cases", "out", "cases")
+from programs import ask
+
 STEPS = 3000
 # A value takes time that grows with the product of iterations and slots, so some methods are left out.
 SECONDS = 5
@@ -355,12 +354,10 @@ def setting(r):
 
 def answers(call, lines):
     """How the machine's run ends and what the root's value is by this call, for each line, or None where that takes too long."""
-    given = "".join(f"machine {line}\n{call} {line}\n" for line in lines)
     try:
-        ran = subprocess.run([PROGRAM], input=given, capture_output=True, text=True, timeout=SECONDS)
+        found = ask([f"{word} {line}" for line in lines for word in ("machine", call)], seconds=SECONDS)
     except subprocess.TimeoutExpired:
         return None
-    found = ran.stdout.splitlines()
     return list(zip(found[::2], found[1::2]))
 
 
@@ -374,8 +371,6 @@ def main():
     loops, cleared = "--loops" in sys.argv, "--cleared" in sys.argv
     given = [int(word) for word in sys.argv[1:] if not word.startswith("--")]
     seed, count, lists = given + [1, 2000, 10][len(given):]
-    if not os.access(PROGRAM, os.X_OK):
-        sys.exit("no program: run 'cd crates/cases && rt run < stdin' first")
     r = random.Random(seed)
     lines = []
     for _ in range(count):

@@ -16,8 +16,8 @@ import subprocess
 import sys
 import tempfile
 
-TOP = os.path.dirname(os.path.dirname(os.path.abspath(__file__)))
-PROGRAM = os.environ.get("CASES", os.path.join(TOP, "crates", "cases", "out", "cases"))
+from programs import cases
+
 PARAMETERS, LIMIT = 330, 500_000
 
 
@@ -49,7 +49,7 @@ def ran(line):
     with tempfile.TemporaryFile("w+", encoding="ascii") as file:
         file.write(line + "\n")
         file.seek(0)
-        process = subprocess.Popen([PROGRAM], stdin=file, stdout=subprocess.PIPE, text=True)
+        process = subprocess.Popen([cases()], stdin=file, stdout=subprocess.PIPE, text=True)
         out = process.stdout.read()
         _, status, used = os.wait4(process.pid, 0)
         process.returncode = status

@@ -22,7 +22,6 @@ import os
 import random
 import re
 import resource
-import subprocess
 import sys
 import tempfile
 import time
@@ -31,9 +30,8 @@ from collections import Counter
 import mutants
 import roots
 from axioms import SORTS, value
+from programs import TOP, ask
 
-TOP = os.path.dirname(os.path.dirname(os.path.abspath(__file__)))
-PROGRAM = os.environ.get("CASES", os.path.join(TOP, "crates", "cases", "out", "cases"))
 ROUNDS, BUDGET, IN_A_LINE = 3, 400, 50
 
 # ---- the axioms, as the documents of the table write them
@@ -997,9 +995,8 @@ def lines(words, folders, seed, count):
 
 def answers(batch):
     """What the program answers, for each line without endings and with them."""
-    given = "".join(f"{line}{asked(False)}\n{line}{asked(True)}\n" for line in batch)
-    ran = subprocess.run([PROGRAM], input=given, capture_output=True, text=True, check=True)
-    keep = [it for it, line in zip(ran.stdout.splitlines(), given.splitlines()) if line.startswith("search")]
+    given = [row for line in batch for row in f"{line}{asked(False)}\n{line}{asked(True)}".split("\n")]
+    keep = [it for it, line in zip(ask(given), given) if line.startswith("search")]
     return list(zip(keep[::2], keep[1::2]))
 
 
@@ -1008,8 +1005,6 @@ def main():
     folders = sys.argv[sys.argv.index("--pairs") + 1 :] if "--pairs" in words else []
     given = [int(it) for it in sys.argv[1:] if not it.startswith("--") and it not in folders]
     seed, count = given + [1, 2000][len(given) :]
-    if not os.access(PROGRAM, os.X_OK):
-        sys.exit("no program: run 'cd crates/cases && rt run < stdin' first")
     todo, counts, wrong, spent, start = lines(words, folders, seed, count), Counter(), 0, 0.0, time.time()
     for at in range(0, len(todo), IN_A_LINE):
         batch = todo[at : at + IN_A_LINE]

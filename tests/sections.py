@@ -15,19 +15,17 @@ how many changed sections there are, 1000000 if left out. The program is the one
 """
 
 import functools
-import os
 import random
 import re
-import shlex
-import subprocess
 import sys
 import time
 from collections import Counter
 
 from cases import case_rows, plain_words, sample_class, written
-from certs import PROGRAM, ROWS, fits
+from certs import ROWS, fits
 from checker import AXIOMS, EQUATIONS, FIXED, KINDS, NUMBERS, OVER_ANY, PARAMETERS, Family, Names, Section, each_step, exact_sorts, verdict
 from converter import ClassFile, least_graph
+from programs import ask
 
 BATCH = 6000
 NO_AXIOMS = [0, 35, 99, 300, 4294967295]
@@ -374,11 +372,7 @@ def answers(word, counts, batch):
     for methods, sections in given.items():
         text = head + "".join("method a ()V\n" + "".join(step + "\n" for step in steps) + "end\n" for steps in sections)
         lines.append(f"{word} {text.encode().hex().upper()}; {methods}")
-    program = shlex.split(os.environ.get("CASES", PROGRAM))
-    ran = subprocess.run(program, input="\n".join(lines) + "\n", capture_output=True, text=True, timeout=1200)
-    said = ran.stdout.splitlines()
-    if ran.returncode != 0 or len(said) != len(given):
-        sys.exit(f"the program ended with {ran.returncode} after {len(said)} of {len(given)} lines")
+    said = ask(lines, seconds=1200)
     return [
         (methods, steps, answer)
         for (methods, of), line in zip(given.items(), said)

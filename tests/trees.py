@@ -9,13 +9,12 @@ way is followed from the first block of the region: the tree must lead to the sa
     tests/trees.py [SEED [FLOWS [BLOCKS]]]      by default 1, 3000 flows of at most 10 blocks each
 """
 
-import os
 import random
 import re
-import subprocess
 import sys
 
-from loops import DEEPEST, PROGRAM, forest, random_shape
+from loops import DEEPEST, forest, random_shape
+from programs import ask
 
 ENDS = ("return", "throw")
 
@@ -141,8 +140,6 @@ def is_right(r, walks, answer):
 def main():
     given = [int(word) for word in sys.argv[1:]]
     seed, count, most = given + [1, 3000, 10][len(given):]
-    if not os.access(PROGRAM, os.X_OK):
-        sys.exit("no program: run 'cd crates/cases && rt run < stdin' first")
     r = random.Random(seed)
     cases = []
     for _ in range(count):
@@ -154,9 +151,7 @@ def main():
         f"tree {region} {target} " + " ".join(",".join(map(str, exits)) for exits in flow)
         for flow, _, region, target in cases
     ]
-    given = "".join(line + "\n" for line in lines).encode()
-    done = subprocess.run([PROGRAM], input=given, capture_output=True, timeout=600)
-    answers = done.stdout.decode().splitlines()
+    answers = ask(lines, seconds=600)
     wrong = [(l, a) for c, l, a in zip(cases, lines, answers) if not is_right(r, Walks(*c), a)]
     for line, answer in wrong[:5]:
         print(line, "|", answer)

@@ -12,15 +12,12 @@ tests/checker.py must accept it. It prints each difference, and counts.
 COUNT is how many padded sections there are, 10000 if left out. The program is found as in tests/sections.py.
 """
 
-import os
 import random
-import shlex
-import subprocess
 import sys
 import time
 
-from certs import PROGRAM
 from sections import Growing, changed, check, kinds, least, rows
+from programs import ask
 
 BATCH = 2000
 
@@ -172,12 +169,7 @@ def asked(batch):
     for methods, steps in batch:
         text = head + "method a ()V\n" + "".join(step + "\n" for step in steps) + "end\n"
         lines.append(f"trim {text.encode().hex().upper()}; {methods}")
-    program = shlex.split(os.environ.get("CASES", PROGRAM))
-    ran = subprocess.run(program, input="\n".join(lines) + "\n", capture_output=True, text=True, timeout=3000)
-    said = ran.stdout.splitlines()
-    if ran.returncode != 0 or len(said) != len(batch):
-        sys.exit(f"the program ended with {ran.returncode} after {len(said)} of {len(batch)} lines")
-    return said
+    return ask(lines, seconds=3000)
 
 
 def main(args):

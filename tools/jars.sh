@@ -1,7 +1,7 @@
 #!/bin/sh
 # Compares two JARs class by class, with `punthizha validate`.
 #
-#   tools/jars.sh [--axioms core|all] [--counted] [--allow KIND].. [--refute] A.jar B.jar
+#   tools/jars.sh [--axioms core|all] [--counted] [--allow KIND].. [--refute] [--certificates DIR] A.jar B.jar
 #
 # It prints a line for each method of A.jar that isn't `equivalent` to its namesake in B.jar: the path of the class, a
 # colon, and what the program says of the method. So it does for a class file that can't be read or that only one of the
@@ -21,23 +21,21 @@
 # With --refute, after each `unknown` line comes the line `differs` that `punthizha refute` prints for the method, if it does. Such
 # methods are counted, and the status is then 1 at least, whatever is allowed.
 #
-# It runs the program that `cd crates/punthizha && rt run` leaves, or the one that the environment variable PUNTHIZHA
-# names, and needs unzip.
+# With --certificates, the certificate for each class that both JARs have is written as DIR/PATH.cert, PATH being that of the class; tools/check-jars.sh checks them
+# again. No certificate can say that a loop ends, so --counted and --certificates exclude each other.
+#
+# Where standard error is a terminal, it says there how far it is. It runs the program that `cd crates/punthizha && rt run` leaves, or the one that the
+# environment variable PUNTHIZHA names, and needs unzip.
 set -u
-LC_ALL=C
-export LC_ALL
 here=$(cd "$(dirname "$0")" && pwd)
-program=${PUNTHIZHA:-$here/../crates/punthizha/out/punthizha}
+name=jars.sh
+. "$here/classes.sh"
 kinds='unknown refused missing nocode only-first only-second'
 
-fail() {
-  echo "jars.sh: $1" >&2
-  exit 2
-}
-
-usage='usage: jars.sh [--axioms core|all] [--counted] [--allow KIND].. [--refute] A.jar B.jar'
+usage='usage: jars.sh [--axioms core|all] [--counted] [--allow KIND].. [--refute] [--certificates DIR] A.jar B.jar'
 axioms=all
 counted=
+certificates=
 allowed=' '
 refute=no
 while [ $# -gt 2 ]; do
@@ -59,6 +57,11 @@ while [ $# -gt 2 ]; do
     shift 2
     continue
   fi
+  if [ "$1" = --certificates ]; then
+    certificates=$2
+    shift 2
+    continue
+  fi
   [ "$1" = --allow ] || fail "$usage"
   case " $kinds " in
     *" $2 "*) allowed="$allowed$2 " ;;
@@ -67,37 +70,9 @@ while [ $# -gt 2 ]; do
   shift 2
 done
 [ $# -eq 2 ] || fail "$usage"
-[ -x "$program" ] || fail "no program: run 'cd crates/punthizha && rt run' first"
-command -v unzip >/dev/null || fail 'no unzip'
-
-work=$(mktemp -d) || exit 2
-trap 'rm -rf "$work"' EXIT
-tab=$(printf '\t')
-
-# unpack JAR SIDE: the classes of a JAR as $work/SIDE, with the list of their paths, in order. unzip is given a name of
-# our own, since it would read one like a[1].jar as a pattern. Its status 11 says that no class is there.
-unpack() {
-  [ -f "$1" ] || fail "no file $1"
-  mkdir "$work/$2"
-  cp "$1" "$work/$2.jar" && chmod u+rw "$work/$2.jar" || exit 2
-  unzip -q -o "$work/$2.jar" '*.class' -d "$work/$2" </dev/null >"$work/log" 2>&1
-  case $? in
-    0 | 1 | 11) ;;
-    *) cat "$work/log" >&2; fail "$1 can't be read" ;;
-  esac
-  (cd "$work/$2" && find . -type f -name '*.class') | sed 's|^\./||' | sort >"$work/$2.list"
-  unzip -Z1 "$work/$2.jar" '*.class' 2>/dev/null </dev/null | sort -u >"$work/log"
-  [ "$(wc -l <"$work/log")" -eq "$(wc -l <"$work/$2.list")" ] || fail "not all classes of $1 can be unpacked"
-  rm "$work/$2.jar"
-}
-unpack "$1" first
-unpack "$2" second
-
-# What is found goes into $work/found: a line KIND, tab, text.
+[ -z "$counted" ] || [ -z "$certificates" ] || fail "$usage"
+unpack_both "$1" "$2"
 : >"$work/found"
-found() {
-  printf '%s\t%s\n' "$1" "$2" >>"$work/found"
-}
 
 # The lines of a report, each with its kind: the third word of a line, since a blank in a name is printed as %20. After one
 # that says `unknown` comes what runs of the method show, where they were asked for.
@@ -126,9 +101,20 @@ run() {
   [ "$status" -eq 1 ] || found failed "$1: refute ended with status $status"
 }
 
-comm -12 "$work/first.list" "$work/second.list" >"$work/both"
+# The report on a class, and its certificate, where certificates are wanted.
+validate() {
+  set -- "$work/first/$1" "$work/second/$1" "$certificates/$1.cert"
+  if [ -n "$certificates" ]; then
+    mkdir -p "$(dirname "$3")" || fail "no folder for $3"
+    "$program" validate --axioms "$axioms" --cert "$3" "$1" "$2"
+  else
+    "$program" validate --axioms "$axioms" ${counted:+--counted} "$1" "$2"
+  fi >"$work/said" 2>/dev/null </dev/null
+}
+
 while IFS= read -r class; do
-  "$program" validate --axioms "$axioms" ${counted:+--counted} "$work/first/$class" "$work/second/$class" >"$work/said" 2>/dev/null </dev/null
+  progress "$class"
+  validate "$class"
   status=$?
   case $status in
     0 | 1) run "$class"; report "$class" ;;
@@ -136,6 +122,7 @@ while IFS= read -r class; do
     *) found failed "$class: the program ended with status $status" ;;
   esac
 done <"$work/both"
+progress
 comm -23 "$work/first.list" "$work/second.list" >"$work/only"
 while IFS= read -r class; do
   found only-first "$class: only in the first JAR"
@@ -145,9 +132,6 @@ while IFS= read -r class; do
   found only-second "$class: only in the second JAR"
 done <"$work/only"
 
-count() {
-  grep -c "^$1$tab" "$work/found"
-}
 grep -v "^equivalent$tab" "$work/found" | cut -f 2-
 echo "classes: $(wc -l <"$work/both" | tr -d ' ') in both, $(count only-first) only in the first, $(count only-second) only in the second," \
   "$(count bad) bad, $(count failed) failed"

@@ -63,6 +63,7 @@ fn answer<R: Files + Threads + Sync>(rt: &R, bench: &mut Bench, line: &str) -> A
     let (word, rest) = line.split_once(' ').unwrap_or((line, ""));
     match word {
         "let" => bench.define(rest),
+        "series" => bench.define_series(rest),
         "make" => samples::make(bench, rest),
         "each-front" => repeats::each_front(rt, bench, rest),
         "each-change" => repeats::each_change(rt, bench, rest),

@@ -9,6 +9,9 @@
 //! | `$one` | what a line `let one BYTES` named |
 //! | `$one[7=2C]` | the same with `2C` from place 7 on, in place of what stood there |
 //! | `$one[2..7]`, `$one[..7]`, `$one[2..]` | places 2 to 6, the first 7, all from place 2 on |
+//!
+//! A line `series NAME FROM TO BYTES` names these bytes once for each number from FROM up to TO, without TO,
+//! with the number in place of each `#` and the one before it in place of each `@`.
 
 use crate::answers::{Answer, NoAnswer};
 use percent_encoding::percent_decode;
@@ -48,6 +51,22 @@ impl Bench {
     pub fn define(&mut self, rest: &str) -> Answer {
         let (name, text) = rest.split_once(' ').ok_or(NoAnswer::Unreadable)?;
         let bytes = self.bytes(text)?;
+        let length = bytes.len();
+        self.name(name, bytes)?;
+        Ok(format!(in self.alloc; "{length} bytes")?)
+    }
+
+    /// `series NAME FROM TO BYTES`: how many bytes are named.
+    pub fn define_series(&mut self, rest: &str) -> Answer {
+        let words = words(self.alloc, rest)?;
+        let [name, from, to, text] = *words.as_slice() else {
+            return Err(NoAnswer::Unreadable);
+        };
+        let once = self.bytes(text)?;
+        let mut bytes = Vec::new(self.alloc);
+        for n in number::<u32>(from)?..number::<u32>(to)? {
+            push_numbered(self.alloc, &mut bytes, &once, n)?;
+        }
         let length = bytes.len();
         self.name(name, bytes)?;
         Ok(format!(in self.alloc; "{length} bytes")?)
@@ -164,6 +183,20 @@ pub fn unescaped(alloc: Global, text: &str) -> Result<Vec<u8>, NoAnswer> {
     let mut bytes = Vec::new(alloc);
     percent_decode(text.as_bytes()).append_to(&mut bytes)?;
     Ok(bytes)
+}
+
+// Puts bytes with a number in place of each `#`, and the one before it in place of each `@`.
+fn push_numbered(alloc: Global, bytes: &mut Vec<u8>, once: &[u8], n: u32) -> Result<(), NoAnswer> {
+    let this = format!(in alloc; "{n}")?;
+    let before = format!(in alloc; "{}", n.saturating_sub(1))?;
+    for byte in once {
+        match byte {
+            b'#' => bytes.extend_from_slice(this.as_bytes())?,
+            b'@' => bytes.extend_from_slice(before.as_bytes())?,
+            _ => bytes.push(*byte)?,
+        }
+    }
+    Ok(())
 }
 
 // Bytes with new ones from a place on, in place of as many.

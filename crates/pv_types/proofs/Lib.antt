@@ -1,0 +1,2 @@
+-- the descriptors of the symbols of facts, and what stays where a fact is told
+pub mod Telling

@@ -1,0 +1,4 @@
+-- what a world tells of types
+pub mod Facts
+-- what changes where a fact is told
+pub mod Laws

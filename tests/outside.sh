@@ -17,7 +17,7 @@ failed=0
 expect() {
   name=$1 status=$2 text=$3
   shift 3
-  said=$(timeout 20 "$program" "$@" 2>"$work/err"; echo "status $?")
+  said=$(timeout 120 "$program" "$@" 2>"$work/err"; echo "status $?")
   want=$(printf '%sstatus %s' "$text" "$status")
   if [ "$said" = "$want" ] && [ ! -s "$work/err" ]; then
     echo "ok      $name"
@@ -83,6 +83,88 @@ expect 'an endless certificate' 3 'bad certificate too-long
 ' check "$work/A" "$work/B" /dev/zero
 expect 'an absent certificate' 5 '' check "$work/A" "$work/B" "$work/absent"
 
+# Chains of that certificate and itself, and of others; a class that returns 2 and not 1.
+LC_ALL=C sed "$(printf 's/\004\254/\005\254/')" "$class" >"$work/returns2"
+expect 'two certificates composed' 0 'composed
+' compose "$work/A" "$work/B" "$work/A" "$work/cert" "$work/cert" "$work/chain"
+expect 'the chain is checked' 0 "$line" check-chain "$work/A" "$work/B" "$work/chain"
+cp "$work/cert" "$work/placed"
+expect 'a chain in the place of a certificate' 0 'composed
+' compose "$work/A" "$work/B" "$work/A" "$work/cert" "$work/placed" "$work/placed"
+expect 'the chain in its place' 0 "$line" check-chain "$work/A" "$work/A" "$work/placed"
+expect 'compose: a word too few' 4 'bad words
+' compose "$work/A" "$work/B" "$work/A" "$work/cert" "$work/cert"
+expect 'compose: a word too many' 4 'bad words
+' compose "$work/A" "$work/B" "$work/A" "$work/cert" "$work/cert" "$work/none" C
+expect 'compose: an option' 4 'bad words
+' compose --cert "$work/none" "$work/A" "$work/B" "$work/A" "$work/cert" "$work/cert" "$work/none"
+expect 'compose: an empty word' 4 'bad words
+' compose "$work/A" "$work/B" "$work/A" "$work/cert" "$work/cert" ""
+expect 'check-chain: a word too few' 4 'bad words
+' check-chain "$work/A" "$work/B"
+expect 'check-chain: a word too many' 4 'bad words
+' check-chain "$work/A" "$work/B" "$work/A" "$work/chain"
+expect 'check-chain: an option' 4 'bad words
+' check-chain --counted "$work/A" "$work/B" "$work/chain"
+expect 'compose: an absent file' 5 '' compose "$work/absent" "$work/B" "$work/A" "$work/cert" "$work/cert" "$work/none"
+expect 'compose: an absent second file' 5 '' compose "$work/A" "$work/absent" "$work/A" "$work/cert" "$work/cert" "$work/none"
+expect 'compose: an absent third file' 5 '' compose "$work/A" "$work/B" "$work/absent" "$work/cert" "$work/cert" "$work/none"
+expect 'compose: an absent certificate' 5 '' compose "$work/A" "$work/B" "$work/A" "$work/absent" "$work/cert" "$work/none"
+expect 'compose: a folder for a certificate' 5 '' compose "$work/A" "$work/B" "$work/A" "$work/cert" "$work/folder" "$work/none"
+expect 'check-chain: an absent file' 5 '' check-chain "$work/absent" "$work/B" "$work/chain"
+expect 'check-chain: an absent second file' 5 '' check-chain "$work/A" "$work/absent" "$work/chain"
+expect 'check-chain: an absent chain' 5 '' check-chain "$work/A" "$work/B" "$work/absent"
+expect 'compose: a third file that is empty' 2 'bad class third truncated at 0
+' compose "$work/A" "$work/B" "$work/empty" "$work/cert" "$work/cert" "$work/none"
+expect 'compose: a second file that is too long' 2 'bad class second too-long at 4194304
+' compose "$work/A" "$work/long" "$work/A" "$work/cert" "$work/cert" "$work/none"
+expect 'check-chain: a second file that is empty' 2 'bad class second truncated at 0
+' check-chain "$work/A" "$work/empty" "$work/chain"
+expect 'compose: an empty certificate' 3 'bad link 1 truncated
+' compose "$work/A" "$work/B" "$work/A" "$work/empty" "$work/cert" "$work/none"
+expect 'compose: a certificate that is none' 3 'bad link 2 header
+' compose "$work/A" "$work/B" "$work/A" "$work/cert" "$work/chain" "$work/none"
+expect 'compose: an endless certificate' 3 'bad link 2 too-long
+' compose "$work/A" "$work/B" "$work/A" "$work/cert" /dev/zero "$work/none"
+expect 'compose: a certificate of another file' 3 'bad link 1 digest
+' compose "$work/A" "$work/B" "$work/A" "$work/other" "$work/cert" "$work/none"
+expect 'compose: a second certificate of another file' 3 'bad link 2 digest
+' compose "$work/A" "$work/B" "$work/A" "$work/cert" "$work/other" "$work/none"
+expect 'compose: a third file that is another' 3 'bad link 2 digest
+' compose "$work/A" "$work/B" "$work/returns2" "$work/cert" "$work/cert" "$work/none"
+expect 'compose: a chain in no folder' 6 '' compose "$work/A" "$work/B" "$work/A" "$work/cert" "$work/cert" "$work/absent/chain"
+if [ -e "$work/none" ]; then
+  echo 'FAILED  nothing is placed where nothing is composed'
+  failed=1
+else
+  echo 'ok      nothing is placed where nothing is composed'
+fi
+expect 'an empty chain' 3 'bad chain truncated
+' check-chain "$work/A" "$work/B" "$work/empty"
+expect 'an endless chain' 3 'bad chain too-long
+' check-chain "$work/A" "$work/B" /dev/zero
+expect 'a certificate in place of a chain' 3 'bad chain header
+' check-chain "$work/A" "$work/B" "$work/cert"
+head -c -1 "$work/chain" >"$work/broken"
+expect 'a chain without its last line feed' 3 'bad chain truncated
+' check-chain "$work/A" "$work/B" "$work/broken"
+sed '2s/ ca/ CA/' "$work/chain" >"$work/broken"
+expect 'a chain with capital digits' 3 'bad chain header
+' check-chain "$work/A" "$work/B" "$work/broken"
+sed '3s/5/4/' "$work/chain" >"$work/broken"
+expect 'a chain that says a line too few' 3 'bad chain first
+' check-chain "$work/A" "$work/B" "$work/broken"
+sed '$d' "$work/chain" >"$work/broken"
+expect 'a chain without its last line' 3 'bad chain second
+' check-chain "$work/A" "$work/B" "$work/broken"
+expect 'a chain for another file' 3 'bad chain digest
+' check-chain "$work/A" "$work/returns2" "$work/chain"
+sed '12s/.*/&\nflip 0 0 1.1/' "$work/chain" >"$work/broken"
+expect 'a chain with a step that is wrong' 1 'f ()I rejected second 1
+' check-chain "$work/A" "$work/B" "$work/broken"
+sed '12s/f/g/' "$work/chain" >"$work/broken"
+expect 'a chain of two methods' 0 '' check-chain "$work/A" "$work/B" "$work/broken"
+
 # An unreadable file, read by one who is not the superuser.
 if [ "$(id -u)" -eq 0 ] && command -v setpriv >/dev/null 2>&1; then
   cp "$program" "$work/program" && chmod 755 "$work/program"
@@ -111,6 +193,24 @@ for case in closed full; do
     echo "ok      standard output is $case"
   else
     echo "FAILED  standard output is $case: status $status"
+    failed=1
+  fi
+  # The chain is placed all the same, as a certificate is.
+  rm -f "$work/placed"
+  if [ "$case" = closed ]; then
+    timeout 20 "$program" compose "$work/A" "$work/B" "$work/A" "$work/cert" "$work/cert" "$work/placed" >&-
+    status=$?
+    timeout 20 "$program" check-chain "$work/A" "$work/B" "$work/chain" >&-
+  else
+    timeout 20 "$program" compose "$work/A" "$work/B" "$work/A" "$work/cert" "$work/cert" "$work/placed" >/dev/full
+    status=$?
+    timeout 20 "$program" check-chain "$work/A" "$work/B" "$work/chain" >/dev/full
+  fi
+  status="$status and $?"
+  if [ "$status" = '6 and 6' ] && cmp -s "$work/chain" "$work/placed"; then
+    echo "ok      chains, and standard output is $case"
+  else
+    echo "FAILED  chains, and standard output is $case: status $status"
     failed=1
   fi
 done

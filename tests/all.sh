@@ -49,6 +49,11 @@ run '1 2 50' '1 40 50' tests/differences.py
 run "$jars" "$jars /usr/share/java/commons-io.jar /usr/share/java/commons-lang3.jar" tests/pairs.py --cert
 run '8 3 1' '11 12 3' tests/wide.py
 run '10000' '100000' tests/rounds.py
+run '500' '10000' tests/twins.py
+run '2000' '100000' tests/chains.py
+run - - tests/memory.py
+run '1 20000' '1 10000000' tests/fuzz.py
+run - - tests/sizes.py
 if [ "$long" = yes ]; then
   run - - tests/codes.py
   run - - tests/jdk.py

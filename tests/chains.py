@@ -21,19 +21,18 @@ import hashlib
 import os
 import random
 import re
-import shlex
-import subprocess
 import sys
 import tempfile
 import time
 from collections import Counter
 
 from cases import sample_class
-from certs import PROGRAM, ROWS, fits, read
+from certs import ROWS, fits, read
 from checked import methods_of
 from checker import verdict
 from converter import least_graph, with_deep_calls
 from mutants import mutated
+from programs import ask
 from sections import changed as with_changed_steps
 from twins import written_twins
 
@@ -58,12 +57,7 @@ TRIPLES = [(0, 1, 0), (1, 0, 1), (0, 2, 1), (2, 3, 2), (3, 2, 0), (1, 4, 0), (4,
 
 def asked(lines):
     """What the program of cases answers."""
-    program = shlex.split(os.environ.get("CASES", PROGRAM))
-    ran = subprocess.run(program, input="".join(line + "\n" for line in lines), capture_output=True, text=True, timeout=3000)
-    said = ran.stdout.splitlines()
-    if ran.returncode != 0 or len(said) != len(lines):
-        sys.exit(f"the program ended with {ran.returncode} after {len(said)} of {len(lines)} lines")
-    return said
+    return ask(lines, seconds=3000)
 
 
 def quoted(text):

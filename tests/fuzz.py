@@ -36,9 +36,8 @@ from collections import Counter
 
 from cases import case_rows
 from converter import ClassFile
+from programs import cases
 
-TOP = os.path.dirname(os.path.dirname(os.path.abspath(__file__)))
-PROGRAM = os.environ.get("CASES") or os.path.join(TOP, "crates", "cases", "out", "cases")
 BATCH, SECONDS, LONGEST_SEED = 500, 60, 3000
 BYTES = bytes((0, 1, 2, 0x7F, 0x80, 0xFE, 0xFF))
 
@@ -258,7 +257,7 @@ def answers(lines):
     with tempfile.TemporaryFile() as given:
         given.write("".join(line + "\n" for line in lines).encode())
         given.seek(0)
-        process = subprocess.Popen([PROGRAM], stdin=given, stdout=subprocess.PIPE)
+        process = subprocess.Popen([cases()], stdin=given, stdout=subprocess.PIPE)
         data, ended = b"", False
         while select.select([process.stdout], [], [], SECONDS)[0]:
             part = os.read(process.stdout.fileno(), 1 << 20)
@@ -302,8 +301,6 @@ KINDS = ("self", "pair", "counted", "cert", "refute", "check", "compose", "chain
 
 
 def main():
-    if not os.access(PROGRAM, os.X_OK):
-        sys.exit("no program: run 'cd crates/cases && rt run < stdin' first")
     seed, count = ([int(it) for it in sys.argv[1:3]] + [1, 100000][len(sys.argv[1:3]) :])
     kinds = sys.argv[3:] or KINDS
     inputs = Inputs(random.Random(seed), Seeds())

@@ -166,8 +166,6 @@ def files_of(work, library):
 
 
 def main(names):
-    if not os.access(PROGRAM, os.X_OK):
-        sys.exit("no program: run 'cd crates/punthizha && rt run' first")
     with tempfile.TemporaryDirectory() as work:
         source, library = os.path.join(work, "refuse.c"), os.path.join(work, "refuse.so")
         with open(source, "w", encoding="ascii") as file:

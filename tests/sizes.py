@@ -24,9 +24,8 @@ import sys
 import tempfile
 
 from machine import Code, class_file
+from programs import punthizha
 
-TOP = os.path.dirname(os.path.dirname(os.path.abspath(__file__)))
-PROGRAM = os.environ.get("PUNTHIZHA") or os.path.join(TOP, "crates", "punthizha", "out", "punthizha")
 SECONDS, MEGABYTES, LAST_SECOND = 30, 3072, 600
 MOST_BYTES, LOCALS = 8192, 60
 ILOAD, ISTORE, IINC, IADD, IFLE, IFEQ, GOTO, IRETURN, I2L, L2I = 0x15, 0x36, 0x84, 0x60, 0x9E, 0x99, 0xA7, 0xAC, 0x85, 0x88
@@ -161,7 +160,7 @@ def ran(path, limit):
         if limit:
             resource.setrlimit(resource.RLIMIT_AS, (limit << 20, limit << 20))
 
-    child = subprocess.Popen([PROGRAM, "validate", path, path], stdout=subprocess.PIPE, stderr=subprocess.DEVNULL, preexec_fn=limits)
+    child = subprocess.Popen([punthizha(), "validate", path, path], stdout=subprocess.PIPE, stderr=subprocess.DEVNULL, preexec_fn=limits)
     out = child.stdout.read().decode()
     _, status, used = os.wait4(child.pid, 0)
     child.returncode = os.waitstatus_to_exitcode(status)

@@ -81,8 +81,6 @@ def written_twins(seed, classes, methods, one, other):
 def main(args):
     seed = int(args.pop(args.index("--seed") + 1)) if "--seed" in args else 1
     count = int(next((arg for arg in args if arg.isdigit()), 10000))
-    if not os.access(PROGRAM, os.X_OK):
-        sys.exit("no program: run 'cd crates/punthizha && rt run' first")
     counts, rand, began, classes = Counts(), random.Random(seed), time.time(), -(-count // METHODS)
     with tempfile.TemporaryDirectory() as work:
         one, other = places = [os.path.join(work, it) for it in ("one", "other")]

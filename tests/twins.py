@@ -21,7 +21,6 @@ import time
 from checked import Counts, Pair
 from converter import with_deep_calls
 from mutants import Method, compiled
-from pairs import PROGRAM
 
 METHODS = 50
 

@@ -18,8 +18,8 @@ and lines that README knows, and change no file but the one that the words name.
 
     tests/fuzz.py [SEED [COUNT [KIND ..]]]      by default 1, 100000 inputs of all kinds
 
-It prints each input that fails, as a line for the program of cases, and how often each kind had each status. For a long run start it several
-times with other seeds.
+It prints each input that fails, as a line for the program of cases, and in the end, or when it is interrupted, how often each kind had each
+status. For a long run start it several times with other seeds.
 """
 
 import hashlib
@@ -306,16 +306,19 @@ def main():
     inputs = Inputs(random.Random(seed), Seeds())
     print(f"{len(inputs.seeds.classes)} class files, {len(inputs.seeds.pairs)} pairs, {len(inputs.seeds.proved)} certificates", flush=True)
     found, wrong, done, began = Counter(), 0, 0, time.time()
-    while done < count:
-        batch = [(*inputs.line(kind), kind) for kind in (inputs.r.choice(kinds) for _ in range(min(BATCH, count - done)))]
-        said = answers([line for line, _, _ in batch])
-        for (line, command, kind), answer in zip(batch, said):
-            right, status = is_right(answer, command)
-            found[kind, status] += 1
-            if not right:
-                wrong += 1
-                print(f"WRONG: {line}\n  {answer}", flush=True)
-        done += len(said)
+    try:
+        while done < count:
+            batch = [(*inputs.line(kind), kind) for kind in (inputs.r.choice(kinds) for _ in range(min(BATCH, count - done)))]
+            said = answers([line for line, _, _ in batch])
+            for (line, command, kind), answer in zip(batch, said):
+                right, status = is_right(answer, command)
+                found[kind, status] += 1
+                if not right:
+                    wrong += 1
+                    print(f"WRONG: {line}\n  {answer}", flush=True)
+            done += len(said)
+    except KeyboardInterrupt:
+        pass
     for kind in kinds:
         print(kind, ", ".join(f"{n} {status}" for (of, status), n in sorted(found.items()) if of == kind))
     print(f"{done} inputs in {time.time() - began:.0f} s, {wrong} fail")

@@ -1,13 +1,13 @@
 #!/usr/bin/env python3
 """Has the program of cases make and check changed chains of certificates, and compares its answers with a reader and a checker of its own.
 
-It takes classes of random methods and their twins (tests/twins.py), and such classes with an instruction exchanged, and some with methods that aren't
-compared or have no code; has the program write certificates for each two neighbours of three classes (`validate --cert`), and chains of them (`compose`), which must be
-spelled as here; and changes these at random: a byte, a line or a number, a digest, the names or the steps of sections, the middle class with the
-digests that go with it, the classes at the ends, or only the front is left. Then it asks what `check-chain` says of each, and what `compose` says of
-changed certificates, and prints each difference, and counts. The reader below is a second one, written from the definitions of `pv_chain` and `pv_links`; the
-steps of sections are checked by tests/checker.py, over graphs of tests/converter.py. Whether bytes are a class, and why methods are refused,
-is asked of the program (`validate` of a class and itself).
+It takes classes of random methods and their twins (tests/twins.py), such classes with an instruction exchanged, and some with methods that aren't compared
+or have no code; has the program write certificates for each two neighbours of three classes (`validate --cert`), and chains of them (`compose`), which must
+be spelled as here; and changes these at random: a byte, a line or a number, a digest, the names or the steps of sections, the middle class with the digests
+that go with it, the classes at the ends, or only the front is left. Then it asks what `check-chain` says of each, and what `compose` says of changed
+certificates. It prints each difference, and counts. The reader below is a second one, written from the definitions of `pv_chain` and `pv_links`; the steps of
+sections are checked by tests/checker.py, over graphs of tests/converter.py. Whether bytes are a class, and why methods are refused, is asked of the program
+(`validate` of a class and itself).
 
 At the end the reader has one wrong rule after the other, and each must answer some of the questions otherwise than the program did.
 
@@ -600,7 +600,7 @@ def main(args):
     titles = sorted({title for data in pool for title in classes.known[data].methods} | {"f ()J", "%- ()I"})
     print(f"{len(chains)} chains of {pairs} pairs of classes, with {sum(len(Cert(it.first).sections) for it in chains)} sections", flush=True)
     questions = [Question((it.a, it.middle, it.c, it.first, it.second), "as it was") for it in chains]
-    asked_so_far = 0
+    asked_so_far = compositions = 0
     while asked_so_far < count:
         questions += [some_question(chains, pool, titles, rand) for _ in range(min(BATCH, count - asked_so_far) - len(questions))]
         classes.learn(data for question in questions for data in question.bytes())
@@ -615,13 +615,15 @@ def main(args):
                 print(f"{want} wanted, {answer}: {question.lines()[0][:3000]}", flush=True)
         show_wrong(classes, questions[:FEW], answers[:FEW], shown)
         asked_so_far += len(questions)
+        compositions += sum(len(question.files) == 5 for question in questions)
         questions = []
         if wrong > 20:
             break
     for name in sorted(it for it in shown if not shown[it]):
         wrong += 1
         print(f"no question shows that {name} is wrong")
-    print(f"{asked_so_far} questions in {time.time() - began:.0f} s, {wrong} wrong; changed last: " + ", ".join(f"{n} {it}" for it, n in done.most_common()))
+    print(f"{asked_so_far} questions, {compositions} of compositions, in {time.time() - began:.0f} s, {wrong} wrong")
+    print("changed last: " + ", ".join(f"{n} {it}" for it, n in done.most_common()))
     print("said: " + ", ".join(f"{n} {it}" for it, n in kinds.most_common()))
     print(f"wrong rules, and how many of at most {FEW} questions show each: " + ", ".join(f"{name} {n}" for name, n in sorted(shown.items())))
     return wrong

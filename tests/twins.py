@@ -4,12 +4,14 @@
 Each method has sums, products and shifts, choices or a loop, and its twin has the terms of a sum exchanged, a shift for a product, a test turned
 about, a loop that counts in eights where the other multiplies by 8, and so on: a search is needed to join the two. The program compares them
 (`validate --cert`). Each section of its certificates must be accepted by tests/checker.py over least graphs of tests/converter.py (as in
-tests/checked.py), and there must be one for each line `.. equivalent`. It prints how many lines say what, how many sections have steps, and how long they are.
+tests/checked.py), and there must be one for each line `.. equivalent`. It prints how many methods are equivalent,
+how many sections have steps, how long they are, and how often each step and each axiom occurs.
 
-    tests/twins.py [--seed N] [--all] [METHODS]
+    tests/twins.py [--seed N] [--changes N] [--all] [METHODS]
 
-METHODS is how many methods there are, 10000 if left out, 50 in a class. With --all the searches go by all axioms. The program is the one that `cd crates/punthizha && rt run`
-leaves, or the one that the environment variable PUNTHIZHA names. It needs a JDK.
+METHODS is how many methods there are, 10000 if left out, 50 in a class. With --changes the program checks N changed sections of each too, and its answers
+must be those of the second checker. With --all the searches go by all axioms. The program is the one that `cd crates/punthizha && rt run` leaves, or the
+one that the environment variable PUNTHIZHA names. It needs a JDK.
 """
 
 import os
@@ -79,6 +81,7 @@ def written_twins(seed, classes, methods, one, other):
 
 def main(args):
     seed = int(args.pop(args.index("--seed") + 1)) if "--seed" in args else 1
+    changes = int(args.pop(args.index("--changes") + 1)) if "--changes" in args else 0
     count = int(next((arg for arg in args if arg.isdigit()), 10000))
     counts, rand, began, classes = Counts(), random.Random(seed), time.time(), -(-count // METHODS)
     with tempfile.TemporaryDirectory() as work:
@@ -88,7 +91,7 @@ def main(args):
         written_twins(seed, classes, METHODS, one, other)
         for name in (f"C{number}.class" for number in range(classes)):
             pair = Pair(name, os.path.join(one, name), os.path.join(other, name), os.path.join(work, "cert"), "all" if "--all" in args else "core")
-            counts.add(pair, rand, 0)
+            counts.add(pair, rand, changes)
     print(f"{classes * METHODS} methods, {len(counts.lengths)} of them equivalent, {sum(1 for it in counts.lengths if it)} with steps")
     counts.show(time.time() - began)
     return counts.wrong

@@ -13,7 +13,7 @@ At the end the reader has one wrong rule after the other, and each must answer s
 
     tests/chains.py [--seed N] [COUNT]
 
-COUNT is how many questions there are, 100000 if left out. The program is found as in tests/sections.py. It needs a JDK.
+COUNT is how many questions there are, 100000 if left out. Both programs must be there, as tests/programs.py finds them, and a JDK.
 """
 
 import functools
@@ -572,6 +572,34 @@ def first_chains(seed):
     return chains, sorted({it for triple in triples for it in triple}), len(pairs)
 
 
+def without_steps(cert):
+    head, sections = sections_of(cert)
+    return joined(head, [[section[0], section[-1]] for section in sections])
+
+
+def first_questions(chains):
+    """What is asked first, so that each wrong rule is shown: of all chains as they are, and of some in which one thing is wrong."""
+    one, other = chains[:2]
+    a, middle, c, first, second = one.a, one.middle, one.c, one.first, one.second
+    after, title = first.count(b"\n") + second.count(b"\n"), sections_of(second)[1][0][0]
+    texts = [
+        one.text()[:-1],
+        one.text().replace(middle.hex().encode(), middle.hex().upper().encode()),
+        spelled(middle, first, second, b"0%d" % first.count(b"\n")),
+        spelled(middle, first, second, b"%d" % (after + 1)),
+        spelled(other.middle, first, second),
+        spelled(middle, first, with_digests(second, other.middle, other.middle)),
+        spelled(middle, first, second + title + b"\nflip 0 0 1.1\nend\n"),
+        spelled(middle, first, without_steps(second)),
+        spelled(middle, without_steps(first), second),
+        spelled(middle, first, joined(sections_of(second)[0], sections_of(second)[1][1:])),
+    ]
+    found = [Question((it.a, it.middle, it.c, it.first, it.second), "as it was") for it in chains]
+    found += [Question((it.a, it.c, it.text()), "as it was") for it in chains]
+    found += [Question((a, c, text), "one thing") for text in texts]
+    return found + [Question((a, middle, c, *certs), "one thing") for certs in ((second, first), (b"", first), (first, first))]
+
+
 def kind(answer):
     """What an answer is counted as: its status, and its words without names and numbers."""
     status, said = answer.split(" ", 1)
@@ -599,10 +627,10 @@ def main(args):
     rules, wrong, kinds, done, shown = Rules(classes), 0, Counter(), Counter(), {rule.__name__: 0 for rule in WRONG}
     titles = sorted({title for data in pool for title in classes.known[data].methods} | {"f ()J", "%- ()I"})
     print(f"{len(chains)} chains of {pairs} pairs of classes, with {sum(len(Cert(it.first).sections) for it in chains)} sections", flush=True)
-    questions = [Question((it.a, it.middle, it.c, it.first, it.second), "as it was") for it in chains]
+    questions = first_questions(chains)
     asked_so_far = compositions = 0
     while asked_so_far < count:
-        questions += [some_question(chains, pool, titles, rand) for _ in range(min(BATCH, count - asked_so_far) - len(questions))]
+        questions += [some_question(chains, pool, titles, rand) for _ in range(max(0, min(BATCH, count - asked_so_far) - len(questions)))]
         classes.learn(data for question in questions for data in question.bytes())
         said = iter(asked([line for question in questions for line in question.lines()]))
         answers = [[next(said) for _ in question.lines()] for question in questions]
@@ -622,10 +650,10 @@ def main(args):
     for name in sorted(it for it in shown if not shown[it]):
         wrong += 1
         print(f"no question shows that {name} is wrong")
-    print(f"{asked_so_far} questions, {compositions} of compositions, in {time.time() - began:.0f} s, {wrong} wrong")
     print("changed last: " + ", ".join(f"{n} {it}" for it, n in done.most_common()))
     print("said: " + ", ".join(f"{n} {it}" for it, n in kinds.most_common()))
     print(f"wrong rules, and how many of at most {FEW} questions show each: " + ", ".join(f"{name} {n}" for name, n in sorted(shown.items())))
+    print(f"{asked_so_far} questions, {compositions} of compositions, in {time.time() - began:.0f} s, {wrong} wrong")
     return wrong
 
 

@@ -11,6 +11,12 @@ that nest at most 16 deep:
     switch      a switch with 1,500 cases in a loop
     widened     an int that is widened to a long and narrowed, 4,095 times
 
+Two more are run only where they are named, since they take longer than that:
+
+    breaks      16 loops, one in another, out of which 225 blocks lead, each to a block of its own
+    search      8 loops, one in another, that carry 20 locals, against the same with another innermost test and no round of the search:
+                inductions are tried inside one another, so the time is exponential in the depth
+
 For each it prints what the program says, its processor seconds and its greatest memory. It fails where the program ends otherwise
 than with a line or with out of memory, where it takes more seconds than 30, and, with MEGABYTES 0, more memory than 3072 MB.
 
@@ -28,7 +34,7 @@ from programs import punthizha
 
 SECONDS, MEGABYTES, LAST_SECOND = 30, 3072, 600
 MOST_BYTES, LOCALS = 8192, 60
-ILOAD, ISTORE, IINC, IADD, IFLE, IFEQ, GOTO, IRETURN, I2L, L2I = 0x15, 0x36, 0x84, 0x60, 0x9E, 0x99, 0xA7, 0xAC, 0x85, 0x88
+NOP, ILOAD, ISTORE, IINC, IADD, IFEQ, IFNE, IFLE, GOTO, IRETURN, I2L, L2I = 0, 0x15, 0x36, 0x84, 0x60, 0x99, 0x9A, 0x9E, 0xA7, 0xAC, 0x85, 0x88
 
 
 def load(c, local):
@@ -134,6 +140,54 @@ def switch():
     return "IIII", 56, c
 
 
+def breaks():
+    """Each loop counts a local down. In the innermost stands a row of blocks, each of which raises a local and may leave all loops."""
+    c = Code()
+    outs = [c.label() for _ in range(225)]
+    set_all(c, 4, LOCALS)
+    ends = []
+    for counter in range(44, 60):
+        top, after = c.label(), c.label()
+        c.at(top)
+        load(c, counter)
+        c.branch(IFLE, after)
+        c.put(IINC, counter, 255)
+        ends.append((top, after))
+    for at, out in enumerate(outs):
+        c.put(IINC, 4 + at % 40, 1 + at % 100)
+        load(c, 4 + at % 4)
+        c.branch(IFEQ, out)
+    for top, after in reversed(ends):
+        c.branch(GOTO, top)
+        c.at(after)
+    for at, out in enumerate(outs):
+        c.at(out)
+        c.put(IINC, 4 + (at + 1) % 40, 2)
+    return_sum(c, LOCALS)
+    return "IIII", LOCALS, c
+
+
+def search(innermost=IFNE):
+    """Loops that end with a test of a parameter, before which all locals are raised."""
+    c = Code()
+    tops = [c.label() for _ in range(8)]
+    set_all(c, 4, 24)
+    for top in tops:
+        c.at(top)
+        c.put(NOP)
+    for at, top in enumerate(reversed(tops)):
+        for local in range(4, 24):
+            c.put(IINC, local, 1 + at * (local == 4 + at))
+        load(c, 0)
+        c.branch(IFNE if at else innermost, top)
+    return_sum(c, 24)
+    return "IIII", 24, c
+
+
+def searched():
+    return search(IFLE)
+
+
 def widened():
     c = Code()
     load(c, 0)
@@ -143,16 +197,17 @@ def widened():
 
 
 METHODS = {"diamonds": diamonds, "loops": loops, "nest": nest, "switch": switch, "widened": widened}
+LONGER = {"breaks": breaks, "search": search}
 
 
-def class_of(name):
-    params, local, code = METHODS[name]()
+def class_of(name, method):
+    params, local, code = method()
     code = code.bytes()
     assert len(code) <= MOST_BYTES
     return class_file([(name, f"({params})I", 4, local, code)]), len(code)
 
 
-def ran(path, limit):
+def ran(first, second, limit):
     """What the program prints, its status, its processor seconds and its greatest memory in MB, with at most so much address space."""
 
     def limits():
@@ -160,7 +215,7 @@ def ran(path, limit):
         if limit:
             resource.setrlimit(resource.RLIMIT_AS, (limit << 20, limit << 20))
 
-    child = subprocess.Popen([punthizha(), "validate", path, path], stdout=subprocess.PIPE, stderr=subprocess.DEVNULL, preexec_fn=limits)
+    child = subprocess.Popen([punthizha(), "validate", *["--rounds", "0"] * (first != second), first, second], stdout=subprocess.PIPE, stderr=subprocess.DEVNULL, preexec_fn=limits)
     out = child.stdout.read().decode()
     _, status, used = os.wait4(child.pid, 0)
     child.returncode = os.waitstatus_to_exitcode(status)
@@ -172,11 +227,13 @@ def main():
     failed = False
     with tempfile.TemporaryDirectory() as work:
         for name in sys.argv[2:] or METHODS:
-            path = os.path.join(work, name + ".class")
-            data, length = class_of(name)
-            with open(path, "wb") as file:
-                file.write(data)
-            out, status, seconds, memory = ran(path, limit)
+            made = [METHODS.get(name) or LONGER[name]] + [searched] * (name == "search")
+            paths = [os.path.join(work, f"{name}{at}.class") for at in range(len(made))]
+            for path, method in zip(paths, made):
+                data, length = class_of(name, method)
+                with open(path, "wb") as file:
+                    file.write(data)
+            out, status, seconds, memory = ran(paths[0], paths[-1], limit)
             wrong = status not in (0, 1, 7) or bool(out) != (status in (0, 1)) or seconds > SECONDS or memory > MEGABYTES
             failed = failed or wrong
             print(f"{name}, {length} bytes: {out or 'nothing'}, {status} | {seconds:.1f} s, {memory} MB{' FAILED' * wrong}", flush=True)

@@ -1,0 +1,9 @@
+mod Appends
+mod Apart
+mod Described
+mod Entered
+mod LabelSteps
+mod LineSteps
+mod Made
+mod Pools
+mod Standing

@@ -1,0 +1,18 @@
+//! Laws of the classes of listings, each as the contract of a function that does nothing.
+
+ghost use Rattle.pv_asm.specs.Laws.{EntriesOnce, LabelsStand, ListingIsClass};
+
+/// Each class of a listing, if it isn't too long to be read, is a class file, and its methods are those of the listing.
+pub fn law_class()
+    ensures { ListingIsClass }
+{}
+
+/// No entry stands twice in the constant pool of a listing.
+pub fn law_once()
+    ensures { EntriesOnce }
+{}
+
+/// The address of a label is the number of bytes of code before it.
+pub fn law_labels()
+    ensures { LabelsStand }
+{}

@@ -28,7 +28,7 @@ LAYERS = [
     ("graphs", ["pv_counted", "pv_alike", "pv_denote", "pv_graph"]),
     ("listings", ["pv_asm", "pv_maker", "pv_listing"]),
     ("bytes", ["pv_insn", "pv_class", "pv_pool", "pv_token"]),
-    ("ground", ["pv_base", "pv_types", "pv_format", "pv_value", "pv_list"]),
+    ("ground", ["pv_base", "pv_pieces", "pv_types", "pv_format", "pv_value", "pv_list"]),
 ]
 WIDTH, HEIGHT, LEFT, ACROSS, DOWN = 104, 26, 140, 124, 62
 

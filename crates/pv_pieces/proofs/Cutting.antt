@@ -1,5 +1,6 @@
 -- The pieces of a cut, one after another, are the whole.
-use Rattle.std.proofs.Common.{◌≡◌, ℕ, ◌+◌, ◌-◌, ◌*◌, ◌/◌, ◌%◌, ◌<◌, ◌≤◌, List, length, suc, zero, take, drop, ◌++◌, sym, ap, subst, ◌∙◌, arith}
+use Rattle.std.proofs.Common.{◌≡◌, ℕ, ◌+◌, ◌-◌, ◌*◌, ◌/◌, ◌%◌, ◌<◌, ◌≤◌, List, [], ◌∷◌, Some, length, suc, zero, take, drop, ◌++◌, refl, sym, ap, subst, ◌∙◌, arith}
+use Rattle.std.specs.Prelude.{slice_get}
 use Rattle.std.specs.List.{flat_map}
 use Rattle.std.proofs.Math.Seq.{take-add, take-length}
 use Rattle.std.proofs.Math.Nat.{suc-mul, div-add-mod, min-le_left}
@@ -9,6 +10,28 @@ use Rattle.pv_pieces.specs.Cut.{start_of, between, nth_piece, joined}
 -- the first items up to place b are those up to place a and those between
 take_between : {X : Type 0} (xs : List X) (a b : ℕ) → a ≤ b → take b xs ≡ take a xs ++ between xs a b
 take_between xs a b le = subst (λ (n : ℕ). take n xs ≡ take a xs ++ take (b - a) (drop a xs)) (omega (arith, le)) (take-add a (b - a) xs)
+
+-- no items stand between a place and itself
+pub between_none : {X : Type 0} (xs : List X) (a : ℕ) → between xs a a ≡ []
+between_none xs a = let none : a - a ≡ 0 = omega arith in ap (λ (n : ℕ). take n (drop a xs)) none
+
+get_drop : {X : Type 0} (a : ℕ) (xs : List X) (i : ℕ) → slice_get (drop a xs) i ≡ slice_get xs (a + i)
+get_drop zero xs i = ap (slice_get xs) (let z : i ≡ 0 + i = omega arith in z)
+get_drop (suc a) [] i = refl
+get_drop (suc a) (x ∷ xs) i = get_drop a xs i ∙ ap (slice_get (x ∷ xs)) (let z : suc (a + i) ≡ suc a + i = omega arith in z)
+
+take_next : {X : Type 0} (xs : List X) (i : ℕ) (x : X) → slice_get xs i ≡ Some x → take (suc i) xs ≡ take i xs ++ x ∷ []
+take_next [] i x at = absurd (cc at)
+take_next {X = X} (y ∷ xs) zero x at = let same : y ≡ x = cc at in ap (λ (z : X). z ∷ []) same
+take_next {X = X} (y ∷ xs) (suc i) x at = ap (λ (zs : List X). y ∷ zs) (take_next xs i x at)
+
+-- .. and between it and a later one one item more than before that
+pub between_next : {X : Type 0} (xs : List X) (a k : ℕ) (x : X) → a ≤ k → slice_get xs k ≡ Some x → between xs a (k + 1) ≡ between xs a k ++ x ∷ []
+between_next {X = X} xs a k x le at =
+    let next : k + 1 - a ≡ suc (k - a) = omega (arith, le) in
+    let there : a + (k - a) ≡ k = omega (arith, le) in
+    ap (λ (n : ℕ). take n (drop a xs)) next
+    ∙ take_next (drop a xs) (k - a) x (get_drop a xs (k - a) ∙ ap (λ (n : ℕ). slice_get xs n) there ∙ at)
 
 pub start_first : (n w : ℕ) → start_of n w 0 ≡ 0
 start_first n w = grind (arith, min-le_left 0 (n % w))
@@ -47,3 +70,17 @@ joined_before f xs w (suc k) =
 pub joined_whole : {X A : Type 0} (f : X → List A) (xs : List X) (w : ℕ) → 0 < w
     → joined (λ (i : ℕ). flat_map f (nth_piece xs w i)) w ≡ flat_map f xs
 joined_whole f xs w some = joined_before f xs w w ∙ ap (λ (n : ℕ). flat_map f (take n xs)) (start_last (length xs) w some) ∙ ap (flat_map f) (take-length xs)
+
+joined_same : {X : Type 0} (f g : ℕ → List X) → ((k : ℕ) → f k ≡ g k) → (n : ℕ) → joined f n ≡ joined g n
+joined_same f g same zero = refl
+joined_same f g same (suc n) = ap (λ l. l ++ f n) (joined_same f g same n) ∙ ap (λ l. joined g n ++ l) (same n)
+
+single_items : {X : Type 0} (xs : List X) → flat_map (λ x. x ∷ []) xs ≡ xs
+single_items [] = refl
+single_items {X = X} (x ∷ xs) = ap (λ (l : List X). x ∷ l) (single_items xs)
+
+-- the pieces, one after another, are the whole
+pub joined_pieces : {X : Type 0} (xs : List X) (w : ℕ) → 0 < w → joined (λ (k : ℕ). nth_piece xs w k) w ≡ xs
+joined_pieces xs w some =
+    joined_same (λ (k : ℕ). nth_piece xs w k) (λ (k : ℕ). flat_map (λ x. x ∷ []) (nth_piece xs w k)) (λ k. sym (single_items (nth_piece xs w k))) w
+    ∙ joined_whole (λ x. x ∷ []) xs w some ∙ single_items xs

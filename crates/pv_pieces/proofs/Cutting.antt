@@ -15,6 +15,10 @@ take_between xs a b le = subst (λ (n : ℕ). take n xs ≡ take a xs ++ take (b
 pub between_none : {X : Type 0} (xs : List X) (a : ℕ) → between xs a a ≡ []
 between_none xs a = let none : a - a ≡ 0 = omega arith in ap (λ (n : ℕ). take n (drop a xs)) none
 
+-- the items from the first place to the end are all
+pub between_all : {X : Type 0} (xs : List X) → between xs 0 (length xs) ≡ xs
+between_all xs = let all : length xs - 0 ≡ length xs = omega arith in ap (λ (n : ℕ). take n xs) all ∙ take-length xs
+
 get_drop : {X : Type 0} (a : ℕ) (xs : List X) (i : ℕ) → slice_get (drop a xs) i ≡ slice_get xs (a + i)
 get_drop zero xs i = ap (slice_get xs) (let z : i ≡ 0 + i = omega arith in z)
 get_drop (suc a) [] i = refl

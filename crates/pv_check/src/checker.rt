@@ -1,6 +1,6 @@
 //! A section of a certificate, checked by pieces at once.
 
-ghost use Rattle.std.specs.Prelude.{◌≡◌, ◌↔◌, ◌≤◌, ◌<◌, ◌+◌, ◌-◌, ◌∷◌, ◌++◌, [], ℕ, List, IfOk, IfSome, IfNone, IsTrue, false, length, reverse};
+ghost use Rattle.std.specs.Prelude.{◌≡◌, ◌↔◌, ◌≤◌, ◌<◌, ◌+◌, ◌-◌, ◌/◌, ◌∷◌, ◌++◌, [], ℕ, min, max, List, IfOk, IfSome, IfNone, IsTrue, false, length, reverse};
 ghost use Rattle.std.specs.Bool.{OnTrue, OnFalse};
 ghost use Rattle.pv_graph.specs.Graphs.{Graph};
 ghost use Rattle.pv_alike.specs.Least.{Rooted};
@@ -26,6 +26,9 @@ use pv_value::Memory;
 use std::alloc::Global;
 use std::thread;
 use std::thread::Threads;
+
+/// The fewest steps for which a section gets another worker: fewer are tested in less time than a thread takes to start.
+pub const STEPS_A_WORKER: usize = 512;
 
 // Takes a step after those before it, where it is right.
 fn advance(
@@ -122,6 +125,14 @@ impl<'a> Checker<'a> {
             least,
             steps,
         }
+    }
+
+    /// As many of these workers as there are steps for ([`STEPS_A_WORKER`] each), but one at least. It takes no memory.
+    pub fn crew<'w, R, G>(&self, workers: &Workers<'w, R, G>) -> Workers<'w, R, G>
+        ensures { result.count ≡ max 1 (min workers.now.count (length self.now.steps.now / STEPS_A_WORKER)) }
+    {
+        let most = self.steps.len() / STEPS_A_WORKER;
+        Workers::new(workers.rt, workers.gate, workers.count().min(most).max(1))
     }
 
     // The front of the first n steps, right or not, where there is a graph after them.

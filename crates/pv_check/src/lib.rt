@@ -29,7 +29,7 @@
 //!
 //! The layer above uses `Checker`, of axioms, a least graph and steps. `check` runs the pieces of a section at once: its clauses say that
 //! the answer is `Accepted` exactly where the section derives that the roots are equal (`Derives`), and a number exactly
-//! where it is rejected with that number (`Rejects`), whatever the workers. What an accepted section shows is `law_accepted` of `pv_axioms`.
+//! where it is rejected with that number (`Rejects`), whatever the workers; `crew` says how many of them a section is worth. What an accepted section shows is `law_accepted` of `pv_axioms`.
 //! `step_is_right` answers of one step whether it is right after those before it (`IsRightAt`), each node step of which is
 //! right; it replays these.
 #![tactic(auto)]
@@ -50,4 +50,4 @@ mod sorts;
 mod tables;
 mod testing;
 
-pub use checker::{Checked, Checker};
+pub use checker::{Checked, Checker, STEPS_A_WORKER};

@@ -1,12 +1,11 @@
 //! Three files, read as classes.
 
 ghost use Rattle.std.specs.Prelude.{IfOk};
-ghost use Rattle.pv_class.specs.Answers.{IsAnswer};
 ghost use Rattle.pv_links.specs.Made.{BadFetched, FaultFetched};
 
 use crate::stage::Stage;
-use pv_class::{ClassFault, ClassFile, LONGEST_FILE, read_class};
-use pv_report::Fetched;
+use pv_class::{ClassFault, ClassFile, LONGEST_FILE};
+use pv_report::{Fetched, class_in};
 use pv_value::Memory;
 use std::alloc::Global;
 
@@ -23,19 +22,6 @@ pub(crate) struct Classes {
 pub(crate) struct BadStage {
     pub(crate) stage: Stage,
     pub(crate) fault: ClassFault,
-}
-
-// The class that some bytes are, or their fault.
-fn class_in(alloc: Global, bytes: &[u8]) -> Result<Result<ClassFile, ClassFault>, Memory>
-    ensures { IfOk result (λ read. IsAnswer bytes.now read) }
-{
-    match read_class(alloc, bytes) {
-        Ok(file) => Ok(Ok(file)),
-        Err(fault) => match fault {
-            ClassFault::Memory => Err(Memory),
-            fault => Ok(Err(fault)),
-        },
-    }
 }
 
 // The fault of a file, if it is no class file.

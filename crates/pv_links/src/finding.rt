@@ -3,7 +3,6 @@
 ghost use Rattle.std.specs.Prelude.{◌≡◌, ◌↔◌, ◌<◌, IfOk, IfSome, IsTrue, Some, false, length, slice_get};
 ghost use Rattle.pv_class.specs.declared.file.Method.{Method};
 ghost use Rattle.pv_report.specs.Judging.{IsRead};
-ghost use Rattle.pv_report.specs.Verdicts.{HasCode};
 ghost use Rattle.pv_links.specs.Findings.{IsFinding};
 ghost use Rattle.pv_links.specs.Made.{AreRead, AreWithin, HaveCodesAt, IsChecked, IsFindingOnPlaces, IsPartnerAt, stage_at};
 
@@ -18,7 +17,7 @@ use pv_check::{Checked, Checker};
 use pv_class::ClassFile;
 use pv_frame::Cause;
 use pv_pieces::Workers;
-use pv_report::{Side, partner_of};
+use pv_report::{Side, has_code, partner_of};
 use pv_value::Memory;
 use std::alloc::Global;
 use std::thread::Threads;
@@ -146,14 +145,6 @@ fn without_code(classes: &Classes, at: Places) -> Option<Stage>
     None
 }
 
-// Whether the method at a place has a code.
-fn has_code(class: &ClassFile, method: usize) -> bool
-    requires { method < length class.now.methods }
-    ensures { (m : Method) → slice_get class.now.methods method ≡ Some m → IsTrue result ↔ HasCode m }
-{
-    class.methods.as_slice()[method].code.is_some()
-}
-
 // That the method of the one or the other of two classes is refused.
 fn refused_at(refused: RefusedSide, one: Stage, two: Stage) -> LinkFinding
     ensures { result ≡ LinkFinding.Refused (stage_at refused.side one two) refused.cause }
@@ -176,5 +167,5 @@ fn check<R: Threads + Sync, G: Gate>(
     ensures { IfOk result (λ answer. IsChecked least.now section.now answer) }
 {
     let checker = Checker::new(axioms, least, section.steps.as_slice());
-    checker.check(workers, alloc)
+    checker.check(&checker.crew(workers), alloc)
 }

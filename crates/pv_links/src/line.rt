@@ -1,7 +1,7 @@
 //! The lines on chains.
 
 ghost use Rattle.std.specs.Prelude.{◌≡◌, ◌++◌, ◌∷◌, [], IfOk, OnOk, decimal};
-ghost use Rattle.pv_report.specs.Lines.{fault_words, kind_word, line_text, method_line, word_at};
+ghost use Rattle.pv_report.specs.Lines.{line_text, method_line};
 ghost use Rattle.pv_token.specs.Words.{spaced};
 ghost use Rattle.pv_links.specs.Lines.{bad_chain, bad_link, bad_link_words, bad_stage, chain_flaw_words, composed, finding_words, link_word, text_flaw_words};
 
@@ -11,19 +11,9 @@ use crate::flaw::{BadLink, ChainFlaw, TextFlaw};
 use crate::stage::{ordinal_word, stage_word};
 use pv_cert::{CertFault, Section};
 use pv_chain::ChainFault;
-use pv_class::ClassFault;
-use pv_frame::Cause;
-use pv_report::{
-    Answer, BadClass, Side, Status, Verdict, bad_class, push_method, push_verdict, side_word,
-};
+use pv_report::{Answer, Side, Status, push_cause, push_fault, push_method, side_word};
 use pv_token::push_decimal;
 use std::alloc::{AllocError, Global};
-
-/// How many bytes ` refused first` has, after which the words of a cause come.
-const BEFORE_CAUSE: usize = 14;
-
-/// How many bytes `bad class first` has, after which the words of a fault come.
-const BEFORE_FAULT: usize = 15;
 
 // ---- links
 
@@ -37,12 +27,12 @@ pub(crate) fn push_link(
     ensures { OnOk result (out.new.items ≡ out.old.items ++ line_text (method_line section.now.name section.now.desc (finding_words finding))) }
 {
     push_method(alloc, out, &section.name, &section.desc)?;
-    push_finding(alloc, out, finding)?;
+    push_finding(out, finding)?;
     out.extend_from_slice(b"\n")
 }
 
 // The words of a finding, each after a blank.
-fn push_finding(alloc: Global, out: &mut Vec<u8>, finding: LinkFinding) -> Result<(), AllocError>
+fn push_finding(out: &mut Vec<u8>, finding: LinkFinding) -> Result<(), AllocError>
     ensures { OnOk result (out.new.items ≡ out.old.items ++ spaced (finding_words finding)) }
 {
     match finding {
@@ -54,7 +44,7 @@ fn push_finding(alloc: Global, out: &mut Vec<u8>, finding: LinkFinding) -> Resul
         LinkFinding::Refused(stage, cause) => {
             out.extend_from_slice(b" refused ")?;
             out.extend_from_slice(stage_word(stage))?;
-            push_cause(alloc, out, cause)
+            push_cause(out, cause)
         }
         LinkFinding::Rejected(side, n) => {
             out.extend_from_slice(b" rejected ")?;
@@ -71,15 +61,6 @@ fn push_number(out: &mut Vec<u8>, word: &[u8], n: usize) -> Result<(), AllocErro
     out.extend_from_slice(word)?;
     out.extend_from_slice(b" ")?;
     push_decimal(out, n)
-}
-
-// The words of a cause, each after a blank: those that a report has after the side.
-fn push_cause(alloc: Global, out: &mut Vec<u8>, cause: Cause) -> Result<(), AllocError>
-    ensures { OnOk result (out.new.items ≡ out.old.items ++ spaced (word_at (kind_word cause.kind) cause.at)) }
-{
-    let mut words = Vec::new(alloc);
-    push_verdict(&mut words, Verdict::Refused(Side::First, cause))?;
-    out.extend_from_slice(&words[BEFORE_CAUSE..])
 }
 
 /// What is said of a chain that is not one for the two files. Out of memory is the one error.
@@ -135,20 +116,12 @@ pub(crate) fn bad_stage(alloc: Global, bad: BadStage) -> Result<Answer, AllocErr
     let mut text = Vec::new(alloc);
     text.extend_from_slice(b"bad class ")?;
     text.extend_from_slice(ordinal_word(bad.stage))?;
-    push_fault(alloc, &mut text, bad.fault)?;
+    push_fault(&mut text, bad.fault)?;
+    text.extend_from_slice(b"\n")?;
     Ok(Answer {
         text,
         status: Status::BadClass,
     })
-}
-
-// The words of a fault, each after a blank, and a line feed: what a report on two files has after the side.
-fn push_fault(alloc: Global, out: &mut Vec<u8>, fault: ClassFault) -> Result<(), AllocError>
-    ensures { OnOk result (out.new.items ≡ out.old.items ++ line_text (spaced (fault_words fault))) }
-{
-    let side = Side::First;
-    let Answer { text, status: _ } = bad_class(alloc, BadClass { side, fault })?;
-    out.extend_from_slice(&text[BEFORE_FAULT..])
 }
 
 /// What is said of two certificates that are no links. Out of memory is the one error.

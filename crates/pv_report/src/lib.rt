@@ -29,10 +29,10 @@ mod verdict;
 mod waiting;
 
 pub use laws::{law_judged, law_lines};
-pub use line::{push_method, push_verdict, side_word};
-pub use pair::{BadClass, Fetched, Pair, read_pair};
+pub use line::{push_cause, push_fault, push_method, push_verdict, side_word};
+pub use pair::{BadClass, Fetched, Pair, class_in, read_pair};
 pub use partners::partner_of;
 pub use pv_certify::{AxiomSet, Limits};
 pub use report::{Answer, Report, bad_class, judge};
 pub use status::Status;
-pub use verdict::{Detail, Graphs, Side, Verdict, least_roots};
+pub use verdict::{Detail, Graphs, Side, Verdict, has_code, least_roots};

@@ -6,7 +6,7 @@ ghost use Rattle.pv_report.specs.Lines.{side_word, kind_word, verdict_words, met
 
 use crate::verdict::{Side, Verdict};
 use pv_class::{ClassFault, Method, PoolWord};
-use pv_frame::CauseKind;
+use pv_frame::{Cause, CauseKind};
 use pv_token::{push_decimal, push_shown};
 use pv_value::Name;
 use std::alloc::{AllocError, Global};
@@ -21,8 +21,8 @@ pub fn push_bad_class(out: &mut Vec<u8>, side: Side, fault: ClassFault) -> Resul
     out.extend_from_slice(b"\n")
 }
 
-// The words of a fault, each after a blank.
-fn push_fault(out: &mut Vec<u8>, fault: ClassFault) -> Result<(), AllocError>
+/// The words of a fault, each after a blank.
+pub fn push_fault(out: &mut Vec<u8>, fault: ClassFault) -> Result<(), AllocError>
     ensures { OnOk result (out.new.items ≡ out.old.items ++ spaced (fault_words fault)) }
 {
     match fault {
@@ -100,13 +100,20 @@ pub fn push_verdict(out: &mut Vec<u8>, verdict: Verdict) -> Result<(), AllocErro
         Verdict::Refused(side, cause) => {
             out.extend_from_slice(b" refused ")?;
             out.extend_from_slice(side_word(side))?;
-            push_word_at(out, kind_word(cause.kind), cause.at as usize)
+            push_cause(out, cause)
         }
         Verdict::Equivalent => out.extend_from_slice(b" equivalent"),
         Verdict::Apart => out.extend_from_slice(b" unknown apart"),
         Verdict::Rounds(rounds) => push_unknown(out, b"rounds", rounds),
         Verdict::Budget(rounds) => push_unknown(out, b"budget", rounds),
     }
+}
+
+/// The words of a cause, each after a blank.
+pub fn push_cause(out: &mut Vec<u8>, cause: Cause) -> Result<(), AllocError>
+    ensures { OnOk result (out.new.items ≡ out.old.items ++ spaced (word_at (kind_word cause.kind) cause.at)) }
+{
+    push_word_at(out, kind_word(cause.kind), cause.at as usize)
 }
 
 // That nothing is known, with the limit that was reached and the number of rounds, each word after a blank.

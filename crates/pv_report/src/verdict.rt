@@ -200,8 +200,8 @@ pub(crate) fn judgement_on<R: Threads + Sync, G: Gate>(
     }
 }
 
-// Whether the method at a place has a code.
-fn has_code(class: &ClassFile, method: usize) -> bool
+/// Whether the method at a place has a code.
+pub fn has_code(class: &ClassFile, method: usize) -> bool
     requires { method < length class.now.methods }
     ensures { (m : Method) → slice_get class.now.methods method ≡ Some m → IsTrue result ↔ HasCode m }
 {

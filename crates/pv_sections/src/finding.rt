@@ -67,7 +67,7 @@ fn find_on<R: Threads + Sync, G: Gate>(
         Err(verdict) => return Ok(Finding::Verdict(verdict)),
     };
     let checker = Checker::new(axioms, &least, section.steps.as_slice());
-    match checker.check(workers, alloc)? {
+    match checker.check(&checker.crew(workers), alloc)? {
         Checked::Accepted => Ok(Finding::Verdict(Verdict::Equivalent)),
         Checked::Rejected(n) => Ok(Finding::Rejected(n)),
     }

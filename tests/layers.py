@@ -29,7 +29,7 @@ LAYERS = [
     ("random methods", ["pv_maker"]),
     ("listings", ["pv_asm", "pv_listing"]),
     ("bytes", ["pv_insn", "pv_class", "pv_pool", "pv_token"]),
-    ("ground", ["pv_base", "pv_types", "pv_format", "pv_value", "pv_list"]),
+    ("ground", ["pv_base", "pv_pieces", "pv_types", "pv_format", "pv_value", "pv_list"]),
 ]
 WIDTH, HEIGHT, LEFT, ACROSS, DOWN = 104, 26, 140, 124, 62
 

@@ -1,5 +1,5 @@
 use Rattle.std.proofs.Common.{◌≡◌, ◌++◌, length}
-use Rattle.pv_match.proofs.finder.listed.Given as goal
+use Rattle.pv_match.proofs.gathered.listed.Given as goal
 
 abbrev pub invariant-loop-x : goal.invariant-loop-x
 invariant-loop-x l = l.list.items ++ l.rest.keys ≡ l.fn.set.keys

@@ -1,96 +1,119 @@
 -- Each listing that is made has a class.
-use Rattle.std.proofs.Common.{◌≡◌, ℕ, zero, suc, ◌+◌, ◌*◌, ◌<◌, ◌≤◌, Bool, true, List, [], ◌∷◌, ◌++◌, length, Option, Some, Result, Ok, Err, refl, sym, ap, subst, ◌∙◌, arith, add-one, append-nil, append_assoc, length-append}
-use Rattle.std.specs.Prelude.{codes}
-use Rattle.std.specs.List.{AllByRecursion}
-use Rattle.std.proofs.lemmas.List.{map-append}
+use Rattle.std.proofs.Common.{◌≡◌, ◌⊎◌, inl, inr, ℕ, zero, suc, ◌+◌, ◌<◌, ◌≤◌, Bool, true, List, [], ◌∷◌, ◌++◌, length, map, Option, Some, Result, Ok, Err, refl, sym, ap, ◌∙◌, arith, append-nil, length-append}
+use Rattle.std.specs.Prelude.{codes, decimal}
+use Rattle.std.specs.List.{AllByRecursion, flat_map, slice_get}
+use Rattle.std.proofs.lemmas.Fmt.{decimal_injective, length-decimal-le_succ}
+use Rattle.std.proofs.lemmas.Grind.{flat_map-append}
+use Rattle.std.proofs.lemmas.List.{append_cancel_left, length-map, map-append}
+use Rattle.std.proofs.lemmas.Option.{slice_get_within}
 use Rattle.std.proofs.Math.Nat.{mod-lt}
-use Rattle.pv_class.specs.Items.{file_text}
-use Rattle.pv_pool.specs.declared.entry.Entry.TheVariants.{Utf8, Class}
-use Rattle.pv_pool.specs.Entries.{entry_text}
 use Rattle.pv_listing.specs.declared.line.Line.{Line}
+use Rattle.pv_listing.specs.declared.line.Line.TheVariants as lines
 use Rattle.pv_listing.specs.declared.line.Title.{Title}
-use Rattle.pv_asm.specs.declared.draft.Draft.{Draft}
-use Rattle.pv_asm.specs.declared.draft.Place.TheVariants.{Between}
-use Rattle.pv_asm.specs.declared.seen.Signature.{Signature}
-use Rattle.pv_asm.specs.Classes.{bytes_of, class_of_lines, items_of}
-use Rattle.pv_asm.specs.Listings.{read_lines}
-use Rattle.pv_asm.specs.Needs.{after}
+use Rattle.pv_asm.specs.Classes.{class_of_lines}
+use Rattle.pv_asm.specs.Laws.{AreApart, IsPlain, MethodLines, method_lines}
+use Rattle.pv_asm.proofs.Cited.{methods_have_class}
 use Rattle.pv_maker.specs.declared.class.TheConstants.{MOST_MADE}
 use Rattle.pv_maker.specs.declared.draws.Draw.{Draw}
 use Rattle.pv_maker.specs.Classes.{EachIsMade}
-use Rattle.pv_maker.specs.Draws.{draw_from}
-use Rattle.pv_maker.specs.Draws as draws
-use Rattle.pv_maker.specs.Methods.{listing, method, methods}
-use Rattle.pv_maker.proofs.Lines.{after_method, read_method, seen}
-use Rattle.pv_maker.proofs.Room.{IsBefore, before_more, head_room, name_of, name_short, put_new}
+use Rattle.pv_maker.specs.Draws.{after, draw_from}
+use Rattle.pv_maker.specs.Methods.{body, listing, method, methods}
+use Rattle.pv_maker.proofs.Bodies.{byte, code_few, code_in, code_is, code_some}
 
--- ---- one method more
+-- ---- the methods, each as its head and its body
 
--- the class after n methods
-record IsSoFar (n : ℕ) (d : Draft) : Type 0 where
-  pub few : after 1 d.pool ≤ 5 + 3 * n
-  pub long : length d.signatures ≡ n
-  pub each : AllByRecursion (IsBefore n) d.signatures
-
--- these lines lead on to the class after n methods, whatever comes after them
-record Reads (d : Draft) (all : List Line) (n : ℕ) : Type 0 where
-  pub later : Draft
-  pub so : IsSoFar n later
-  pub read : (rest : List (Option Line)) (m : ℕ) → (k : ℕ) × (read_lines m (Between d) (seen all ++ rest) ≡ read_lines k (Between later) rest)
+abbrev name_of : ℕ → List ℕ
+name_of i = codes "m" ++ decimal i
 
 abbrev title_of : ℕ → Title
 title_of i = record { is_static = true; name = name_of i; desc = codes "(II)I"; stack = 3; locals = 5 }
 
-abbrev signature_of : ℕ → Signature
-signature_of i = record { name = name_of i; desc = codes "(II)I" }
+abbrev made_one : Bool → ℕ → Draw → MethodLines
+made_one twin i d = record { title = title_of i; body = body twin d.shape d.constant }
 
-one_more : (n : ℕ) (twin : Bool) (x : Draw) (d : Draft) → n < 2000 → x.constant < 100 → IsSoFar n d → Reads d (method twin n x) (n + 1)
-one_more n twin x d lt small so =
-    let head = head_room (5 + 3 * n) d.pool (title_of n) (name_short n (omega (arith, lt))) (omega arith) so.few (omega (arith, lt)) in
-    let signatures : List Signature = d.signatures ++ signature_of n ∷ [] in
-    let put = put_new n (signature_of n) d.signatures refl (omega (arith, lt)) so.long so.each in
-    let one : length signatures ≡ length d.signatures + 1 = length-append d.signatures (signature_of n ∷ []) in
-    record {
-      later = after_method d signatures head.head twin x;
-      so = record { few = omega (arith, head.few); long = omega (arith, one, so.long); each = before_more n d.signatures (signature_of n) so.each refl };
-      read = λ rest m. read_method twin x (title_of n) d signatures head.head rest m small put head.is;
-    }
+abbrev made : Bool → ℕ → ℕ → List MethodLines
+made twin seed zero = []
+made twin seed (suc n) = made twin seed n ++ made_one twin n (draw_from (after n seed)) ∷ []
 
--- ---- all methods
+made_lines : (twin : Bool) (seed n : ℕ) → flat_map method_lines (made twin seed n) ≡ methods twin seed n
+made_lines twin seed zero = refl
+made_lines twin seed (suc n) =
+    let d : Draw = draw_from (after n seed) in
+    flat_map-append method_lines (made twin seed n) (made_one twin n d ∷ []) ∙ ap (λ (front : List Line). front ++ (method twin n d ++ [])) (made_lines twin seed n)
+    ∙ ap (λ (last : List Line). methods twin seed n ++ last) (append-nil (method twin n d))
 
--- the class before the first method
-abbrev first : Draft
-first = record {
-  pool = entry_text (Utf8 (codes "G")) ∷ entry_text (Class 1) ∷ entry_text (Utf8 (codes "java/lang/Object")) ∷ entry_text (Class 3) ∷ [];
-  class = 2;
-  superclass = 4;
-  signatures = [];
-  methods = [];
+made_long : (twin : Bool) (seed n : ℕ) → length (made twin seed n) ≡ n
+made_long twin seed zero = refl
+made_long twin seed (suc n) = let both = length-append (made twin seed n) (made_one twin n (draw_from (after n seed)) ∷ []) in omega (arith, both, made_long twin seed n)
+
+-- ---- each has a code
+
+name_short : (i : ℕ) → i ≤ 2000 → length (name_of i) ≤ 65535
+name_short i le = let digits = length-decimal-le_succ i (omega (arith, le)) in let both : length (name_of i) ≡ length (codes "m") + length (decimal i) = length-append (codes "m") (decimal i) in omega (arith, digits, both, le)
+
+is_plain : (twin : Bool) (i : ℕ) (d : Draw) → i ≤ 2000 → d.constant < 100 → IsPlain (made_one twin i d)
+is_plain twin i d le small = record {
+  name = name_short i le;
+  desc = omega arith;
+  code = code_in twin d.shape (byte d.constant);
+  is = code_is twin d.shape d.constant small;
+  some = code_some twin d.shape (byte d.constant);
+  few = code_few twin d.shape (byte d.constant);
 }
 
-apart : (front back : List Line) (rest : List (Option Line)) → seen (front ++ back) ++ rest ≡ seen front ++ (seen back ++ rest)
-apart front back rest = ap (λ (all : List (Option Line)). all ++ rest) (map-append (λ (line : Line). Some line) front back) ∙ append_assoc (seen front) (seen back) rest
+all_push : {X : Type 0} (P : X → Type 0) (xs : List X) (x : X) → AllByRecursion P xs → P x → AllByRecursion P (xs ++ x ∷ [])
+all_push P [] x all one = (one, tt)
+all_push P (y ∷ xs) x all one = (all.0, all_push P xs x all.1 one)
 
-all_methods : (seed n : ℕ) (twin : Bool) → n ≤ 2000 → Reads first (methods twin seed n) n
-all_methods seed zero twin le = record { later = first; so = record { few = omega arith; long = refl; each = tt }; read = λ rest m. (m, refl) }
-all_methods seed (suc n) twin le =
-    let front = all_methods seed n twin (omega (arith, le)) in
-    let x : Draw = draw_from (draws.after n seed) in
-    let one = one_more n twin x front.later (omega (arith, le)) (mod-lt _ (omega arith)) front.so in
-    record {
-      later = one.later;
-      so = subst (λ (k : ℕ). IsSoFar k one.later) (add-one n) one.so;
-      read = λ rest m.
-          let a = front.read (seen (method twin n x) ++ rest) m in
-          let b = one.read rest a.0 in
-          (b.0, ap (read_lines m (Between first)) (apart (methods twin seed n) (method twin n x) rest) ∙ a.1 ∙ b.1);
-    }
+all_plain : (twin : Bool) (seed n : ℕ) → n ≤ 2000 → AllByRecursion IsPlain (made twin seed n)
+all_plain twin seed zero le = tt
+all_plain twin seed (suc n) le = all_push IsPlain (made twin seed n) _ (all_plain twin seed n (omega (arith, le))) (is_plain twin n (draw_from (after n seed)) (omega (arith, le)) (mod-lt _ (omega arith)))
+
+-- ---- no two have the same name
+
+-- one of a list, or the one after it
+last_or : {X : Type 0} (xs : List X) (u : X) (i : ℕ) (x : X) → slice_get (xs ++ u ∷ []) i ≡ Some x → (slice_get xs i ≡ Some x) ⊎ ((i ≡ length xs) × (x ≡ u))
+last_or [] u zero x at = inr (refl, cc)
+last_or [] u (suc i) x at = absurd (cc)
+last_or (y ∷ xs) u zero x at = inl at
+last_or (y ∷ xs) u (suc i) x at = by (last_or xs u i x at)
+  where
+    by : (slice_get xs i ≡ Some x) ⊎ ((i ≡ length xs) × (x ≡ u)) → (slice_get xs i ≡ Some x) ⊎ ((suc i ≡ suc (length xs)) × (x ≡ u))
+    by (inl there) = inl there
+    by (inr last) = inr (ap suc last.0, last.1)
+
+abbrev titles : List MethodLines → List Title
+titles all = map (λ (m : MethodLines). m.title) all
+
+title_at : (twin : Bool) (seed n i : ℕ) (t : Title) → slice_get (titles (made twin seed n)) i ≡ Some t → t ≡ title_of i
+title_at twin seed zero i t at = absurd (cc)
+title_at twin seed (suc n) i t at =
+    let front : List Title = titles (made twin seed n) in
+    let apart : titles (made twin seed (suc n)) ≡ front ++ title_of n ∷ [] = map-append (λ (m : MethodLines). m.title) (made twin seed n) (made_one twin n (draw_from (after n seed)) ∷ []) in
+    let long : length front ≡ n = length-map (made twin seed n) (λ (m : MethodLines). m.title) ∙ made_long twin seed n in
+    elim (last_or front (title_of n) i t (ap (λ (all : List Title). slice_get all i) (sym apart) ∙ at)) [
+      | inl there ↦ title_at twin seed n i t there
+      | inr last ↦ last.1 ∙ ap title_of (sym (last.0 ∙ long))
+    ]
+
+are_apart : (twin : Bool) (seed n : ℕ) → n ≤ 2000 → AreApart (titles (made twin seed n))
+are_apart twin seed n le i j t u at other names descs =
+    let all : List Title = titles (made twin seed n) in
+    let long : length all ≡ n = length-map (made twin seed n) (λ (m : MethodLines). m.title) ∙ made_long twin seed n in
+    let first = slice_get_within all i t at in
+    let second = slice_get_within all j u other in
+    let same : name_of i ≡ name_of j = ap (λ (x : Title). x.name) (sym (title_at twin seed n i t at)) ∙ names ∙ ap (λ (x : Title). x.name) (title_at twin seed n j u other) in
+    decimal_injective i j (omega (arith, first, long, le)) (omega (arith, second, long, le)) (append_cancel_left (codes "m") (decimal i) (decimal j) same)
+
+-- ---- they have a class
+
+abbrev seen : List Line → List (Option Line)
+seen all = map (λ (line : Line). Some line) all
 
 pub each_is_made : EachIsMade
 each_is_made seed n twin le =
-    let all = all_methods seed n twin le in
-    let read = all.read [] 2 in
-    (file_text (items_of all.later), ap bytes_of (ap (read_lines 2 (Between first)) (sym (append-nil (seen (methods twin seed n)))) ∙ read.1))
+    let class = methods_have_class (codes "G") (made twin seed n) (omega arith) (all_plain twin seed n le) (are_apart twin seed n le) (omega (arith, made_long twin seed n, le)) in
+    (class.0, ap (λ (all : List Line). class_of_lines (seen (lines.Class (codes "G") ∷ all))) (sym (made_lines twin seed n)) ∙ class.1)
 
 -- so none of its lines is the first without a reading
 pub no_fault : (seed n k : ℕ) (twin : Bool) (all : List Line) (read : List (Option Line)) → n ≤ MOST_MADE → all ≡ listing seed n twin → read ≡ seen all → class_of_lines read ≡ Err k → ⊥

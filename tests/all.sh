@@ -51,6 +51,8 @@ run '8 3 1' '11 12 3' tests/wide.py
 run '10000' '100000' tests/rounds.py
 run '200' '2000' tests/workers.py
 run '500' '10000' tests/twins.py
+run '1 20000' '1 1000000' tests/listings.py
+run '20' '2000' tests/makes.py
 run '2000' '100000' tests/chains.py
 run - - tests/memory.py
 run '1 20000' '1 10000000' tests/fuzz.py

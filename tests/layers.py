@@ -26,7 +26,8 @@ LAYERS = [
     ("why they are right", ["pv_runs", "pv_equations"]),
     ("methods", ["pv_refute", "pv_machine", "pv_flow", "pv_live", "pv_frame", "pv_loops"]),
     ("graphs", ["pv_counted", "pv_alike", "pv_denote", "pv_graph"]),
-    ("listings", ["pv_asm", "pv_maker", "pv_listing"]),
+    ("random methods", ["pv_maker"]),
+    ("listings", ["pv_asm", "pv_listing"]),
     ("bytes", ["pv_insn", "pv_class", "pv_pool", "pv_token"]),
     ("ground", ["pv_base", "pv_pieces", "pv_types", "pv_format", "pv_value", "pv_list"]),
 ]

@@ -70,6 +70,7 @@ COMMANDS = {
     "compose-other": ("compose A B C Y X OUT", 3),
     "check-chain": ("check-chain A C D", 0),
     "check-chain-other": ("check-chain A B D", 3),
+    "make": ("make 7 3 OUT OUT", 0),
     "missing": ("validate F A", 1),
     "bad-class": ("check-chain A X D", 2),
     "bad-words": ("check-chain A", 4),

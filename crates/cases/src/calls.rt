@@ -4,7 +4,7 @@ use crate::{outside, runs};
 use cases_certs::{certs, sections};
 use cases_classes::classes as node_classes;
 use cases_files::pools::Asked;
-use cases_files::{classes, codes, pools};
+use cases_files::{classes, codes, listings, pools};
 use cases_graphs::{axioms, bases, graphs, leasts, loops, trees};
 use cases_methods::{flows, frames, machine, roots};
 use cases_search::{counting, joined, searching};
@@ -46,6 +46,9 @@ pub fn answer<R: Files + Threads + Sync>(rt: &R, bench: &Bench, line: &str) -> A
         "respell" => codes::respelling(bench, rest),
         "respell-file" => codes::respelling_file(rt, bench.alloc(), rest),
 
+        "assemble" => listings::assembling(bench, rest),
+        "generate" => listings::generating(bench, rest),
+
         "graph" => graphs::graph(bench, rest),
         "base" => bases::base(bench, rest),
         "chain" => leasts::chain(bench, rest),
@@ -82,6 +85,8 @@ pub fn answer<R: Files + Threads + Sync>(rt: &R, bench: &Bench, line: &str) -> A
         "one-line" => runs::one_line(rt, bench, rest),
         "placed" => runs::placing(rt, bench, rest),
         "certified" => runs::certified(rt, bench, rest),
+        "made" => runs::made(rt, bench, rest),
+        "stored" => runs::stored(rt, bench, rest),
         "linked" => runs::linked(rt, bench, rest),
 
         _ => Err(NoAnswer::Unreadable),

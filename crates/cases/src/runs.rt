@@ -8,6 +8,8 @@
 //! | `refute BYTES BYTES WORD ..` | the same, where the words are `refute A B WORD ..` |
 //! | `one-line BYTES BYTES WORD ..` | whether by `validate A B WORD ..` the status is at most 2 and what was sent is one line |
 //! | `placed NAME WORD ..; SETTING` | the status, the calls that the store got, and the text that it holds under the name afterwards |
+//! | `stored NAME WORD ..; SETTING` | the status, and the bytes that the store holds under the name afterwards |
+//! | `made SEED COUNT WORD ..` | the statuses and what was sent, by `make SEED COUNT A B` and by `validate A B WORD ..` after it |
 //! | `certified BYTES BYTES WORD ..` | the statuses and what was sent, by `validate --cert C A B WORD ..` and by `check A B C` after it |
 //! | `linked BYTES BYTES BYTES` | the statuses and what was sent by `compose A B C X Y D`, over these files and the certificates that `validate --cert` places, and by `check-chain A C D` after it |
 //!
@@ -208,6 +210,39 @@ pub fn placing<R: Threads + Sync>(rt: &R, bench: &Bench, rest: &str) -> Answer {
     };
     let text = str::from_utf8(&held).map_err(|_| NoAnswer::Unreadable)?;
     Ok(format!(in alloc; "{status:?} {asked}; {text:?}")?)
+}
+
+/// `stored NAME WORD ..; SETTING`
+pub fn stored<R: Threads + Sync>(rt: &R, bench: &Bench, rest: &str) -> Answer {
+    let alloc = bench.alloc();
+    let (name, rest) = rest.split_once(' ').ok_or(NoAnswer::Unreadable)?;
+    let (command, setting) = rest.split_once(';').ok_or(NoAnswer::Unreadable)?;
+    let command = command_words(alloc, command)?;
+    let mut files = read_files(bench, &words(alloc, setting)?)?;
+    let (status, _) = sent_by(rt, alloc, &command, &mut files)?;
+    match files.fetch(alloc, name, ROOM) {
+        Ok(bytes) => {
+            let bytes = hex::encode_upper(alloc, &bytes)?;
+            Ok(format!(in alloc; "{status:?} {bytes}")?)
+        }
+        Err(fault) => Ok(format!(in alloc; "{status:?} {fault:?}")?),
+    }
+}
+
+/// `made SEED COUNT WORD ..`
+pub fn made<R: Threads + Sync>(rt: &R, bench: &Bench, rest: &str) -> Answer {
+    let alloc = bench.alloc();
+    let words = words(alloc, rest)?;
+    let [seed, count, options @ ..] = words.as_slice() else {
+        return Err(NoAnswer::Unreadable);
+    };
+    let mut files = MemFiles::new(alloc, Vec::new(alloc), Vec::new(alloc));
+    let (made, out) = sent_by(rt, alloc, &["make", *seed, *count, "A", "B"], &mut files)?;
+    let mut command = vec![in alloc; "validate", "A", "B"]?;
+    command.extend_from_slice(options)?;
+    let (seen, report) = sent_by(rt, alloc, &command, &mut files)?;
+    let (sent, said) = (sent_text(&out)?, sent_text(&report)?);
+    Ok(format!(in alloc; "{made:?} {sent:?}; {seen:?} {said:?}")?)
 }
 
 /// `certified BYTES BYTES WORD ..`

@@ -1,14 +1,13 @@
 -- The class of a listing is a class file.
-use Rattle.std.proofs.Common.{◌≡◌, inr, ℕ, zero, suc, ◌+◌, ◌<◌, ◌≤◌, ◌^◌, max, Bool, true, false, cond, leb, List, [], ◌∷◌, ◌++◌, length, map, Option, Some, None, Result, Ok, Err, refl, sym, ap, subst, ◌∙◌, arith, length-append}
+use Rattle.std.proofs.Common.{◌≡◌, inr, ℕ, zero, suc, ◌+◌, ◌<◌, ◌≤◌, ◌^◌, max, Bool, true, false, cond, List, [], ◌∷◌, ◌++◌, length, map, Option, Some, None, Result, Ok, Err, refl, sym, ap, ◌∙◌, arith, length-append}
 use Rattle.std.specs.Prelude.{codes}
 use Rattle.std.specs.List.{AllByRecursion, AllZip, flat_map, slice_get, slice_split}
 use Rattle.std.proofs.lemmas.Bool.{leb-true}
 use Rattle.std.proofs.lemmas.List.Folds.{flat_map-map}
-use Rattle.pv_class.specs.declared.class.TheConstants.{LONGEST_FILE}
 use Rattle.pv_class.specs.declared.file.ClassFile.{ClassFile}
 use Rattle.pv_class.specs.declared.file.Method.{Method as FileMethod}
-use Rattle.pv_class.specs.ClassFiles.{IsMethod, IsClass, Describes, AreDistinct, code_of as held_of}
-use Rattle.pv_class.specs.Items.{u2, IsU2, FitsAttribute, FitsMemberInfo, FitsCode, FitsItems, code_text, file_text}
+use Rattle.pv_class.specs.ClassFiles.{IsMethod, Describes, AreDistinct, code_of as held_of}
+use Rattle.pv_class.specs.Items.{u2, IsU2, FitsMemberInfo, FitsCode, code_text, file_text}
 use Rattle.pv_format.specs.Splits.{is_feed}
 use Rattle.pv_pool.specs.declared.entry.Entry.{Entry}
 use Rattle.pv_pool.specs.declared.entry.Entry.TheVariants.{Utf8, Class}
@@ -27,7 +26,7 @@ use Rattle.pv_asm.specs.Listings.{read_lines}
 use Rattle.pv_asm.specs.Needs.{after, pool_text}
 use Rattle.pv_asm.proofs.Apart.{AreApart}
 use Rattle.pv_asm.proofs.Entered.{ok_is, IsGood, count_is, index_small}
-use Rattle.pv_asm.proofs.Made.{IsHead, IsMade, IsDraft, Stage, all_read}
+use Rattle.pv_asm.proofs.Made.{IsMade, IsDraft, Stage, all_read}
 
 -- ---- a method as a class file has it
 

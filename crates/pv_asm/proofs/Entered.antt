@@ -1,5 +1,5 @@
 -- What is needed stands in the pool from then on, and each entry stands there once.
-use Rattle.std.proofs.Common.{◌≡◌, ◌⊎◌, inl, inr, ℕ, zero, suc, ◌+◌, ◌<◌, ◌≤◌, ◌^◌, Bool, true, false, cond, leb, eqb, List, [], ◌∷◌, ◌++◌, length, map, Option, Some, None, Result, Ok, Err, refl, sym, ap, subst, ◌∙◌, arith, length-append, append_assoc, append-nil}
+use Rattle.std.proofs.Common.{◌≡◌, ◌⊎◌, inl, inr, ℕ, zero, suc, ◌+◌, ◌<◌, ◌≤◌, ◌^◌, Bool, true, false, cond, leb, eqb, List, [], ◌∷◌, ◌++◌, length, map, Option, Some, None, Result, Ok, refl, sym, ap, subst, ◌∙◌, arith, length-append, append_assoc, append-nil}
 use Rattle.std.specs.List.{AllByRecursion, flat_map, slice_get}
 use Rattle.std.specs.Str.{bytes_eq}
 use Rattle.std.proofs.lemmas.Bool.{cond-true, cond-false, leb-true}
@@ -17,7 +17,7 @@ use Rattle.pv_pool.specs.Reading.{entry}
 use Rattle.pv_pool.specs.Texts.{IsText}
 use Rattle.pv_pool.proofs.Entering.{entry_again}
 use Rattle.pv_value.specs.declared.name.Sym.{Sym}
-use Rattle.pv_asm.specs.Needs.{Pool, Needed, needed, width, after, index_from, need_new, need_at, need_bytes, need, need_text, need_class, need_named, member, need_member}
+use Rattle.pv_asm.specs.Needs.{Pool, Needed, needed, width, after, index_from, need_at, need, need_text, need_class, need_named, member, need_member}
 use Rattle.pv_asm.proofs.Apart.{last_or}
 use Rattle.pv_asm.proofs.Pools.{after_more}
 
@@ -34,12 +34,12 @@ pub bound : {A B : Type 0} (o : Option A) (f : A → Option B) (b : B) → o >>=
 bound None f b is = absurd (cc)
 bound (Some a) f b is = (a, refl, is)
 
-kept : {X : Type 0} (xs ys : List X) (i : ℕ) (x : X) → slice_get xs i ≡ Some x → slice_get (xs ++ ys) i ≡ Some x
+pub kept : {X : Type 0} (xs ys : List X) (i : ℕ) (x : X) → slice_get xs i ≡ Some x → slice_get (xs ++ ys) i ≡ Some x
 kept [] ys i x at = absurd (cc)
 kept (y ∷ xs) ys zero x at = at
 kept (y ∷ xs) ys (suc i) x at = kept xs ys i x at
 
-past : {X : Type 0} (xs ys : List X) (n : ℕ) → slice_get (xs ++ ys) (length xs + n) ≡ slice_get ys n
+pub past : {X : Type 0} (xs ys : List X) (n : ℕ) → slice_get (xs ++ ys) (length xs + n) ≡ slice_get ys n
 past [] ys n = let same : 0 + n ≡ n = omega arith in ap (λ (k : ℕ). slice_get ys k) same
 past (x ∷ xs) ys n =
     let same : suc (length xs) + n ≡ suc (length xs + n) = omega arith in

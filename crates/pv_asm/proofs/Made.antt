@@ -1,5 +1,5 @@
 -- What a class holds as its listing is read.
-use Rattle.std.proofs.Common.{◌≡◌, ◌⊎◌, inl, inr, ℕ, zero, suc, ◌+◌, ◌<◌, ◌≤◌, ◌^◌, Bool, true, false, cond, leb, ◌&&◌, ◌||◌, List, [], ◌∷◌, ◌++◌, length, map, Option, Some, None, ℤ, Result, Ok, Err, refl, sym, ap, subst, ◌∙◌, arith, length-append, append_assoc, append-nil}
+use Rattle.std.proofs.Common.{◌≡◌, ℕ, suc, ◌+◌, ◌<◌, ◌≤◌, ◌^◌, Bool, true, false, cond, leb, ◌&&◌, ◌||◌, List, [], ◌∷◌, ◌++◌, length, map, Option, Some, None, ℤ, Ok, refl, sym, ap, subst, ◌∙◌, arith, length-append, append_assoc, append-nil}
 use Rattle.std.specs.Prelude.{codes}
 use Rattle.std.specs.Int.{w32, w64, cast_unsigned}
 use Rattle.std.specs.List.{AllZip, list_any}
@@ -34,8 +34,8 @@ use Rattle.pv_asm.specs.declared.seen.Signature.{Signature}
 use Rattle.pv_asm.specs.Codes.{insn_bytes}
 use Rattle.pv_asm.specs.Labels.{labels_from}
 use Rattle.pv_asm.specs.Laws.{titles_of, AreFit}
-use Rattle.pv_asm.specs.Listings.{begin, alike, put_signature, need_head, open_method, put_label, at_label, need_of, at_insn, at_end, next, ended, go_on, read_lines}
-use Rattle.pv_asm.specs.Needs.{Pool, Needed, needed, need, need_text, need_class}
+use Rattle.pv_asm.specs.Listings.{begin, alike, put_signature, need_head, open_method, put_label, at_label, need_of, at_insn, at_end, next, go_on, read_lines}
+use Rattle.pv_asm.specs.Needs.{Pool, Needed, needed, need_text, need_class}
 use Rattle.pv_asm.proofs.Apart.{AreApart, signature, none_apart, more_apart}
 use Rattle.pv_asm.proofs.Entered.{some_is, ok_is, IsGood, none_good, Adds, still, adds, bound, under_kept, class_kept, text_adds, class_adds, member_adds}
 

@@ -7,7 +7,7 @@ use Rattle.std.specs.Map.{keys_of, lookup}
 use Rattle.std.specs.Map.Iter.{deref_pair}
 use Rattle.std.proofs.lemmas.Bool.{cond-true, cond-false, le-leb}
 use Rattle.indexmap.specs.IndexMap.{insert_entry}
-use Rattle.pv_asm.specs.Needs.{Pool, Needed, needed, width, after, index_from, need_at, need_bytes}
+use Rattle.pv_asm.specs.Needs.{Pool, needed, width, after, index_from, need_at, need_bytes}
 use Rattle.pv_asm.specs.Numbered.{numbered}
 
 -- an entry is found with its index

@@ -1,5 +1,5 @@
 -- Labels stand where their addresses say: an instruction has as many bytes as its size is.
-use Rattle.std.proofs.Common.{◌≡◌, ℕ, zero, suc, ◌+◌, ◌*◌, ℤ, Bool, true, false, cond, eqb, leb, ◌||◌, List, [], ◌∷◌, ◌++◌, length, map, replicate, Option, Some, None, is_some, refl, sym, ap, subst, ◌∙◌, arith, length-append}
+use Rattle.std.proofs.Common.{◌≡◌, ℕ, zero, suc, ◌+◌, ◌*◌, ℤ, Bool, true, false, cond, eqb, leb, ◌||◌, List, [], ◌∷◌, ◌++◌, length, replicate, Option, Some, None, is_some, refl, sym, ap, subst, ◌∙◌, arith, length-append}
 use Rattle.std.specs.Int.{w8, w16, w32, to_be_bytes, cast_unsigned}
 use Rattle.std.specs.List.{flat_map, slice_get, list_any}
 use Rattle.std.specs.Map.{keys_of, lookup}
@@ -13,7 +13,6 @@ use Rattle.pv_insn.specs.Pieces.{signed}
 use Rattle.pv_pool.specs.Readers.{◌>>=◌}
 use Rattle.pv_listing.specs.declared.line.Line.{Line}
 use Rattle.pv_listing.specs.declared.line.Line.TheVariants as lines
-use Rattle.pv_listing.specs.declared.line.Title.{Title}
 use Rattle.pv_listing.specs.declared.line.Operands.{Operands}
 use Rattle.pv_listing.specs.declared.line.Operands.TheVariants as operands
 use Rattle.pv_listing.specs.Lines.{LineFits}
@@ -26,10 +25,10 @@ use Rattle.pv_asm.specs.declared.draft.Place.{Place}
 use Rattle.pv_asm.specs.declared.draft.Place.TheVariants.{Start, Between, Inside}
 use Rattle.pv_asm.specs.declared.seen.Signature.{Signature}
 use Rattle.pv_asm.specs.Classes.{text_lines}
-use Rattle.pv_asm.specs.Codes.{offset, is_byte, is_short, branch_bytes, index_bytes, number_bytes, switch_bytes, table_numbers, case_of, lookup_numbers, operand_bytes, insn_bytes}
+use Rattle.pv_asm.specs.Codes.{offset, is_byte, is_short, branch_bytes, index_bytes, switch_bytes, table_numbers, case_of, lookup_numbers, operand_bytes, insn_bytes}
 use Rattle.pv_asm.specs.Labels.{Labels, padding, size_at, address_of, put, labels_from}
 use Rattle.pv_asm.specs.Laws.{place_before, LabelsStand}
-use Rattle.pv_asm.specs.Listings.{begin, put_signature, need_head, open_method, put_label, at_label, need_of, at_insn, at_end, next}
+use Rattle.pv_asm.specs.Listings.{begin, put_signature, need_head, put_label, at_label, need_of, at_insn, at_end, next}
 use Rattle.pv_asm.specs.Needs.{Pool, Needed}
 use Rattle.pv_asm.proofs.Described.{lines_fit}
 use Rattle.pv_asm.proofs.Entered.{some_is, bound}

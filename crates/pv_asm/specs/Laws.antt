@@ -1,6 +1,6 @@
 -- Laws of the classes of listings.
-use Rattle.std.specs.Prelude.{◌≡◌, ℕ, zero, suc, ◌≤◌, List, [], ◌∷◌, length, Option, Some, None, Result, Ok, if◌then◌else◌, slice_get}
-use Rattle.std.specs.List.{AllZip}
+use Rattle.std.specs.Prelude.{◌≡◌, ℕ, zero, suc, ◌+◌, ◌*◌, ◌≤◌, Bool, true, false, List, [], ◌∷◌, ◌++◌, length, map, Option, Some, None, Ok, if◌then◌else◌, slice_get}
+use Rattle.std.specs.List.{AllByRecursion, AllZip, flat_map}
 use Rattle.pv_class.specs.declared.class.TheConstants.{LONGEST_FILE}
 use Rattle.pv_class.specs.declared.file.ClassFile.{ClassFile}
 use Rattle.pv_class.specs.declared.file.Code.{Code}
@@ -9,14 +9,17 @@ use Rattle.pv_class.specs.ClassFiles.{IsClass}
 use Rattle.pv_pool.specs.Readers.{◌>>=◌}
 use Rattle.pv_listing.specs.declared.line.Line.{Line}
 use Rattle.pv_listing.specs.declared.line.Line.TheVariants as lines
+use Rattle.pv_listing.specs.declared.line.Operands.{Operands}
+use Rattle.pv_listing.specs.declared.line.Operands.TheVariants as operands
 use Rattle.pv_listing.specs.declared.line.Title.{Title}
 use Rattle.pv_listing.specs.Lines.{LineFits}
 use Rattle.pv_asm.specs.declared.draft.Draft.{Draft}
 use Rattle.pv_asm.specs.declared.draft.Open.{Open}
 use Rattle.pv_asm.specs.declared.draft.Place.{Place}
 use Rattle.pv_asm.specs.declared.draft.Place.TheVariants.{Start, Inside}
-use Rattle.pv_asm.specs.Labels.{address_of}
-use Rattle.pv_asm.specs.Listings.{at_label, next}
+use Rattle.pv_asm.specs.Labels.{Labels, address_of, labels_from}
+use Rattle.pv_asm.specs.Codes.{insn_bytes}
+use Rattle.pv_asm.specs.Listings.{at_label, next, put_label}
 use Rattle.pv_asm.specs.Classes.{text_lines, draft_of, class_of_lines, class_of_text}
 
 -- ---- each class of a listing can be read again
@@ -79,3 +82,54 @@ abbrev pub LabelsStand : Type 0
 LabelsStand =
     (text : List ℕ) (i : ℕ) (d : Draft) (m later : Open) (l : List ℕ) → place_before i Start (text_lines text) ≡ Some (Inside d m) → slice_get (text_lines text) i ≡ Some (Some (lines.Label l)) → at_label m l ≡ Some later
     → address_of l m.labels ≡ Some (length m.code)
+
+-- ---- methods whose instructions need no entry have a class together
+
+-- a method: its head, and the lines up to its end
+pub record MethodLines : Type 0 where
+  pub title : Title
+  pub body : List Line
+
+abbrev pub method_lines : MethodLines → List Line
+method_lines m = lines.Method m.title ∷ (m.body ++ lines.End ∷ [])
+
+-- an instruction with these operands needs an entry in the pool
+abbrev pub needs_entry : Operands → Bool
+needs_entry (operands.Int n) = true
+needs_entry (operands.Long n) = true
+needs_entry (operands.Member s) = true
+needs_entry _ = false
+
+-- the code so far with that of more lines, by all labels of the method and those that were read; None where a line has no reading in a method, or needs an entry
+abbrev pub code_from : Labels → List (List ℕ) → List ℕ → List Line → Option (List ℕ)
+code_from labels seen code [] = Some code
+code_from labels seen code (lines.Label l ∷ after) = do
+  later ← put_label seen l
+  code_from labels later code after
+code_from labels seen code (lines.Instruction op o ∷ after) =
+    if needs_entry o then None else do
+      bytes ← insn_bytes labels (length code) 0 op o
+      code_from labels seen (code ++ bytes) after
+code_from labels seen code _ = None
+
+abbrev pub code_of_body : List Line → Option (List ℕ)
+code_of_body body = code_from (labels_from [] 0 (map (λ (line : Line). Some line) body)) [] [] body
+
+-- a method that needs no more than its name, its descriptor and `Code`
+pub record IsPlain (m : MethodLines) : Type 0 where
+  pub name : length m.title.name ≤ 65535
+  pub desc : length m.title.desc ≤ 65535
+  pub code : List ℕ
+  pub is : code_of_body m.body ≡ Some code
+  pub some : 1 ≤ length code
+  pub few : length code ≤ 65535
+
+-- no two heads have the same name and descriptor
+abbrev pub AreApart : List Title → Type 0
+AreApart titles = (i j : ℕ) (t u : Title) → slice_get titles i ≡ Some t → slice_get titles j ≡ Some u → t.name ≡ u.name → t.desc ≡ u.desc → i ≡ j
+
+-- the class and its superclass need at most four entries and each method at most three, and constant_pool_count is one more than there are
+abbrev pub MethodsHaveClass : Type 0
+MethodsHaveClass =
+    (name : List ℕ) (methods : List MethodLines) → length name ≤ 65535 → AllByRecursion IsPlain methods → AreApart (map (λ (m : MethodLines). m.title) methods) → 5 + 3 * length methods ≤ 65535
+    → (bytes : List ℕ) × (class_of_lines (map (λ (line : Line). Some line) (lines.Class name ∷ flat_map method_lines methods)) ≡ Ok bytes)

@@ -13,7 +13,6 @@ use Rattle.pv_listing.specs.declared.line.Operands.TheVariants as operands
 use Rattle.pv_asm.specs.declared.seen.Signature.{Signature}
 use Rattle.pv_asm.specs.declared.draft.Draft.{Draft}
 use Rattle.pv_asm.specs.declared.draft.Head.{Head}
-use Rattle.pv_asm.specs.declared.draft.Method.{Method}
 use Rattle.pv_asm.specs.declared.draft.Open.{Open}
 use Rattle.pv_asm.specs.declared.draft.Place.{Place}
 use Rattle.pv_asm.specs.declared.draft.Place.TheVariants.{Start, Between, Inside}

@@ -1,6 +1,6 @@
 //! Laws of the classes of listings, each as the contract of a function that does nothing.
 
-ghost use Rattle.pv_asm.specs.Laws.{EntriesOnce, LabelsStand, LinesAreClass, ListingIsClass};
+ghost use Rattle.pv_asm.specs.Laws.{EntriesOnce, LabelsStand, LinesAreClass, ListingIsClass, MethodsHaveClass};
 
 /// Each class of a listing, if it isn't too long to be read, is a class file, and its methods are those of the listing.
 pub fn law_class()
@@ -20,4 +20,10 @@ pub fn law_once()
 /// The address of a label is the number of bytes of code before it.
 pub fn law_labels()
     ensures { LabelsStand }
+{}
+
+/// Methods of which each has a code by itself, and no two the same name and descriptor, have a class together, if no instruction needs
+/// an entry in the constant pool and there are at most 21843 of them.
+pub fn law_methods()
+    ensures { MethodsHaveClass }
 {}

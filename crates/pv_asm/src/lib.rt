@@ -29,4 +29,4 @@ mod stop;
 
 pub use assembler::{assemble, assemble_lines};
 pub use fault::AsmFault;
-pub use laws::{law_class, law_labels, law_lines, law_once};
+pub use laws::{law_class, law_labels, law_lines, law_methods, law_once};

@@ -1,3 +1,4 @@
--- what public contracts say
+-- what public contracts and laws say
 pub mod Draws
 pub mod Methods
+pub mod Classes

@@ -277,7 +277,7 @@ fn push_method(
 /// The listing of `count` random methods that the draws from a seed give, or of their twins, each of which adds in
 /// the other order.
 #[tactic(auto, using(crate::proofs::Steps::methods_next, crate::proofs::Steps::after_next))]
-pub fn generate(alloc: Global, seed: u64, count: u32, twin: bool) -> Result<Listed<Line>, Memory>
+pub fn listing(alloc: Global, seed: u64, count: u32, twin: bool) -> Result<Listed<Line>, Memory>
     ensures { IfOk result (λ all. all ≡ listing seed count twin) }
 {
     let name = Name::new(alloc, b"G")?;

@@ -7,15 +7,17 @@ use Rattle.std.proofs.lemmas.Slice.Eq.{bytes_eq-Decides}
 use Rattle.pv_value.specs.declared.memory.Memory.{Memory}
 use Rattle.pv_report.specs.Options.{AxiomSet}
 use Rattle.pv_report.specs.Options.{Core, All}
+use Rattle.pv_maker.specs.declared.class.TheConstants.{MOST_MADE}
 use Rattle.pv_words.specs.Answers.{texts}
 use Rattle.pv_words.specs.Words as words
 use Rattle.pv_words.specs.Words.{Give, once_or_never, times_of}
-use Rattle.pv_words.proofs.Cited.{is_one, one_number}
-use Rattle.pv_top.specs.declared.words.TheConstants.{DEFAULT_ROUNDS, MOST_ROUNDS, DEFAULT_BUDGET, MOST_BUDGET, DEFAULT_TRIES, MOST_TRIES, DEFAULT_STEPS, MOST_STEPS, DEFAULT_WORKERS, MOST_WORKERS}
+use Rattle.pv_words.specs.Numbers.{IsNumber}
+use Rattle.pv_words.proofs.Cited.{is_one, one_number, one_wide}
+use Rattle.pv_top.specs.declared.words.TheConstants.{DEFAULT_ROUNDS, MOST_ROUNDS, DEFAULT_BUDGET, MOST_BUDGET, DEFAULT_TRIES, MOST_TRIES, DEFAULT_STEPS, MOST_STEPS, MOST_SEED, DEFAULT_WORKERS, MOST_WORKERS}
 use Rattle.pv_top.specs.declared.words.Mode.{Mode}
 use Rattle.pv_top.specs.declared.words.Command.{Command}
-use Rattle.pv_top.specs.declared.words.Command.TheVariants.{Validate, Check, Compose, CheckChain, Refute}
-use Rattle.pv_top.specs.Commands.{named}
+use Rattle.pv_top.specs.declared.words.Command.TheVariants.{Validate, Check, Compose, CheckChain, Refute, Make}
+use Rattle.pv_top.specs.Commands.{CanMake, named}
 use Rattle.pv_top.specs.Words.{AreOf, GiveCheck, IsCommand, IsLimit, IsMode, IsSet, IsWorkers, arguments_alone, check_words, set_word, refute_words, validate_words}
 
 -- ---- the words are one command at most
@@ -83,6 +85,15 @@ words_once words (Refute a b r k) (Refute x y s l) (rest, is, p) (more, are, q) 
     let tries : r ≡ s = limit_once 1 MOST_TRIES DEFAULT_TRIES q.tries_word r s (omega arith) (subst (λ (o : Option (List ℕ)). IsLimit 1 MOST_TRIES DEFAULT_TRIES o r) words p.tries_are) q.tries_are in
     let steps : k ≡ l = limit_once 1 MOST_STEPS DEFAULT_STEPS q.steps_word k l (omega arith) (subst (λ (o : Option (List ℕ)). IsLimit 1 MOST_STEPS DEFAULT_STEPS o k) text p.steps_are) q.steps_are in
     cc (first, second, tries, steps)
+words_once words (Make s k a b) (Make t l x y) (rest, is, p) (more, are, q) =
+    let one = arguments_once 4 words rest more (codes "make") _ _ is are p.given q.given in
+    let seed_word : p.seed_word ≡ q.seed_word = cc one in
+    let count_word : p.count_word ≡ q.count_word = cc one in
+    let first : a ≡ x = cc one in
+    let second : b ≡ y = cc one in
+    let seed : s ≡ t = one_wide 0 MOST_SEED q.seed_word s t (omega arith) (subst (λ (w : List ℕ). IsNumber 0 MOST_SEED w s) seed_word p.seed_is) q.seed_is in
+    let count : k ≡ l = one_number 1 MOST_MADE q.count_word k l (omega arith) (subst (λ (w : List ℕ). IsNumber 1 MOST_MADE w k) count_word p.count_is) q.count_is in
+    cc (seed, count, first, second)
 words_once words _ _ (rest, is, p) (more, are, q) = absurd (let e = sym is ∙ are in cc e)
 
 pub one_command : (words : List (List ℕ)) (c d : Option (Command (List ℕ))) → IsCommand words c → IsCommand words d → c ≡ d
@@ -124,6 +135,30 @@ pub no_refute : (rest : List (List ℕ)) → ((f : List Bool) (o : List (Option 
 no_refute rest none (Refute a b tries steps) (more, e, g) =
     none [] (g.tries_word ∷ g.steps_word ∷ []) (a ∷ b ∷ []) (subst (λ (w : List (List ℕ)). Give refute_words w [] (g.tries_word ∷ g.steps_word ∷ []) (a ∷ b ∷ [])) (let same : more ≡ rest = cc (sym e) in same) g.given)
 no_refute rest none _ (more, e, g) = absurd (cc e)
+
+-- nor are words that give `make` nothing
+pub no_make : (rest : List (List ℕ)) → ((a : List (List ℕ)) → Give (arguments_alone 4) rest [] [] a → ⊥) → (c : Command (List ℕ)) → AreOf (codes "make" ∷ rest) c → ⊥
+no_make rest none (Make seed count a b) (more, e, g) =
+    none _ (subst (λ (w : List (List ℕ)). Give (arguments_alone 4) w [] [] (g.seed_word ∷ g.count_word ∷ a ∷ b ∷ [])) (let same : more ≡ rest = cc (sym e) in same) g.given)
+no_make rest none _ (more, e, g) = absurd (cc e)
+
+-- nor those of which the first or the second argument is no number within its bounds
+no_make_number : (rest : List (List ℕ)) (s k a b : List ℕ) → Give (arguments_alone 4) rest [] [] (s ∷ k ∷ a ∷ b ∷ []) → (((n : ℕ) → IsNumber 0 MOST_SEED s n → ⊥) ⊎ ((n : ℕ) → IsNumber 1 MOST_MADE k n → ⊥)) → (c : Command (List ℕ)) → AreOf (codes "make" ∷ rest) c → ⊥
+no_make_number rest s k a b given none (Make seed count x y) (more, e, g) =
+    let same : more ≡ rest = cc (sym e) in
+    let one = (is_one (arguments_alone 4) refl rest _ _ _ _ _ _ given (subst (λ (w : List (List ℕ)). Give (arguments_alone 4) w [] [] (g.seed_word ∷ g.count_word ∷ x ∷ y ∷ [])) same g.given)).2 in
+    let seed_word : s ≡ g.seed_word = cc one in
+    let count_word : k ≡ g.count_word = cc one in
+    elim none [
+      | inl n ↦ n seed (subst (λ (w : List ℕ). IsNumber 0 MOST_SEED w seed) (sym seed_word) g.seed_is)
+      | inr n ↦ n count (subst (λ (w : List ℕ). IsNumber 1 MOST_MADE w count) (sym count_word) g.count_is)
+    ]
+no_make_number rest s k a b given none _ (more, e, g) = absurd (cc e)
+
+-- the number of methods of a command that was read can be made
+pub can_make : (words : List (List ℕ)) (c : Command (List ℕ)) → AreOf words c → CanMake c
+can_make words (Make seed count a b) (rest, is, g) = g.count_is.at_most
+can_make words _ are = tt
 
 -- nor those of which an option names no axioms, or a limit is no number within its bounds, or the flag and a certificate are given
 abbrev pub IsNoValue : Bool → (t r k w cert : Option (List ℕ)) → Type 0
@@ -233,3 +268,13 @@ module _ (rest : List (List ℕ)) where
       → AreOf (codes "refute" ∷ rest) (Refute (slice_index_or arguments 0 d).now (slice_index_or arguments 1 d).now tries steps)
   is_refute flags (r ∷ k ∷ []) (a ∷ b ∷ []) d tries steps given long two p q = (rest, refl, record { tries_word = text_of r; steps_word = text_of k; given = no_flags refute_words rest flags _ _ refl given; tries_are = p; steps_are = q })
   is_refute flags _ _ d tries steps given long two p q = absurd (omega (arith, long, two))
+
+  pub no_make_number_at : (arguments : List (Bor (List ℕ))) (d : Bor (List ℕ)) → Give (arguments_alone 4) rest [] [] (texts arguments) → length arguments ≡ 4
+      → (((n : ℕ) → IsNumber 0 MOST_SEED (slice_index_or arguments 0 d).now n → ⊥) ⊎ ((n : ℕ) → IsNumber 1 MOST_MADE (slice_index_or arguments 1 d).now n → ⊥)) → (c : Command (List ℕ)) → AreOf (codes "make" ∷ rest) c → ⊥
+  no_make_number_at (s ∷ k ∷ a ∷ b ∷ []) d given four none = no_make_number rest s.now k.now a.now b.now given none
+  no_make_number_at _ d given four none = absurd (omega (arith, four))
+
+  pub is_make : (arguments : List (Bor (List ℕ))) (d : Bor (List ℕ)) (seed count : ℕ) → Give (arguments_alone 4) rest [] [] (texts arguments) → length arguments ≡ 4 → IsNumber 0 MOST_SEED (slice_index_or arguments 0 d).now seed
+      → IsNumber 1 MOST_MADE (slice_index_or arguments 1 d).now count → AreOf (codes "make" ∷ rest) (Make seed count (slice_index_or arguments 2 d).now (slice_index_or arguments 3 d).now)
+  is_make (s ∷ k ∷ a ∷ b ∷ []) d seed count given four p q = (rest, refl, record { seed_word = s.now; count_word = k.now; given = given; seed_is = p; count_is = q })
+  is_make _ d seed count given four p q = absurd (omega (arith, four))

@@ -1,5 +1,6 @@
 pub mod WholeLines
 pub mod Asking
+pub mod Placing
 pub mod Saying
 pub mod Files
 pub mod TrueLines

@@ -1,13 +1,12 @@
 -- What a command places and says, and what is asked and left by it.
-use Rattle.std.proofs.Common.{◌≡◌, ◌≢◌, ◌⊎◌, ◌≤◌, ℕ, Bool, true, false, List, [], ◌∷◌, ◌++◌, length, map, take, Option, Some, None, Result, Ok, Err, get_or, inl, inr, refl, sym, ap, subst, ◌∙◌, arith}
-use Rattle.std.specs.Prelude.{cond, IfOk}
-use Rattle.std.specs.Bool.{nat_eq}
-use Rattle.std.specs.Cmp.Lexicographic.{pointwise, same_text, texts_ties}
-use Rattle.std.proofs.lemmas.Cmp.{nat_list_cmp_total}
-use Rattle.std.specs.FinMap.{get, insert, get-insert}
+use Rattle.std.proofs.Common.{◌≡◌, ◌≢◌, ◌⊎◌, ◌<◌, ◌≤◌, ◌+◌, ℕ, zero, suc, Bool, true, false, List, [], ◌∷◌, ◌++◌, length, map, take, Option, Some, None, Result, Ok, Err, get_or, inl, inr, refl, sym, ap, subst, ◌∙◌, arith}
+use Rattle.std.specs.Prelude.{IfOk, option_map, slice_get}
+use Rattle.std.specs.FinMap.{insert}
 use Rattle.std.proofs.lemmas.List.{append-nil, length-map, take_all, take-append-le, take-map}
+use Rattle.std.proofs.lemmas.Option.{slice_get-map, slice_get_within}
+use Rattle.std.proofs.Math.Seq.{take-append-add}
 use Rattle.pv_base.specs.Stored.{Stored}
-use Rattle.pv_base.specs.Outside.{OnlyAt, Rose, rose_earlier}
+use Rattle.pv_base.specs.Outside.{Rose}
 use Rattle.pv_base.specs.declared.outside.Asked.{Asked}
 use Rattle.pv_base.specs.declared.outside.Asked.TheVariants.{Fetch, Place}
 use Rattle.pv_report.specs.Options.{Options}
@@ -19,13 +18,14 @@ use Rattle.pv_links.specs.Composed.{Composed}
 use Rattle.pv_links.specs.Reading.{AreContents, ComposesFetched}
 use Rattle.pv_top.specs.declared.top.Reply.{Reply}
 use Rattle.pv_top.specs.declared.words.Command.{Command}
-use Rattle.pv_top.specs.declared.words.Command.TheVariants.{Validate, Compose}
-use Rattle.pv_top.specs.Words.{fetches, names_of, placed_name}
-use Rattle.pv_top.specs.Run.{Says, Answered, IsAnswer, graphs_in, all_calls, fetch_calls, place_calls, GrewBy, HasBadFile, IsBad, AskedFor, CallsFor, HoldsPlaced, LeavesAt, LeavesNamed, LeavesBy, Leaves}
-use Rattle.pv_top.specs.Fetching.{HoldAll, AnswersFetched, AreFetched, AsksPlaced, ComposesIn, FetchesOf, LeavesPlaced, PlaceFailed, Places, PlacesFetched, ReadFailed, SaysAfter, content_of}
-use Rattle.pv_top.proofs.Answering.{Contents, contents_of, said_of, said_result}
+use Rattle.pv_top.specs.declared.words.Command.TheVariants.{Validate, Compose, Make}
+use Rattle.pv_top.specs.Words.{fetches, made_line, names_of, placed_names}
+use Rattle.pv_top.specs.Run.{AreContents as AreHeld, Says, Answered, IsAnswer, graphs_in, all_calls, fetch_calls, GrewBy, HasBadFile, IsBad, AskedFor, CallsFor, HoldsFront, HoldsPlaced, IsCutOff, IsPlaced, LeavesAt, LeavesKnown, LeavesBy, Leaves, insert_each}
+use Rattle.pv_top.specs.Fetching.{HoldAll, AllPlaced, AnswersFetched, AreFetched, ChangesAt, ComposesIn, FetchesOf, Gives, IsMadeAnswer, MakesIn, PlaceCallsTo, PlaceCut, PlaceFailed, Places, PlacesFetched, PlacesIn, ReadFailed, bytes_in, contents_of, names_in}
+use Rattle.pv_top.proofs.Answering.{Contents, contents_of as fetched_bytes, said_of, said_result}
 use Rattle.pv_top.proofs.Asking.{grew_more, more_nothing}
-use Rattle.pv_top.proofs.Saying.{answered_said, as_put, no_read_fault}
+use Rattle.pv_top.proofs.Placing.{place_failed_since}
+use Rattle.pv_top.proofs.Saying.{answer_meant, answered_said, as_put, is_meant, no_read_fault}
 
 -- ---- which statuses come with what is placed
 
@@ -34,17 +34,6 @@ abbrev is_report : Status → Bool
 is_report status.AllEquivalent = true
 is_report status.Others = true
 is_report s = false
-
--- .. or of a fault after it
-abbrev is_whole : Status → Bool
-is_whole status.WriteFault = true
-is_whole status.Memory = true
-is_whole s = is_report s
-
-report_whole : (s : Status) → is_report s ≡ true → is_whole s ≡ true
-report_whole status.AllEquivalent is = refl
-report_whole status.Others is = refl
-report_whole s is = absurd (cc is)
 
 -- where something is placed, a report is said
 judged_report : (options : Options) (a b text : List ℕ) (s : Status) → (IsBad s → ⊥) → Judged options a b text s → is_report s ≡ true
@@ -93,9 +82,11 @@ module _ (name a b c x y : List ℕ) (first second third one two : Fetched) (tex
   chain_answers answers = five_contents (λ (contents : List (List ℕ)). IsAnswer (Compose a b c x y name) contents text s) name a b c x y first second third one two answers
 
   -- .. and their chain what it places
-  chain_places : (p : Option (List ℕ × List ℕ)) → ComposesFetched first second third one two text s → ComposesIn name first second third one two s p → PlacesFetched (Compose a b c x y name) (first ∷ second ∷ third ∷ one ∷ two ∷ []) s p
-  chain_places (Some p) answers makes = five_contents (λ (contents : List (List ℕ)). Places (Compose a b c x y name) contents s (Some p)) name a b c x y first second third one two (λ j k l m n are. (ap Some (sym makes.0), makes.1 j k l m n are, λ bad. subst IsBad makes.2 bad))
-  chain_places None answers makes = five_contents (λ (contents : List (List ℕ)). Places (Compose a b c x y name) contents s None) name a b c x y first second third one two (λ j k l m n are. inr (composed_bad j k l m n text s makes (answers j k l m n are)))
+  chain_places : (placed : List (List ℕ × List ℕ)) → ComposesFetched first second third one two text s → ComposesIn name first second third one two s placed → PlacesFetched (Compose a b c x y name) (first ∷ second ∷ third ∷ one ∷ two ∷ []) s placed
+  chain_places [] answers makes = five_contents (λ (contents : List (List ℕ)). Places (Compose a b c x y name) contents s []) name a b c x y first second third one two (λ j k l m n are. inr (composed_bad j k l m n text s makes (answers j k l m n are)))
+  chain_places (p ∷ []) answers makes =
+      five_contents (λ (contents : List (List ℕ)). Places (Compose a b c x y name) contents s (p ∷ [])) name a b c x y first second third one two (λ j k l m n are. (ap (λ (w : List ℕ). w ∷ []) (sym makes.0), makes.1 j k l m n are, λ bad. subst IsBad makes.2 bad))
+  chain_places (p ∷ q ∷ more) answers makes = absurd makes
 
 module _ (command : Command (List ℕ)) (fetched : List Fetched) (name a b c x y : List ℕ) (first second third one two : Fetched) (is : command ≡ Compose a b c x y name) (items : first ∷ second ∷ third ∷ one ∷ two ∷ [] ≡ fetched) where
   -- .. where there is a reply
@@ -107,19 +98,52 @@ module _ (command : Command (List ℕ)) (fetched : List Fetched) (name a b c x y
       let all = chain_answers name a b c x y first second third one two text s answers in
       subst (λ (k : Command (List ℕ)). AnswersFetched k fetched text s) (sym is) (subst (λ (f : List Fetched). AnswersFetched (Compose a b c x y name) f text s) items all)
 
-  pub reply_places : {E : Type 0} (r : Result Reply E) → IfOk r (λ reply. ComposesFetched first second third one two reply.answer.text.items reply.answer.status) → IfOk r (λ reply. ComposesIn name first second third one two reply.answer.status (content_of reply.placed))
-      → IfOk r (λ reply. PlacesFetched command fetched reply.answer.status (content_of reply.placed))
+  pub reply_places : {E : Type 0} (r : Result Reply E) → IfOk r (λ reply. ComposesFetched first second third one two reply.answer.text.items reply.answer.status) → IfOk r (λ reply. ComposesIn name first second third one two reply.answer.status (contents_of reply.placed.items))
+      → IfOk r (λ reply. PlacesFetched command fetched reply.answer.status (contents_of reply.placed.items))
   reply_places (Err e) answers makes = tt
   reply_places (Ok reply) answers makes =
       let s = reply.answer.status in
-      let p = content_of reply.placed in
+      let p = contents_of reply.placed.items in
       let all = chain_places name a b c x y first second third one two reply.answer.text.items s p answers makes in
       subst (λ (k : Command (List ℕ)). PlacesFetched k fetched s p) (sym is) (subst (λ (f : List Fetched). PlacesFetched (Compose a b c x y name) f s p) items all)
 
-placed_report : (c : Command (List ℕ)) (contents : List (List ℕ)) (p : List ℕ × List ℕ) (text : List ℕ) (s : Status) → IsAnswer c contents text s → Places c contents s (Some p) → is_report s ≡ true
-placed_report (Validate a b axioms rounds budget mode) (x ∷ y ∷ []) p text s answer places = judged_report (record { limits = record { axioms = axioms; rounds = rounds; budget = budget }; graphs = graphs_in mode }) x y text s places.2 answer
-placed_report (Compose a b c x y out) (j ∷ k ∷ l ∷ m ∷ n ∷ []) p text s answer places = composed_report j k l m n text s places.2 answer
-placed_report _ _ p text s answer places = absurd places.1
+-- ---- two classes that were made
+
+module _ (command : Command (List ℕ)) (seed count : ℕ) (first second : List ℕ) (is : command ≡ Make seed count first second) where
+  made_answers : (fetched : List Fetched) (text : List ℕ) (s : Status) → text ≡ made_line count → s ≡ status.AllEquivalent → AnswersFetched (Make seed count first second) fetched text s
+  made_answers [] text s e same [] f = (e, same)
+  made_answers [] text s e same (bytes ∷ contents) f = absurd f
+  made_answers (x ∷ fetched) text s e same contents f = absurd f
+
+  made_places : (fetched : List Fetched) (s : Status) (placed : List (List ℕ × List ℕ)) → s ≡ status.AllEquivalent → MakesIn seed count first second placed → PlacesFetched (Make seed count first second) fetched s placed
+  made_places fetched s [] same makes contents f = absurd makes
+  made_places fetched s (p ∷ []) same makes contents f = absurd makes
+  made_places fetched s (p ∷ q ∷ r ∷ more) same makes contents f = absurd makes
+  made_places [] s (p ∷ q ∷ []) same makes [] f = (ap (λ (w : List ℕ). w ∷ second ∷ []) (sym makes.0) ∙ ap (λ (w : List ℕ). p.0 ∷ w ∷ []) (sym makes.1), makes.2, λ bad. subst IsBad same bad)
+  made_places [] s (p ∷ q ∷ []) same makes (bytes ∷ contents) f = absurd f
+  made_places (x ∷ fetched) s (p ∷ q ∷ []) same makes contents f = absurd f
+
+  pub make_answers : {E : Type 0} (fetched : List Fetched) (r : Result Reply E) → IfOk r (λ reply. IsMadeAnswer count reply.answer) → IfOk r (λ reply. AnswersFetched command fetched reply.answer.text.items reply.answer.status)
+  make_answers fetched (Err e) answers = tt
+  make_answers fetched (Ok reply) answers =
+      let text = reply.answer.text.items in
+      let s = reply.answer.status in
+      subst (λ (k : Command (List ℕ)). AnswersFetched k fetched text s) (sym is) (made_answers fetched text s answers.0 answers.1)
+
+  pub make_places : {E : Type 0} (fetched : List Fetched) (r : Result Reply E) → IfOk r (λ reply. IsMadeAnswer count reply.answer) → IfOk r (λ reply. MakesIn seed count first second (contents_of reply.placed.items))
+      → IfOk r (λ reply. PlacesFetched command fetched reply.answer.status (contents_of reply.placed.items))
+  make_places fetched (Err e) answers makes = tt
+  make_places fetched (Ok reply) answers makes =
+      let s = reply.answer.status in
+      let p = contents_of reply.placed.items in
+      subst (λ (k : Command (List ℕ)). PlacesFetched k fetched s p) (sym is) (made_places fetched s p answers.1 makes)
+
+-- where something is placed, a report is said
+placed_report : (c : Command (List ℕ)) (contents : List (List ℕ)) (p : List ℕ × List ℕ) (placed : List (List ℕ × List ℕ)) (text : List ℕ) (s : Status) → IsAnswer c contents text s → Places c contents s (p ∷ placed) → is_report s ≡ true
+placed_report (Validate a b axioms rounds budget mode) (x ∷ y ∷ []) p placed text s answer places = judged_report (record { limits = record { axioms = axioms; rounds = rounds; budget = budget }; graphs = graphs_in mode }) x y text s places.2 answer
+placed_report (Compose a b c x y out) (j ∷ k ∷ l ∷ m ∷ n ∷ []) p placed text s answer places = composed_report j k l m n text s places.2 answer
+placed_report (Make seed count a b) [] p placed text s answer places = ap is_report answer.1
+placed_report _ _ p placed text s answer places = absurd places.1
 
 -- what is said has its own status, or that of a fault of the sink
 said_status : (old new : Option (List ℕ)) (text : List ℕ) (meant result : Status) (rose : Type 0) → Says old new text meant result rose → (result ≡ meant) ⊎ ((result ≡ status.WriteFault) × rose)
@@ -129,80 +153,76 @@ said_status old new text meant result rose says =
       | inr s ↦ inr (s.0, s.1)
     ]
 
-failed_whole : (s : Status) (rose : Type 0) → PlaceFailed s rose → is_whole s ≡ true
-failed_whole status.WriteFault rose failed = refl
-failed_whole status.Memory rose failed = refl
-failed_whole _ rose failed = absurd failed
-
--- a count that rose since, rose since before
-pub place_failed_since : (s : Status) (old mid new : ℕ) → old ≤ mid → PlaceFailed s (Rose mid new) → PlaceFailed s (Rose old new)
-place_failed_since status.WriteFault old mid new le failed = rose_earlier old mid new le failed
-place_failed_since status.Memory old mid new le failed = tt
-place_failed_since _ old mid new le failed = absurd failed
-
-pub says_since : (placed : Option (List ℕ × List ℕ)) (sent_old sent_new : Option (List ℕ)) (text : List ℕ) (meant result : Status) (write_rose : Type 0) (old mid new : ℕ) → old ≤ mid → SaysAfter placed sent_old sent_new text meant result (Rose mid new) write_rose
-    → SaysAfter placed sent_old sent_new text meant result (Rose old new) write_rose
-says_since None sent_old sent_new text meant result write_rose old mid new le says = says
-says_since (Some p) sent_old sent_new text meant result write_rose old mid new le (inl says) = inl says
-says_since (Some p) sent_old sent_new text meant result write_rose old mid new le (inr failed) = inr (place_failed_since result old mid new le failed.0, failed.1)
-
-pub leaves_since : (placed : Option (List ℕ × List ℕ)) (held now : Option Stored) (result : Status) (old mid new : ℕ) → old ≤ mid → LeavesPlaced placed held now result (Rose mid new) → LeavesPlaced placed held now result (Rose old new)
-leaves_since None held now result old mid new le same = same
-leaves_since (Some p) held now result old mid new le (inl placed) = inl placed
-leaves_since (Some p) held now result old mid new le (inr failed) = inr (place_failed_since result old mid new le failed.0, failed.1)
-
 -- ---- a reply to what was fetched
 
-pub record IsReply (held : Option Stored) (c : Command (List ℕ)) (fetched : List Fetched) (placed : Option (List ℕ × List ℕ)) (text : List ℕ) (meant : Status) : Type 0 where
+pub record IsReply (held : Option Stored) (c : Command (List ℕ)) (fetched : List Fetched) (placed : List (List ℕ × List ℕ)) (text : List ℕ) (meant : Status) : Type 0 where
   pub holds : HoldAll held (fetches c) fetched
   pub answers : AnswersFetched c fetched text meant
   pub places : PlacesFetched c fetched meant placed
 
+-- faults since the files were fetched are faults since before
+cut_since : (held now : Option Stored) (asked later : Option (List Asked)) (placed : List (List ℕ × List ℕ)) (s : Status) (old mid new : ℕ) → old ≤ mid → PlaceCut held now asked later placed s (Rose mid new) → PlaceCut held now asked later placed s (Rose old new)
+cut_since held now asked later placed s old mid new le cut = record {
+  failed = place_failed_since s old mid new le cut.failed;
+  n = cut.n;
+  one = cut.one;
+  next = cut.next;
+  between = cut.between;
+  front = cut.front;
+  changes = cut.changes;
+  calls = cut.calls;
+}
+
+pub gives_since : (held now : Option Stored) (asked later : Option (List Asked)) (placed : List (List ℕ × List ℕ)) (before after : Option (List ℕ)) (text : List ℕ) (meant result : Status) (write_rose : Type 0) (old mid new : ℕ) → old ≤ mid
+    → Gives held now asked later placed before after text meant result (Rose mid new) write_rose → Gives held now asked later placed before after text meant result (Rose old new) write_rose
+gives_since held now asked later placed before after text meant result write_rose old mid new le (inl done) = inl done
+gives_since held now asked later placed before after text meant result write_rose old mid new le (inr cut) = inr (cut_since held now asked later placed result old mid new le cut.0, cut.1)
+
+-- the names under which something is placed are those of the command
+names_are : (c : Command (List ℕ)) (contents : List (List ℕ)) (s : Status) (placed : List (List ℕ × List ℕ)) (n : ℕ) (one : List ℕ × List ℕ) → slice_get placed n ≡ Some one → Places c contents s placed → placed_names c ≡ names_in placed
+names_are c contents s [] n one next places = absurd (cc next)
+names_are c contents s (p ∷ placed) n one next places = places.0
+
+some_names : (placed : List (List ℕ × List ℕ)) (n : ℕ) (one : List ℕ × List ℕ) → slice_get placed n ≡ Some one → names_in placed ≢ []
+some_names [] n one next e = cc next
+some_names (p ∷ placed) n one next e = cc e
+
 module _ (held : Option Stored) (c : Command (List ℕ)) (fetched : List Fetched) (text : List ℕ) (meant result : Status) where
   got : HoldAll held (fetches c) fetched → Contents held (fetches c) fetched
-  got h = contents_of held (fetches c) fetched h
+  got h = fetched_bytes held (fetches c) fetched h
 
   module _ (old new : Option (List ℕ)) (files_rose write_rose : Type 0) where
-    said_answered : (placed : Option (List ℕ × List ℕ)) → IsReply held c fetched placed text meant → Says old new text meant result write_rose → Answered held (Some c) old new files_rose write_rose result
+    said_answered : (placed : List (List ℕ × List ℕ)) → IsReply held c fetched placed text meant → Says old new text meant result write_rose → Answered held (Some c) old new files_rose write_rose result
     said_answered placed r says =
         let said = said_of held c fetched old new write_rose text meant result r.holds r.answers says in
         answered_said held c old new files_rose write_rose result (said_result held c old new write_rose result said) said
 
-    failed_answered : (p : List ℕ × List ℕ) (s : Status) → placed_name c ≡ Some p.0 → PlaceFailed s files_rose → new ≡ old → Answered held (Some c) old new files_rose write_rose s
-    failed_answered p status.WriteFault name failed same = inl ((p.0, name), failed, same)
-    failed_answered p status.Memory name failed same = same
-    failed_answered p _ name failed same = absurd failed
+    failed_answered : (s : Status) → placed_names c ≢ [] → PlaceFailed s files_rose → new ≡ old → Answered held (Some c) old new files_rose write_rose s
+    failed_answered status.WriteFault some failed same = inl (some, failed, same)
+    failed_answered status.Memory some failed same = same
+    failed_answered _ some failed same = absurd failed
 
     -- what is said
-    pub reply_answered : (placed : Option (List ℕ × List ℕ)) → IsReply held c fetched placed text meant → SaysAfter placed old new text meant result files_rose write_rose → Answered held (Some c) old new files_rose write_rose result
-    reply_answered None r says = said_answered None r says
-    reply_answered (Some p) r (inl says) = said_answered (Some p) r says
-    reply_answered (Some p) r (inr failed) = let g = got r.holds in failed_answered p result (r.places g.contents g.are_fetched).0 failed.0 failed.1
+    pub reply_answered : (now : Option Stored) (asked later : Option (List Asked)) (placed : List (List ℕ × List ℕ)) → IsReply held c fetched placed text meant → Gives held now asked later placed old new text meant result files_rose write_rose
+        → Answered held (Some c) old new files_rose write_rose result
+    reply_answered now asked later placed r (inl done) = said_answered placed r done.1
+    reply_answered now asked later placed r (inr cut) =
+        let g = got r.holds in
+        let names = names_are c g.contents meant placed cut.0.n cut.0.one cut.0.next (r.places g.contents g.are_fetched) in
+        failed_answered result (subst (λ (n : List (List ℕ)). n ≢ []) (sym names) (some_names placed cut.0.n cut.0.one cut.0.next)) cut.0.failed cut.1
 
     -- with which status, where something is placed
-    whole_result : (p : List ℕ × List ℕ) → IsReply held c fetched (Some p) text meant → SaysAfter (Some p) old new text meant result files_rose write_rose → is_whole result ≡ true
-    whole_result p r (inr failed) = failed_whole result files_rose failed.0
-    whole_result p r (inl says) =
+    whole_result : (p : List ℕ × List ℕ) (placed : List (List ℕ × List ℕ)) → IsReply held c fetched (p ∷ placed) text meant → Says old new text meant result write_rose → (is_report result ≡ true) ⊎ ((result ≡ status.WriteFault) × write_rose)
+    whole_result p placed r says =
         let g = got r.holds in
-        let report = placed_report c g.contents p text meant (r.answers g.contents g.are_fetched) (r.places g.contents g.are_fetched) in
+        let report = placed_report c g.contents p placed text meant (r.answers g.contents g.are_fetched) (r.places g.contents g.are_fetched) in
         elim (said_status old new text meant result write_rose says) [
-          | inl e ↦ subst (λ (s : Status). is_whole s ≡ true) (sym e) (report_whole meant report)
-          | inr e ↦ subst (λ (s : Status). is_whole s ≡ true) (sym e.0) refl
-        ]
-
-    -- .. and which fault, where it is one of a device
-    fault_of : (p : List ℕ × List ℕ) → IsReply held c fetched (Some p) text meant → SaysAfter (Some p) old new text meant result files_rose write_rose → result ≡ status.WriteFault → files_rose ⊎ write_rose
-    fault_of p r (inr failed) e = inl (subst (λ (s : Status). PlaceFailed s files_rose) e failed.0)
-    fault_of p r (inl says) e =
-        let g = got r.holds in
-        let report = placed_report c g.contents p text meant (r.answers g.contents g.are_fetched) (r.places g.contents g.are_fetched) in
-        elim (said_status old new text meant result write_rose says) [
-          | inl same ↦ absurd (let none : is_report status.WriteFault ≡ true = subst (λ (s : Status). is_report s ≡ true) (sym same ∙ e) report in cc none)
-          | inr failed ↦ inr failed.1
+          | inl e ↦ inl (ap is_report e ∙ report)
+          | inr e ↦ inr e
         ]
 
     -- .. and where nothing is: the command has no name for it, or a file is bad
-    bare_result : IsReply held c fetched None text meant → Says old new text meant result write_rose → (placed_name c ≡ None) ⊎ (HasBadFile held c × (IsBad result ⊎ ((result ≡ status.WriteFault) × write_rose)))
+    bare_result : IsReply held c fetched [] text meant → Says old new text meant result write_rose → (placed_names c ≡ []) ⊎ (HasBadFile held c × (IsBad result ⊎ ((result ≡ status.WriteFault) × write_rose)))
     bare_result r says =
         let g = got r.holds in
         elim (r.places g.contents g.are_fetched) [
@@ -216,17 +236,31 @@ module _ (held : Option Stored) (c : Command (List ℕ)) (fetched : List Fetched
           )
         ]
 
+    -- .. then a fault is one of the sink
+    bare_fault : IsReply held c fetched [] text meant → Says old new text meant result write_rose → result ≡ status.WriteFault → write_rose
+    bare_fault r says e =
+        let g = got r.holds in
+        let answer = answer_meant c g.contents text meant (r.answers g.contents g.are_fetched) in
+        elim (said_status old new text meant result write_rose says) [
+          | inl same ↦ absurd (let no : is_meant status.WriteFault ≡ true = subst (λ (s : Status). is_meant s ≡ true) (sym same ∙ e) answer in cc no)
+          | inr failed ↦ failed.1
+        ]
+
 -- ---- what is asked
 
-all_unnamed : (c : Command (List ℕ)) → placed_name c ≡ None → all_calls c ≡ fetch_calls c
-all_unnamed c none = ap (λ (o : Option (List ℕ)). fetch_calls c ++ place_calls o) none ∙ append-nil (fetch_calls c)
-
-all_named : (c : Command (List ℕ)) (name : List ℕ) → placed_name c ≡ Some name → all_calls c ≡ fetch_calls c ++ Place name ∷ []
-all_named c name is = ap (λ (o : Option (List ℕ)). fetch_calls c ++ place_calls o) is
+all_unnamed : (c : Command (List ℕ)) → placed_names c ≡ [] → all_calls c ≡ fetch_calls c
+all_unnamed c none = ap (λ (names : List (List ℕ)). fetch_calls c ++ map Place names) none ∙ append-nil (fetch_calls c)
 
 -- the first calls of a command are fetches
 calls_front : (c : Command (List ℕ)) (n : ℕ) → n ≤ length (names_of c) → take n (all_calls c) ≡ map Fetch (take n (names_of c))
-calls_front c n le = take-append-le n (fetch_calls c) (place_calls (placed_name c)) (subst (λ (k : ℕ). n ≤ k) (sym (length-map (names_of c) Fetch)) le) ∙ take-map Fetch n (names_of c)
+calls_front c n le = take-append-le n (fetch_calls c) (map Place (placed_names c)) (subst (λ (k : ℕ). n ≤ k) (sym (length-map (names_of c) Fetch)) le) ∙ take-map Fetch n (names_of c)
+
+-- .. and then some of its places
+places_front : (c : Command (List ℕ)) (placed : List (List ℕ × List ℕ)) (n : ℕ) → placed_names c ≡ names_in placed → fetch_calls c ++ map Place (names_in (take n placed)) ≡ fetch_calls c ++ map Place (take n (placed_names c))
+places_front c placed n names = ap (λ (all : List (List ℕ)). fetch_calls c ++ map Place all) (sym (take-map (λ (p : List ℕ × List ℕ). p.0) n placed) ∙ ap (take n) (sym names))
+
+calls_some : (c : Command (List ℕ)) (n : ℕ) → fetch_calls c ++ map Place (take n (placed_names c)) ≡ take (length (fetch_calls c) + n) (all_calls c)
+calls_some c n = sym (take-append-add (fetch_calls c) (map Place (placed_names c)) n ∙ ap (λ (all : List Asked). fetch_calls c ++ all) (take-map Place n (placed_names c)))
 
 module _ (held : Option Stored) (c : Command (List ℕ)) (old new : Option (List Asked)) (write_rose : Type 0) where
   -- a fetch failed, or memory ran out
@@ -242,21 +276,20 @@ module _ (held : Option Stored) (c : Command (List ℕ)) (old new : Option (List
       (n, subst (GrewBy old new) (sym (calls_front c n (omega arith) ∙ ap (map Fetch) (take_all n (names_of c) (omega arith)))) grew)
 
   -- all calls were made
-  all_asked : (s : Status) → is_whole s ≡ true → GrewBy old new (all_calls c) → AskedFor held c old new write_rose s
-  all_asked status.AllEquivalent is grew = grew
-  all_asked status.Others is grew = grew
-  all_asked status.WriteFault is grew = inl grew
-  all_asked status.Memory is grew = (length (all_calls c), subst (GrewBy old new) (sym (take_all (length (all_calls c)) (all_calls c) (omega arith))) grew)
-  all_asked s is grew = absurd (cc is)
+  all_asked : (s : Status) → (is_report s ≡ true) ⊎ ((s ≡ status.WriteFault) × write_rose) → GrewBy old new (all_calls c) → AskedFor held c old new write_rose s
+  all_asked s (inr e) grew = subst (AskedFor held c old new write_rose) (sym e.0) (inr (e.1, inl grew))
+  all_asked status.AllEquivalent (inl is) grew = grew
+  all_asked status.Others (inl is) grew = grew
+  all_asked s (inl is) grew = absurd (cc is)
 
   -- .. and there was nothing to place
-  unnamed_asked : (s : Status) → s ≢ status.ReadFault → placed_name c ≡ None → GrewBy old new (fetch_calls c) → AskedFor held c old new write_rose s
-  unnamed_asked status.AllEquivalent other none grew = subst (GrewBy old new) (sym (all_unnamed c none)) grew
-  unnamed_asked status.Others other none grew = subst (GrewBy old new) (sym (all_unnamed c none)) grew
-  unnamed_asked status.WriteFault other none grew = inl (subst (GrewBy old new) (sym (all_unnamed c none)) grew)
-  unnamed_asked status.Memory other none grew = memory_asked grew
-  unnamed_asked status.ReadFault other none grew = absurd (other refl)
-  unnamed_asked _ other none grew = grew
+  unnamed_asked : (s : Status) → s ≢ status.ReadFault → (s ≡ status.WriteFault → write_rose) → placed_names c ≡ [] → GrewBy old new (fetch_calls c) → AskedFor held c old new write_rose s
+  unnamed_asked status.AllEquivalent other fault none grew = subst (GrewBy old new) (sym (all_unnamed c none)) grew
+  unnamed_asked status.Others other fault none grew = subst (GrewBy old new) (sym (all_unnamed c none)) grew
+  unnamed_asked status.WriteFault other fault none grew = inr (fault refl, inl (subst (GrewBy old new) (sym (all_unnamed c none)) grew))
+  unnamed_asked status.Memory other fault none grew = memory_asked grew
+  unnamed_asked status.ReadFault other fault none grew = absurd (other refl)
+  unnamed_asked _ other fault none grew = grew
 
   bad_said : (s : Status) → IsBad s → GrewBy old new (fetch_calls c) → AskedFor held c old new write_rose s
   bad_said status.BadClass is grew = grew
@@ -265,73 +298,65 @@ module _ (held : Option Stored) (c : Command (List ℕ)) (old new : Option (List
 
   bad_asked : (s : Status) → HasBadFile held c → IsBad s ⊎ ((s ≡ status.WriteFault) × write_rose) → GrewBy old new (fetch_calls c) → AskedFor held c old new write_rose s
   bad_asked s bad (inl is) grew = bad_said s is grew
-  bad_asked s bad (inr is) grew = subst (λ (t : Status). AskedFor held c old new write_rose t) (sym is.0) (inr (is.1, bad, grew))
+  bad_asked s bad (inr is) grew = subst (λ (t : Status). AskedFor held c old new write_rose t) (sym is.0) (inr (is.1, inr (bad, grew)))
+
+  -- a place was cut off
+  cut_asked : (mid : Option (List Asked)) (placed : List (List ℕ × List ℕ)) (n : ℕ) (s : Status) (rose : Type 0) → placed_names c ≡ names_in placed → n < length placed → GrewBy old mid (fetch_calls c) → PlaceFailed s rose → PlaceCallsTo mid new placed n s → AskedFor held c old new write_rose s
+  cut_asked mid placed n s rose names below grew failed calls = by s failed calls
+    where
+      some_calls : (k : ℕ) → GrewBy mid new (map Place (names_in (take k placed))) → GrewBy old new (fetch_calls c ++ map Place (take k (placed_names c)))
+      some_calls k more = subst (GrewBy old new) (places_front c placed k names) (grew_more old mid new (fetch_calls c) (map Place (names_in (take k placed))) grew more)
+
+      by : (s : Status) → PlaceFailed s rose → PlaceCallsTo mid new placed n s → AskedFor held c old new write_rose s
+      by status.WriteFault failed calls = inl (n, subst (λ (all : List (List ℕ)). n < length all) (sym names) (subst (λ (k : ℕ). n < k) (sym (length-map placed (λ (p : List ℕ × List ℕ). p.0))) below), some_calls (suc n) calls)
+      by status.Memory failed (inl calls) = (length (fetch_calls c) + n, subst (GrewBy old new) (calls_some c n) (some_calls n calls))
+      by status.Memory failed (inr calls) = (length (fetch_calls c) + suc n, subst (GrewBy old new) (calls_some c (suc n)) (some_calls (suc n) calls))
+      by _ failed calls = absurd failed
 
 -- what a reply asks
-pub reply_asked : (held : Option Stored) (c : Command (List ℕ)) (fetched : List Fetched) (placed : Option (List ℕ × List ℕ)) (text : List ℕ) (meant result : Status) (sent_old sent_new : Option (List ℕ)) (files_rose write_rose : Type 0) (old mid new : Option (List Asked))
-    → IsReply held c fetched placed text meant → SaysAfter placed sent_old sent_new text meant result files_rose write_rose → GrewBy old mid (fetch_calls c) → AsksPlaced placed mid new result → AskedFor held c old new write_rose result
-reply_asked held c fetched None text meant result sent_old sent_new files_rose write_rose old mid new r says grew same =
-    let now : GrewBy old new (fetch_calls c) = same ∙ grew in
-    let said = said_of held c fetched sent_old sent_new write_rose text meant result r.holds r.answers says in
-    elim (bare_result held c fetched text meant result sent_old sent_new files_rose write_rose r says) [
-      | inl none ↦ unnamed_asked held c old new write_rose result (no_read_fault result (said_result held c sent_old sent_new write_rose result said)) none now
-      | inr bad ↦ bad_asked held c old new write_rose result bad.0 bad.1 now
+pub reply_asked : (held now : Option Stored) (c : Command (List ℕ)) (fetched : List Fetched) (placed : List (List ℕ × List ℕ)) (text : List ℕ) (meant result : Status) (sent_old sent_new : Option (List ℕ)) (files_rose write_rose : Type 0) (old mid new : Option (List Asked))
+    → IsReply held c fetched placed text meant → Gives held now mid new placed sent_old sent_new text meant result files_rose write_rose → GrewBy old mid (fetch_calls c) → AskedFor held c old new write_rose result
+reply_asked held now c fetched [] text meant result sent_old sent_new files_rose write_rose old mid new r (inl done) grew =
+    let all : GrewBy old new (fetch_calls c) = subst (GrewBy old new) (append-nil (fetch_calls c)) (grew_more old mid new (fetch_calls c) [] grew done.0.calls) in
+    let said = said_of held c fetched sent_old sent_new write_rose text meant result r.holds r.answers done.1 in
+    let is = said_result held c sent_old sent_new write_rose result said in
+    elim (bare_result held c fetched text meant result sent_old sent_new files_rose write_rose r done.1) [
+      | inl none ↦ unnamed_asked held c old new write_rose result (no_read_fault result is) (bare_fault held c fetched text meant result sent_old sent_new files_rose write_rose r done.1) none all
+      | inr bad ↦ bad_asked held c old new write_rose result bad.0 bad.1 all
     ]
-reply_asked held c fetched (Some p) text meant result sent_old sent_new files_rose write_rose old mid new r says grew (inl placed) =
-    let g = contents_of held (fetches c) fetched r.holds in
-    all_asked held c old new write_rose result (whole_result held c fetched text meant result sent_old sent_new files_rose write_rose p r says)
-    (subst (GrewBy old new) (sym (all_named c p.0 (r.places g.contents g.are_fetched).0)) (grew_more old mid new (fetch_calls c) (Place p.0 ∷ []) grew placed))
-reply_asked held c fetched (Some p) text meant result sent_old sent_new files_rose write_rose old mid new r says grew (inr memory) =
-    subst (λ (s : Status). AskedFor held c old new write_rose s) (sym memory.0) (memory_asked held c old new write_rose (memory.1 ∙ grew))
+reply_asked held now c fetched (p ∷ placed) text meant result sent_old sent_new files_rose write_rose old mid new r (inl done) grew =
+    let g = fetched_bytes held (fetches c) fetched r.holds in
+    let names = (r.places g.contents g.are_fetched).0 in
+    all_asked held c old new write_rose result (whole_result held c fetched text meant result sent_old sent_new files_rose write_rose p placed r done.1)
+    (subst (GrewBy old new) (ap (λ (all : List (List ℕ)). fetch_calls c ++ map Place all) (sym names)) (grew_more old mid new (fetch_calls c) (map Place (names_in (p ∷ placed))) grew done.0.calls))
+reply_asked held now c fetched placed text meant result sent_old sent_new files_rose write_rose old mid new r (inr cut) grew =
+    let g = fetched_bytes held (fetches c) fetched r.holds in
+    let names = names_are c g.contents meant placed cut.0.n cut.0.one cut.0.next (r.places g.contents g.are_fetched) in
+    cut_asked held c old new write_rose mid placed cut.0.n result files_rose names (slice_get_within placed cut.0.n cut.0.one cut.0.next) grew cut.0.failed cut.0.calls
 
 -- ---- what is left
 
--- a name is written, and no other changes
-insert_only : (m : Stored) (name bytes : List ℕ) → OnlyAt name m (insert m name bytes)
-insert_only m name bytes other apart = get-insert nat_list_cmp_total m name bytes other ∙ ap (λ (b : Bool). cond b (Some bytes) (get m other)) (sym (texts_ties other name)) ∙ by (pointwise nat_eq other name) refl
-  where
-    by : (b : Bool) → b ≡ pointwise nat_eq other name → cond b (Some bytes) (get m other) ≡ get m other
-    by true e = absurd (apart (same_text other name e))
-    by false e = refl
-
-module _ (c : Command (List ℕ)) (name : List ℕ) (files_rose write_rose : Type 0) where
-  -- the store is as it was, where the status is that of a fault or of a file without a reading
-  same_left : (held : Option Stored) (s : Status) → is_report s ≡ false → (s ≡ status.WriteFault → write_rose × HasBadFile held c) → LeavesNamed name c held held files_rose write_rose s
-  same_left None s is fault = tt
-  same_left (Some m) status.AllEquivalent is fault = absurd (cc is)
-  same_left (Some m) status.Others is fault = absurd (cc is)
-  same_left (Some m) status.WriteFault is fault = let bad = fault refl in inr (bad.0, inr (bad.1, refl))
-  same_left (Some m) status.Memory is fault = λ other apart. refl
-  same_left (Some m) _ is fault = refl
-
-  placed_fault : (old new : Stored) → files_rose ⊎ write_rose → HoldsPlaced old new c name → LeavesAt name c old new files_rose write_rose status.WriteFault
-  placed_fault old new (inl rose) h = inl (rose, subst (OnlyAt name old) (sym h.new_is) (insert_only old name h.bytes))
-  placed_fault old new (inr rose) h = inr (rose, inl h)
-
-  placed_at : (old new : Stored) (s : Status) → is_whole s ≡ true → (s ≡ status.WriteFault → files_rose ⊎ write_rose) → HoldsPlaced old new c name → LeavesAt name c old new files_rose write_rose s
-  placed_at old new status.AllEquivalent is fault h = h
-  placed_at old new status.Others is fault h = h
-  placed_at old new status.WriteFault is fault h = placed_fault old new (fault refl) h
-  placed_at old new status.Memory is fault h = subst (OnlyAt name old) (sym h.new_is) (insert_only old name h.bytes)
-  placed_at old new s is fault h = absurd (cc is)
-
-  failed_at : (old new : Stored) (s : Status) → PlaceFailed s files_rose → OnlyAt name old new → LeavesAt name c old new files_rose write_rose s
-  failed_at old new status.WriteFault failed only = inl (failed, only)
-  failed_at old new status.Memory failed only = only
-  failed_at old new _ failed only = absurd failed
-
 module _ (c : Command (List ℕ)) (files_rose write_rose : Type 0) where
-  -- a command whose name for it is this one
-  left_named : (o : Option (List ℕ)) (old new : Option Stored) (s : Status) → placed_name c ≡ o → LeavesBy o c old new files_rose write_rose s → Leaves (Some c) old new files_rose write_rose s
-  left_named o old new s is h = subst (λ (n : Option (List ℕ)). LeavesBy n c old new files_rose write_rose s) (sym is) h
+  -- the store is as it was, where the status is that of a fault or of a file without a reading
+  same_left : (name : List ℕ) (names : List (List ℕ)) (held : Option Stored) (s : Status) → placed_names c ≡ name ∷ names → is_report s ≡ false → (s ≡ status.WriteFault → write_rose × HasBadFile held c) → LeavesKnown c held held files_rose write_rose s
+  same_left name names None s e is fault = tt
+  same_left name names (Some m) status.AllEquivalent e is fault = absurd (cc is)
+  same_left name names (Some m) status.Others e is fault = absurd (cc is)
+  same_left name names (Some m) status.WriteFault e is fault = let bad = fault refl in inr (bad.0, inr (bad.1, refl))
+  same_left name names (Some m) status.Memory e is fault = record { n = 0; name = name; next = ap (λ (all : List (List ℕ)). slice_get all 0) e; between = m; front = refl; changes = λ other apart. refl }
+  same_left name names (Some m) _ e is fault = refl
+
+  -- a command whose names are these
+  left_named : (names : List (List ℕ)) (old new : Option Stored) (s : Status) → placed_names c ≡ names → LeavesBy names c old new files_rose write_rose s → Leaves (Some c) old new files_rose write_rose s
+  left_named names old new s is h = subst (λ (n : List (List ℕ)). LeavesBy n c old new files_rose write_rose s) (sym is) h
 
   -- nothing is placed, and there is no report
   pub unchanged : (held : Option Stored) (s : Status) → is_report s ≡ false → (s ≡ status.WriteFault → write_rose × HasBadFile held c) → Leaves (Some c) held held files_rose write_rose s
-  unchanged held s is fault = go (placed_name c) refl
+  unchanged held s is fault = go (placed_names c) refl
     where
-      go : (o : Option (List ℕ)) → placed_name c ≡ o → Leaves (Some c) held held files_rose write_rose s
-      go None e = left_named None held held s e refl
-      go (Some name) e = left_named (Some name) held held s e (same_left c name files_rose write_rose held s is fault)
+      go : (names : List (List ℕ)) → placed_names c ≡ names → Leaves (Some c) held held files_rose write_rose s
+      go [] e = left_named [] held held s e refl
+      go (name ∷ names) e = left_named (name ∷ names) held held s e (same_left name names held s e is fault)
 
   -- .. since one of its files is bad
   unchanged_said : (held : Option Stored) (s : Status) → IsBad s → Leaves (Some c) held held files_rose write_rose s
@@ -349,31 +374,95 @@ module _ (c : Command (List ℕ)) (files_rose write_rose : Type 0) where
   unchanged_read held status.Memory rose failed = unchanged held status.Memory refl (λ fault. absurd (cc fault))
   unchanged_read held _ rose failed = absurd failed
 
+  -- all was placed
+  placed_at : (old new : Stored) (s : Status) → (is_report s ≡ true) ⊎ ((s ≡ status.WriteFault) × write_rose) → HoldsPlaced old new c (placed_names c) → LeavesAt c old new files_rose write_rose s
+  placed_at old new s (inr e) h = subst (LeavesAt c old new files_rose write_rose) (sym e.0) (inr (e.1, inl h))
+  placed_at old new status.AllEquivalent (inl is) h = h
+  placed_at old new status.Others (inl is) h = h
+  placed_at old new s (inl is) h = absurd (cc is)
+
+  -- a place was cut off
+  cut_at : (old new : Stored) (s : Status) → PlaceFailed s files_rose → IsCutOff old new c → LeavesAt c old new files_rose write_rose s
+  cut_at old new status.WriteFault failed cut = inl (failed, cut)
+  cut_at old new status.Memory failed cut = cut
+  cut_at old new _ failed cut = absurd failed
+
+-- the first of names take the first of the bytes
+first_each : (n : ℕ) (m : Stored) (placed : List (List ℕ × List ℕ)) → insert_each m (names_in (take n placed)) (bytes_in (take n placed)) ≡ insert_each m (take n (names_in placed)) (bytes_in placed)
+first_each zero m placed = refl
+first_each (suc n) m [] = refl
+first_each (suc n) m (p ∷ placed) = first_each n (insert m p.0 p.1) placed
+
+-- what stands before a place that was cut off
+front_held : (old between : Stored) (c : Command (List ℕ)) (contents : List (List ℕ)) (placed : List (List ℕ × List ℕ)) (n : ℕ) → placed_names c ≡ names_in placed → AreHeld (Some old) c contents → IsPlaced c contents (bytes_in placed)
+    → between ≡ insert_each old (names_in (take n placed)) (bytes_in (take n placed)) → HoldsFront old between c (take n (placed_names c))
+front_held old between c contents placed n names held is e =
+    by (take n (placed_names c)) (e ∙ first_each n old placed ∙ ap (λ (all : List (List ℕ)). insert_each old (take n all) (bytes_in placed)) (sym names))
+  where
+    by : (front : List (List ℕ)) → between ≡ insert_each old front (bytes_in placed) → HoldsFront old between c front
+    by [] same = same
+    by (name ∷ front) same = record { contents = contents; are_held = held; bytes = bytes_in placed; placed = is; new_is = same }
+
+-- .. and then only what it has under one name may have changed
+cut_off : (old between new : Stored) (c : Command (List ℕ)) (contents : List (List ℕ)) (s : Status) (placed : List (List ℕ × List ℕ)) (n : ℕ) (one : List ℕ × List ℕ) → AreHeld (Some old) c contents → Places c contents s placed → slice_get placed n ≡ Some one
+    → PlacesIn (Some old) (Some between) (take n placed) → ChangesAt (Some between) (Some new) one.0 → IsCutOff old new c
+cut_off old between new c contents s [] n one held places next front changes = absurd (cc next)
+cut_off old between new c contents s (p ∷ placed) n one held places next front changes = record {
+  n = n;
+  name = one.0;
+  next = ap (λ (all : List (List ℕ)). slice_get all n) places.0 ∙ slice_get-map (λ (q : List ℕ × List ℕ). q.0) (p ∷ placed) n ∙ ap (option_map (λ (q : List ℕ × List ℕ). q.0)) next;
+  between = between;
+  front = front_held old between c contents (p ∷ placed) n places.0 held places.1 front;
+  changes = changes;
+}
+
+none_placed : (held now : Option Stored) → PlacesIn held now [] → now ≡ held
+none_placed None None is = refl
+none_placed (Some m) (Some n) is = ap Some is
+none_placed None (Some n) is = absurd is
+none_placed (Some m) None is = absurd is
+
 -- what a reply leaves
-pub reply_left : (held new : Option Stored) (c : Command (List ℕ)) (fetched : List Fetched) (placed : Option (List ℕ × List ℕ)) (text : List ℕ) (meant result : Status) (sent_old sent_new : Option (List ℕ)) (files_rose write_rose : Type 0)
-    → IsReply held c fetched placed text meant → SaysAfter placed sent_old sent_new text meant result files_rose write_rose → LeavesPlaced placed held new result files_rose → Leaves (Some c) held new files_rose write_rose result
-reply_left held new c fetched None text meant result sent_old sent_new files_rose write_rose r says same =
-    subst (λ (h : Option Stored). Leaves (Some c) held h files_rose write_rose result) (sym same)
-    (elim (bare_result held c fetched text meant result sent_old sent_new files_rose write_rose r says) [
-      | inl none ↦ left_named c files_rose write_rose None held held result none refl
+pub reply_left : (held now : Option Stored) (asked later : Option (List Asked)) (c : Command (List ℕ)) (fetched : List Fetched) (placed : List (List ℕ × List ℕ)) (text : List ℕ) (meant result : Status) (sent_old sent_new : Option (List ℕ)) (files_rose write_rose : Type 0)
+    → IsReply held c fetched placed text meant → Gives held now asked later placed sent_old sent_new text meant result files_rose write_rose → Leaves (Some c) held now files_rose write_rose result
+reply_left held now asked later c fetched [] text meant result sent_old sent_new files_rose write_rose r (inl done) =
+    subst (λ (h : Option Stored). Leaves (Some c) held h files_rose write_rose result) (sym (none_placed held now done.0.holds))
+    (elim (bare_result held c fetched text meant result sent_old sent_new files_rose write_rose r done.1) [
+      | inl none ↦ left_named c files_rose write_rose [] held held result none refl
       | inr bad ↦ unchanged_bad c files_rose write_rose held result bad.0 bad.1
     ])
-reply_left held new c fetched (Some p) text meant result sent_old sent_new files_rose write_rose r says left =
-    let g = contents_of held (fetches c) fetched r.holds in
-    let places = r.places g.contents g.are_fetched in
-    left_named c files_rose write_rose (Some p.0) held new result places.0 (by held new r.holds left)
+reply_left held now asked later c fetched (p ∷ placed) text meant result sent_old sent_new files_rose write_rose r (inl done) =
+    let g = fetched_bytes held (fetches c) fetched r.holds in
+    let names = (r.places g.contents g.are_fetched).0 in
+    left_named c files_rose write_rose (names_in (p ∷ placed)) held now result names (by held now r.holds done.0.holds)
   where
-    by : (h k : Option Stored) → HoldAll h (fetches c) fetched → LeavesPlaced (Some p) h k result files_rose → LeavesNamed p.0 c h k files_rose write_rose result
-    by None None all left = tt
-    by (Some m) (Some n) all (inl is) =
-        let g = contents_of (Some m) (fetches c) fetched all in
-        placed_at c p.0 files_rose write_rose m n result (whole_result held c fetched text meant result sent_old sent_new files_rose write_rose p r says) (fault_of held c fetched text meant result sent_old sent_new files_rose write_rose p r says)
-        (record { contents = g.contents; are_held = g.are_held; bytes = p.1; placed = (r.places g.contents g.are_fetched).1; new_is = is })
-    by (Some m) (Some n) all (inr failed) = failed_at c p.0 files_rose write_rose m n result failed.0 failed.1
-    by None (Some n) all (inl x) = absurd x
-    by None (Some n) all (inr x) = absurd x.1
-    by (Some m) None all (inl x) = absurd x
-    by (Some m) None all (inr x) = absurd x.1
+    by : (h k : Option Stored) → HoldAll h (fetches c) fetched → PlacesIn h k (p ∷ placed) → LeavesKnown c h k files_rose write_rose result
+    by None None all is = tt
+    by (Some m) (Some n) all is =
+        let g = fetched_bytes (Some m) (fetches c) fetched all in
+        let places = r.places g.contents g.are_fetched in
+        placed_at c files_rose write_rose m n result (whole_result held c fetched text meant result sent_old sent_new files_rose write_rose p placed r done.1)
+        (record { contents = g.contents; are_held = g.are_held; bytes = bytes_in (p ∷ placed); placed = places.1; new_is = is ∙ ap (λ (all : List (List ℕ)). insert_each m all (bytes_in (p ∷ placed))) (sym places.0) })
+    by None (Some n) all is = absurd is
+    by (Some m) None all is = absurd is
+reply_left held now asked later c fetched placed text meant result sent_old sent_new files_rose write_rose r (inr cut) =
+    let g = fetched_bytes held (fetches c) fetched r.holds in
+    let names = names_are c g.contents meant placed cut.0.n cut.0.one cut.0.next (r.places g.contents g.are_fetched) in
+    left_named c files_rose write_rose (names_in placed) held now result names (by (names_in placed) (some_names placed cut.0.n cut.0.one cut.0.next) held cut.0.between now r.holds cut.0.front cut.0.changes)
+  where
+    known : (h b k : Option Stored) → HoldAll h (fetches c) fetched → PlacesIn h b (take cut.0.n placed) → ChangesAt b k cut.0.one.0 → LeavesKnown c h k files_rose write_rose result
+    known None None None all front changes = tt
+    known (Some m) (Some b) (Some n) all front changes =
+        let g = fetched_bytes (Some m) (fetches c) fetched all in
+        cut_at c files_rose write_rose m n result cut.0.failed (cut_off m b n c g.contents meant placed cut.0.n cut.0.one g.are_held (r.places g.contents g.are_fetched) cut.0.next front changes)
+    known None None (Some k) all front changes = absurd changes
+    known None (Some b) k all front changes = absurd front
+    known (Some m) None k all front changes = absurd front
+    known (Some m) (Some b) None all front changes = absurd changes
+
+    by : (names : List (List ℕ)) → names ≢ [] → (h b k : Option Stored) → HoldAll h (fetches c) fetched → PlacesIn h b (take cut.0.n placed) → ChangesAt b k cut.0.one.0 → LeavesBy names c h k files_rose write_rose result
+    by [] some h b k all front changes = absurd (some refl)
+    by (name ∷ names) some h b k all front changes = known h b k all front changes
 
 -- ---- memory ran out before anything was done
 

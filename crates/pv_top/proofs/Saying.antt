@@ -7,7 +7,7 @@ use Rattle.pv_base.specs.Outside.{more}
 use Rattle.pv_report.specs.declared.status.Status.{Status}
 use Rattle.pv_report.specs.declared.status.Status.TheVariants as status
 use Rattle.pv_top.specs.declared.words.Command.{Command}
-use Rattle.pv_top.specs.declared.words.Command.TheVariants.{Validate, Check, Compose, CheckChain, Refute}
+use Rattle.pv_top.specs.declared.words.Command.TheVariants.{Validate, Check, Compose, CheckChain, Refute, Make}
 use Rattle.pv_top.specs.Run.{Puts, Says, Answered, IsAnswer, SaidOf}
 use Rattle.pv_top.specs.Fetching.{ReadFailed}
 use Rattle.pv_top.specs.Promise.{IsLineOf, EndsWith, HaveOneMeaning, EachEquivalent}
@@ -27,20 +27,36 @@ is_said status.ReadFault = false
 is_said status.Memory = false
 is_said s = true
 
--- .. is that of an answer
+-- the status of an answer
+abbrev pub is_meant : Status → Bool
+is_meant status.ReadFault = false
+is_meant status.WriteFault = false
+is_meant status.Memory = false
+is_meant s = true
+
+pub answer_meant : (c : Command (List ℕ)) (contents : List (List ℕ)) (text : List ℕ) (s : Status) → IsAnswer c contents text s → is_meant s ≡ true
+answer_meant c contents text status.AllEquivalent h = refl
+answer_meant c contents text status.Others h = refl
+answer_meant c contents text status.BadClass h = refl
+answer_meant c contents text status.BadCert h = refl
+answer_meant c contents text status.BadWords h = refl
+answer_meant (Validate a b axioms rounds budget mode) (x ∷ y ∷ []) text _ (vs, r, is) = absurd is
+answer_meant (Check a b c) (x ∷ y ∷ z ∷ []) text _ (fs, r, is) = absurd is
+answer_meant (Compose a b c x y out) (j ∷ k ∷ l ∷ m ∷ n ∷ []) text _ is = absurd is
+answer_meant (CheckChain a c chain) (x ∷ y ∷ z ∷ []) text _ (fs, r, is) = absurd is
+answer_meant (Refute a b tries steps) (x ∷ y ∷ []) text _ (fs, r, is) = absurd is
+answer_meant (Make seed count a b) [] text _ (e, is) = absurd (cc is)
+answer_meant _ _ text _ h = absurd h
+
+-- .. is one of something that is said
+meant_said : (s : Status) → is_meant s ≡ true → is_said s ≡ true
+meant_said status.ReadFault is = absurd (cc is)
+meant_said status.WriteFault is = refl
+meant_said status.Memory is = absurd (cc is)
+meant_said s is = refl
+
 pub answer_said : (c : Command (List ℕ)) (contents : List (List ℕ)) (text : List ℕ) (s : Status) → IsAnswer c contents text s → is_said s ≡ true
-answer_said c contents text status.AllEquivalent h = refl
-answer_said c contents text status.Others h = refl
-answer_said c contents text status.BadClass h = refl
-answer_said c contents text status.BadCert h = refl
-answer_said c contents text status.BadWords h = refl
-answer_said c contents text status.WriteFault h = refl
-answer_said (Validate a b axioms rounds budget mode) (x ∷ y ∷ []) text _ (vs, r, is) = absurd is
-answer_said (Check a b c) (x ∷ y ∷ z ∷ []) text _ (fs, r, is) = absurd is
-answer_said (Compose a b c x y out) (j ∷ k ∷ l ∷ m ∷ n ∷ []) text _ is = absurd is
-answer_said (CheckChain a c chain) (x ∷ y ∷ z ∷ []) text _ (fs, r, is) = absurd is
-answer_said (Refute a b tries steps) (x ∷ y ∷ []) text _ (fs, r, is) = absurd is
-answer_said _ _ text _ h = absurd h
+answer_said c contents text s h = meant_said s (answer_meant c contents text s h)
 
 pub result_said : (old new : Option (List ℕ)) (text : List ℕ) (meant result : Status) (rose : Type 0) → is_said meant ≡ true → Says old new text meant result rose → is_said result ≡ true
 result_said old new text meant result rose is says =

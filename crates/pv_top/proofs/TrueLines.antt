@@ -1,6 +1,6 @@
 -- Each whole line of an answer that says `equivalent` is true.
-use Rattle.std.proofs.Common.{◌≡◌, ℕ, List, ◌∷◌, ◌++◌, Option, inl, inr, sym, ap, subst, ◌∙◌}
-use Rattle.std.specs.Prelude.{codes}
+use Rattle.std.proofs.Common.{◌≡◌, ℕ, List, [], ◌∷◌, ◌++◌, Option, inl, inr, refl, sym, ap, subst, ◌∙◌}
+use Rattle.std.specs.Prelude.{codes, decimal}
 use Rattle.pv_base.specs.Stored.{Stored}
 use Rattle.pv_differences.specs.declared.finding.Finding.{Finding as Difference}
 use Rattle.pv_differences.specs.declared.finding.RunLimits.{RunLimits}
@@ -18,7 +18,7 @@ use Rattle.pv_report.specs.declared.verdict.Verdict.TheVariants.{Equivalent}
 use Rattle.pv_report.specs.Lines.{fault_words, in_words, line_of, line_text, method_line, side_word, verdict_words}
 use Rattle.pv_report.specs.Report.{IsBadPair, IsBadText, IsReport, Judged}
 use Rattle.pv_report.specs.Verdicts.{IsVerdict}
-use Rattle.pv_report.proofs.Cited.{Lacks, bad_class_other, bad_class_whole, least_meaning, only_equivalent, whole_line}
+use Rattle.pv_report.proofs.Cited.{AreOther, Lacks, bad_class_other, bad_class_whole, ends_other, known, least_meaning, number_other, only_equivalent, other_parts, whole_line, whole_words}
 use Rattle.pv_sections.specs.declared.finding.Finding.{Finding}
 use Rattle.pv_sections.specs.declared.finding.Finding.TheVariants as finding
 use Rattle.pv_sections.specs.Findings.{IsFinding}
@@ -35,6 +35,7 @@ use Rattle.pv_links.specs.Stages.{ordinal_word}
 use Rattle.pv_links.specs.Ruled.{ChainRuled, IsChainReport}
 use Rattle.pv_links.proofs.Cited.{bad_chain_other, bad_chain_whole, bad_link_other, bad_link_whole, bad_stage_other, bad_stage_whole, equivalent_means, composed_other, composed_whole, only_link, whole_link}
 use Rattle.pv_top.specs.Promise.{IsLineOf}
+use Rattle.pv_top.specs.Words.{made_line}
 use Rattle.pv_top.proofs.Files.{HoldsBoth, has_bytes}
 use Rattle.pv_top.proofs.Saying.{IsTrueOf}
 use Rattle.pv_top.proofs.WholeLines.{line_among, line_only}
@@ -176,3 +177,11 @@ refuted_line held limits a b first second text status.BadClass bad = bad_pair he
 refuted_line held limits a b first second text status.AllEquivalent (fs, r, is) = difference_line held limits a b first second text fs r
 refuted_line held limits a b first second text status.Others (fs, r, is) = difference_line held limits a b first second text fs r
 refuted_line held limits a b first second text _ (fs, r, is) = absurd is
+
+-- ---- two classes that were made
+
+pub made_true : (held : Option Stored) (a b : List ℕ) (count : ℕ) (text : List ℕ) → text ≡ made_line count → IsTrueOf held a b text
+made_true held a b count text e =
+    let words : List (List ℕ) = decimal count ∷ codes "methods" ∷ [] in
+    let other : AreOther words = (number_other count, (known (codes "methods") refl, tt)) in
+    one_other held a b text (in_words (codes "made" ∷ words)) e (whole_words (codes "made" ∷ words) ((known (codes "made") refl).part, other_parts words other)) (λ front same. ends_other (codes "made") words front other same)

@@ -1,13 +1,14 @@
 -- The command that was read from words.
-use Rattle.std.specs.Prelude.{ℕ, Bool, List, [], ◌∷◌, Option, Some, None, option_map}
+use Rattle.std.specs.Prelude.{ℕ, ◌≤◌, Bool, List, [], ◌∷◌, Option, Some, None, option_map}
 use Rattle.std.specs.Borrow.{Bor}
 use Rattle.pv_report.specs.Options.{AxiomSet}
+use Rattle.pv_maker.specs.declared.class.TheConstants.{MOST_MADE}
 use Rattle.pv_words.specs.Answers.{texts}
 use Rattle.pv_words.specs.Words.{Give}
 use Rattle.pv_top.specs.declared.words.Mode.{Mode}
 use Rattle.pv_top.specs.declared.words.Mode.TheVariants.{Plain, Counted, Cert}
 use Rattle.pv_top.specs.declared.words.Command.{Command}
-use Rattle.pv_top.specs.declared.words.Command.TheVariants.{Validate, Check, Compose, CheckChain, Refute}
+use Rattle.pv_top.specs.declared.words.Command.TheVariants.{Validate, Check, Compose, CheckChain, Refute, Make}
 use Rattle.pv_top.specs.declared.words.Order.{Order}
 use Rattle.pv_top.specs.declared.words.Checked.{Checked}
 use Rattle.pv_top.specs.Words.{GiveCheck, IsCommand, IsLimit, IsMode, IsSet, arguments_alone}
@@ -25,6 +26,12 @@ named (Check a b cert) = Check a.now b.now cert.now
 named (Compose a b c x y out) = Compose a.now b.now c.now x.now y.now out.now
 named (CheckChain a c chain) = CheckChain a.now c.now chain.now
 named (Refute a b tries steps) = Refute a.now b.now tries steps
+named (Make seed count a b) = Make seed count a.now b.now
+
+-- a class of this number of methods can be made
+abbrev pub CanMake : Command (List ℕ) → Type 0
+CanMake (Make seed count a b) = count ≤ MOST_MADE
+CanMake c = Unit {0}
 
 abbrev pub IsRead : List (Bor (List ℕ)) → Option (Command (Bor (List ℕ))) → Type 0
 IsRead words command = IsCommand (texts words) (option_map named command)

@@ -1,5 +1,5 @@
 -- What the top call says, asks and leaves, by the command that its words are.
-use Rattle.std.specs.Prelude.{◌≡◌, ◌⊎◌, ℕ, suc, ◌<◌, List, [], ◌∷◌, ◌++◌, length, map, take, Option, Some, None}
+use Rattle.std.specs.Prelude.{◌≡◌, ◌≢◌, ◌⊎◌, true, false, ℕ, suc, ◌<◌, List, [], ◌∷◌, ◌++◌, length, map, take, slice_get, Option, Some, None}
 use Rattle.std.specs.List.{AllByRecursion, AllZip}
 use Rattle.std.specs.FinMap.{insert}
 use Rattle.pv_base.specs.Stored.{Stored, AreBytes}
@@ -14,13 +14,14 @@ use Rattle.pv_sections.specs.Certified.{IsCertificateFor}
 use Rattle.pv_sections.specs.Ruled.{Ruled}
 use Rattle.pv_links.specs.Composed.{Composed, IsChainFor}
 use Rattle.pv_links.specs.Ruled.{ChainRuled}
+use Rattle.pv_maker.specs.Classes.{IsMade}
 use Rattle.pv_report.specs.declared.verdict.Graphs.{Graphs}
 use Rattle.pv_report.specs.declared.verdict.Graphs.TheVariants.{Least, LeastOrCleared}
 use Rattle.pv_top.specs.declared.words.Mode.{Mode}
 use Rattle.pv_top.specs.declared.words.Mode.TheVariants.{Counted}
 use Rattle.pv_top.specs.declared.words.Command.{Command}
-use Rattle.pv_top.specs.declared.words.Command.TheVariants.{Validate, Check, Compose, CheckChain, Refute}
-use Rattle.pv_top.specs.Words.{fetches, names_of, placed_name, bad_words}
+use Rattle.pv_top.specs.declared.words.Command.TheVariants.{Validate, Check, Compose, CheckChain, Refute, Make}
+use Rattle.pv_top.specs.Words.{fetches, names_of, placed_names, made_line, bad_words}
 use Rattle.pv_top.specs.Promise.{Holds}
 
 -- ---- what is said
@@ -46,6 +47,7 @@ IsAnswer (Check a b cert) (x ∷ y ∷ z ∷ []) text s = Ruled x y z text s
 IsAnswer (Compose a b c x y out) (j ∷ k ∷ l ∷ m ∷ n ∷ []) text s = Composed j k l m n text s
 IsAnswer (CheckChain a c chain) (x ∷ y ∷ z ∷ []) text s = ChainRuled x y z text s
 IsAnswer (Refute a b tries steps) (x ∷ y ∷ []) text s = Refuted (record { tries = tries; steps = steps }) x y text s
+IsAnswer (Make seed count a b) [] text s = (text ≡ made_line count) × (s ≡ status.AllEquivalent)
 IsAnswer c contents text s = ⊥
 
 -- the bytes that the store had under the names of a command's files
@@ -79,7 +81,7 @@ pub record HasBadFile (held : Option Stored) (c : Command (List ℕ)) : Type 0 w
 
 -- the command places something, and this failed before anything was said
 abbrev pub FailsToPlace : Command (List ℕ) → Option (List ℕ) → Option (List ℕ) → Type 0 → Type 0
-FailsToPlace c old new files_rose = ((name : List ℕ) × (placed_name c ≡ Some name)) × files_rose × (new ≡ old)
+FailsToPlace c old new files_rose = (placed_names c ≢ []) × files_rose × (new ≡ old)
 
 -- What is said: that the words are no command; or that of a command, where no call of the files failed and memory didn't run out, else
 -- nothing.
@@ -96,13 +98,9 @@ Answered held (Some c) old new files_rose write_rose result = SaidOf held c old 
 abbrev pub fetch_calls : Command (List ℕ) → List Asked
 fetch_calls c = map Fetch (names_of c)
 
-abbrev pub place_calls : Option (List ℕ) → List Asked
-place_calls None = []
-place_calls (Some name) = Place name ∷ []
-
--- and then what it places
+-- and then its places
 abbrev pub all_calls : Command (List ℕ) → List Asked
-all_calls c = fetch_calls c ++ place_calls (placed_name c)
+all_calls c = fetch_calls c ++ map Place (placed_names c)
 
 -- some bytes stand under the name
 abbrev pub IsThere : Option Stored → List ℕ → Type 0
@@ -112,14 +110,23 @@ IsThere held name = (bytes : List ℕ) × Holds held name bytes
 abbrev pub GrewBy : Option (List Asked) → Option (List Asked) → List Asked → Type 0
 GrewBy old new calls = new ≡ more old calls
 
+-- .. by the fetches of a command, and its places up to one that failed
+abbrev pub AskedToPlace : Command (List ℕ) → Option (List Asked) → Option (List Asked) → Type 0
+AskedToPlace c old new = (n : ℕ) × (n < length (placed_names c)) × GrewBy old new (fetch_calls c ++ map Place (take (suc n) (placed_names c)))
+
+-- where the sink failed: by all calls, or by the fetches alone, since a file of the command is bad
+abbrev pub AskedUnsaid : Option Stored → Command (List ℕ) → Option (List Asked) → Option (List Asked) → Type 0
+AskedUnsaid held c old new = GrewBy old new (all_calls c) ⊎ (HasBadFile held c × GrewBy old new (fetch_calls c))
+
 -- The record of calls grows by all calls of the command; by its fetches alone, where a file of it is bad. Where a fetch fails,
--- it grows by those up to this one, and the names before it are there; where memory runs out, by the first n calls, for some n.
+-- it grows by those up to this one, and the names before it are there; where a place fails, by the calls up to this one; and where
+-- memory runs out, by the first n calls, for some n.
 abbrev pub AskedFor : Option Stored → Command (List ℕ) → Option (List Asked) → Option (List Asked) → Type 0 → Status → Type 0
 AskedFor held c old new write_rose status.Memory = (n : ℕ) × GrewBy old new (take n (all_calls c))
 AskedFor held c old new write_rose status.ReadFault = (n : ℕ) × (n < length (names_of c)) × AllByRecursion (IsThere held) (take n (names_of c)) × GrewBy old new (map Fetch (take (suc n) (names_of c)))
 AskedFor held c old new write_rose status.AllEquivalent = GrewBy old new (all_calls c)
 AskedFor held c old new write_rose status.Others = GrewBy old new (all_calls c)
-AskedFor held c old new write_rose status.WriteFault = GrewBy old new (all_calls c) ⊎ (write_rose × HasBadFile held c × GrewBy old new (fetch_calls c))
+AskedFor held c old new write_rose status.WriteFault = AskedToPlace c old new ⊎ (write_rose × AskedUnsaid held c old new)
 AskedFor held c old new write_rose result = GrewBy old new (fetch_calls c)
 
 -- Words that are no command ask nothing.
@@ -129,44 +136,63 @@ CallsFor held (Some c) old new write_rose result = AskedFor held c old new write
 
 -- ---- what is left
 
--- the bytes that a command places, by the bytes of its files
-abbrev pub IsPlaced : Command (List ℕ) → List (List ℕ) → List ℕ → Type 0
-IsPlaced (Validate a b axioms rounds budget mode) (x ∷ y ∷ []) bytes = IsCertificateFor (record { axioms = axioms; rounds = rounds; budget = budget }) x y bytes
-IsPlaced (Compose a b c x y out) (j ∷ k ∷ l ∷ m ∷ n ∷ []) bytes = IsChainFor j k l m n bytes
+-- the bytes that a command places under its names, by the bytes of its files
+abbrev pub IsPlaced : Command (List ℕ) → List (List ℕ) → List (List ℕ) → Type 0
+IsPlaced (Validate a b axioms rounds budget mode) (x ∷ y ∷ []) (bytes ∷ []) = IsCertificateFor (record { axioms = axioms; rounds = rounds; budget = budget }) x y bytes
+IsPlaced (Compose a b c x y out) (j ∷ k ∷ l ∷ m ∷ n ∷ []) (bytes ∷ []) = IsChainFor j k l m n bytes
+IsPlaced (Make seed count a b) [] (plain ∷ twin ∷ []) = IsMade seed count false plain × IsMade seed count true twin
 IsPlaced c contents bytes = ⊥
 
--- the name holds what the command places for what the store had under the names of its files, and nothing else changed
-pub record HoldsPlaced (old new : Stored) (c : Command (List ℕ)) (name : List ℕ) : Type 0 where
+-- a store after bytes were placed under names, one after the other
+abbrev pub insert_each : Stored → List (List ℕ) → List (List ℕ) → Stored
+insert_each m (name ∷ names) (bytes ∷ more) = insert_each (insert m name bytes) names more
+insert_each m names more = m
+
+-- these names hold what the command places for what the store had under the names of its files, and nothing else changed
+pub record HoldsPlaced (old new : Stored) (c : Command (List ℕ)) (names : List (List ℕ)) : Type 0 where
   pub contents : List (List ℕ)
   pub are_held : AreContents (Some old) c contents
-  pub bytes : List ℕ
+  pub bytes : List (List ℕ)
   pub placed : IsPlaced c contents bytes
-  pub new_is : new ≡ insert old name bytes
+  pub new_is : new ≡ insert_each old names bytes
+
+-- .. if any
+abbrev pub HoldsFront : Stored → Stored → Command (List ℕ) → List (List ℕ) → Type 0
+HoldsFront old new c [] = new ≡ old
+HoldsFront old new c (name ∷ names) = HoldsPlaced old new c (name ∷ names)
+
+-- a place was cut off: the names before it hold what the command places, and besides these only its own may have changed
+pub record IsCutOff (old new : Stored) (c : Command (List ℕ)) : Type 0 where
+  pub n : ℕ
+  pub name : List ℕ
+  pub next : slice_get (placed_names c) n ≡ Some name
+  pub between : Stored
+  pub front : HoldsFront old between c (take n (placed_names c))
+  pub changes : OnlyAt name between new
 
 -- where the sink failed, the command had placed what it places; or one of its files is bad, and nothing changed
-abbrev pub LeavesUnsaid : List ℕ → Command (List ℕ) → Stored → Stored → Type 0
-LeavesUnsaid name c old new = HoldsPlaced old new c name ⊎ (HasBadFile (Some old) c × (new ≡ old))
+abbrev pub LeavesUnsaid : Command (List ℕ) → Stored → Stored → Type 0
+LeavesUnsaid c old new = HoldsPlaced old new c (placed_names c) ⊎ (HasBadFile (Some old) c × (new ≡ old))
 
--- A report leaves what the command places under its name. A place that fails, and want of memory, may leave anything there. Else
--- nothing changes.
-abbrev pub LeavesAt : List ℕ → Command (List ℕ) → Stored → Stored → Type 0 → Type 0 → Status → Type 0
-LeavesAt name c old new files_rose write_rose status.AllEquivalent = HoldsPlaced old new c name
-LeavesAt name c old new files_rose write_rose status.Others = HoldsPlaced old new c name
-LeavesAt name c old new files_rose write_rose status.WriteFault = (files_rose × OnlyAt name old new) ⊎ (write_rose × LeavesUnsaid name c old new)
-LeavesAt name c old new files_rose write_rose status.Memory = OnlyAt name old new
-LeavesAt name c old new files_rose write_rose result = new ≡ old
+-- A report leaves what the command places under its names. A place that fails, and want of memory, cut it off. Else nothing changes.
+abbrev pub LeavesAt : Command (List ℕ) → Stored → Stored → Type 0 → Type 0 → Status → Type 0
+LeavesAt c old new files_rose write_rose status.AllEquivalent = HoldsPlaced old new c (placed_names c)
+LeavesAt c old new files_rose write_rose status.Others = HoldsPlaced old new c (placed_names c)
+LeavesAt c old new files_rose write_rose status.WriteFault = (files_rose × IsCutOff old new c) ⊎ (write_rose × LeavesUnsaid c old new)
+LeavesAt c old new files_rose write_rose status.Memory = IsCutOff old new c
+LeavesAt c old new files_rose write_rose result = new ≡ old
 
 -- the same, where what the store holds is known, as it is afterwards too
-abbrev pub LeavesNamed : List ℕ → Command (List ℕ) → Option Stored → Option Stored → Type 0 → Type 0 → Status → Type 0
-LeavesNamed name c None None files_rose write_rose result = Unit {0}
-LeavesNamed name c (Some old) (Some new) files_rose write_rose result = LeavesAt name c old new files_rose write_rose result
-LeavesNamed name c old new files_rose write_rose result = ⊥
+abbrev pub LeavesKnown : Command (List ℕ) → Option Stored → Option Stored → Type 0 → Type 0 → Status → Type 0
+LeavesKnown c None None files_rose write_rose result = Unit {0}
+LeavesKnown c (Some old) (Some new) files_rose write_rose result = LeavesAt c old new files_rose write_rose result
+LeavesKnown c old new files_rose write_rose result = ⊥
 
-abbrev pub LeavesBy : Option (List ℕ) → Command (List ℕ) → Option Stored → Option Stored → Type 0 → Type 0 → Status → Type 0
-LeavesBy None c old new files_rose write_rose result = new ≡ old
-LeavesBy (Some name) c old new files_rose write_rose result = LeavesNamed name c old new files_rose write_rose result
+abbrev pub LeavesBy : List (List ℕ) → Command (List ℕ) → Option Stored → Option Stored → Type 0 → Type 0 → Status → Type 0
+LeavesBy [] c old new files_rose write_rose result = new ≡ old
+LeavesBy (name ∷ names) c old new files_rose write_rose result = LeavesKnown c old new files_rose write_rose result
 
 -- what the store holds after the call: a command that places nothing, and words that are no command, change nothing
 abbrev pub Leaves : Option (Command (List ℕ)) → Option Stored → Option Stored → Type 0 → Type 0 → Status → Type 0
 Leaves None old new files_rose write_rose result = new ≡ old
-Leaves (Some c) old new files_rose write_rose result = LeavesBy (placed_name c) c old new files_rose write_rose result
+Leaves (Some c) old new files_rose write_rose result = LeavesBy (placed_names c) c old new files_rose write_rose result

@@ -1,19 +1,20 @@
 -- The words that are a command, and what a command fetches and places.
-use Rattle.std.specs.Prelude.{◌≡◌, ℕ, Bool, true, false, List, [], ◌∷◌, Option, Some, None, map, codes}
+use Rattle.std.specs.Prelude.{◌≡◌, ℕ, Bool, true, false, List, [], ◌∷◌, Option, Some, None, map, codes, decimal}
 use Rattle.pv_class.specs.declared.class.TheConstants.{LONGEST_FILE}
 use Rattle.pv_report.specs.Options.{AxiomSet}
 use Rattle.pv_report.specs.Options.{Core, All}
-use Rattle.pv_report.specs.Lines.{line_text}
+use Rattle.pv_report.specs.Lines.{in_words, line_text}
 use Rattle.pv_sections.specs.declared.certificate.TheConstants.{LONGEST_CERT}
 use Rattle.pv_links.specs.declared.chain.TheConstants.{LONGEST_CHAIN}
+use Rattle.pv_maker.specs.declared.class.TheConstants.{MOST_MADE}
 use Rattle.pv_words.specs.Words as words
 use Rattle.pv_words.specs.Words.{Give}
 use Rattle.pv_words.specs.Numbers.{IsNumber}
-use Rattle.pv_top.specs.declared.words.TheConstants.{DEFAULT_ROUNDS, MOST_ROUNDS, DEFAULT_BUDGET, MOST_BUDGET, DEFAULT_TRIES, MOST_TRIES, DEFAULT_STEPS, MOST_STEPS, DEFAULT_WORKERS, MOST_WORKERS}
+use Rattle.pv_top.specs.declared.words.TheConstants.{DEFAULT_ROUNDS, MOST_ROUNDS, DEFAULT_BUDGET, MOST_BUDGET, DEFAULT_TRIES, MOST_TRIES, DEFAULT_STEPS, MOST_STEPS, MOST_SEED, DEFAULT_WORKERS, MOST_WORKERS}
 use Rattle.pv_top.specs.declared.words.Mode.{Mode}
 use Rattle.pv_top.specs.declared.words.Mode.TheVariants.{Plain, Counted, Cert}
 use Rattle.pv_top.specs.declared.words.Command.{Command}
-use Rattle.pv_top.specs.declared.words.Command.TheVariants.{Validate, Check, Compose, CheckChain, Refute}
+use Rattle.pv_top.specs.declared.words.Command.TheVariants.{Validate, Check, Compose, CheckChain, Refute, Make}
 
 -- the value of an option is this number, which lies between two bounds; an option that isn't given has a default
 abbrev pub IsLimit : (least most default : ℕ) → Option (List ℕ) → ℕ → Type 0
@@ -86,6 +87,14 @@ pub record GiveRefute (rest : List (List ℕ)) (a b : List ℕ) (tries steps : �
   pub tries_are : IsLimit 1 MOST_TRIES DEFAULT_TRIES tries_word tries
   pub steps_are : IsLimit 1 MOST_STEPS DEFAULT_STEPS steps_word steps
 
+-- these words after `make` give it this seed and this number of methods
+pub record GiveMake (rest : List (List ℕ)) (seed count : ℕ) (a b : List ℕ) : Type 0 where
+  pub seed_word : List ℕ
+  pub count_word : List ℕ
+  pub given : Give (arguments_alone 4) rest [] [] (seed_word ∷ count_word ∷ a ∷ b ∷ [])
+  pub seed_is : IsNumber 0 MOST_SEED seed_word seed
+  pub count_is : IsNumber 1 MOST_MADE count_word count
+
 -- the words are those of a command: its name, and what gives its options and arguments
 abbrev pub AreOf : List (List ℕ) → Command (List ℕ) → Type 0
 AreOf words (Validate a b axioms rounds budget mode) = (rest : List (List ℕ)) × (words ≡ codes "validate" ∷ rest) × GiveValidate rest a b axioms rounds budget mode
@@ -93,6 +102,7 @@ AreOf words (Check a b cert) = (rest : List (List ℕ)) × (words ≡ codes "che
 AreOf words (Compose a b c x y out) = (rest : List (List ℕ)) × (words ≡ codes "compose" ∷ rest) × Give (arguments_alone 6) rest [] [] (a ∷ b ∷ c ∷ x ∷ y ∷ out ∷ [])
 AreOf words (CheckChain a c chain) = (rest : List (List ℕ)) × (words ≡ codes "check-chain" ∷ rest) × GiveCheck rest (a ∷ c ∷ chain ∷ [])
 AreOf words (Refute a b tries steps) = (rest : List (List ℕ)) × (words ≡ codes "refute" ∷ rest) × GiveRefute rest a b tries steps
+AreOf words (Make seed count a b) = (rest : List (List ℕ)) × (words ≡ codes "make" ∷ rest) × GiveMake rest seed count a b
 
 -- the command that the words are, None where they are none
 abbrev pub IsCommand : List (List ℕ) → Option (Command (List ℕ)) → Type 0
@@ -106,22 +116,24 @@ fetches (Check a b cert) = (a, LONGEST_FILE) ∷ (b, LONGEST_FILE) ∷ (cert, LO
 fetches (Compose a b c x y out) = (a, LONGEST_FILE) ∷ (b, LONGEST_FILE) ∷ (c, LONGEST_FILE) ∷ (x, LONGEST_CERT) ∷ (y, LONGEST_CERT) ∷ []
 fetches (CheckChain a c chain) = (a, LONGEST_FILE) ∷ (c, LONGEST_FILE) ∷ (chain, LONGEST_CHAIN) ∷ []
 fetches (Refute a b tries steps) = (a, LONGEST_FILE) ∷ (b, LONGEST_FILE) ∷ []
+fetches (Make seed count a b) = []
 
 abbrev pub names_of : Command (List ℕ) → List (List ℕ)
 names_of c = map (λ f. f.0) (fetches c)
 
--- the name of the certificate
-abbrev pub cert_in : Mode (List ℕ) → Option (List ℕ)
-cert_in (Cert name) = Some name
-cert_in mode = None
+-- the name of the certificate, if any
+abbrev pub cert_in : Mode (List ℕ) → List (List ℕ)
+cert_in (Cert name) = name ∷ []
+cert_in mode = []
 
--- the name under which it places something
-abbrev pub placed_name : Command (List ℕ) → Option (List ℕ)
-placed_name (Validate a b axioms rounds budget mode) = cert_in mode
-placed_name (Check a b cert) = None
-placed_name (Compose a b c x y out) = Some out
-placed_name (CheckChain a c chain) = None
-placed_name (Refute a b tries steps) = None
+-- the names under which it places something, in its order
+abbrev pub placed_names : Command (List ℕ) → List (List ℕ)
+placed_names (Validate a b axioms rounds budget mode) = cert_in mode
+placed_names (Check a b cert) = []
+placed_names (Compose a b c x y out) = out ∷ []
+placed_names (CheckChain a c chain) = []
+placed_names (Refute a b tries steps) = []
+placed_names (Make seed count a b) = a ∷ b ∷ []
 
 -- the two class files of whose methods a command speaks
 abbrev pub first_of : Command (List ℕ) → List ℕ
@@ -130,6 +142,7 @@ first_of (Check a b cert) = a
 first_of (Compose a b c x y out) = a
 first_of (CheckChain a c chain) = a
 first_of (Refute a b tries steps) = a
+first_of (Make seed count a b) = a
 
 abbrev pub second_of : Command (List ℕ) → List ℕ
 second_of (Validate a b axioms rounds budget mode) = b
@@ -137,6 +150,11 @@ second_of (Check a b cert) = b
 second_of (Compose a b c x y out) = c
 second_of (CheckChain a c chain) = c
 second_of (Refute a b tries steps) = b
+second_of (Make seed count a b) = b
+
+-- the line on two classes that were made
+abbrev pub made_line : ℕ → List ℕ
+made_line count = line_text (in_words (codes "made" ∷ decimal count ∷ codes "methods" ∷ []))
 
 -- the line on words that aren't a command
 abbrev pub bad_words : List ℕ

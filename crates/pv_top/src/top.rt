@@ -9,12 +9,13 @@ ghost use Rattle.pv_words.specs.Answers.{texts};
 ghost use Rattle.pv_report.specs.Judging.{JudgesFetched};
 ghost use Rattle.pv_report.specs.Options.{in_least, options_of};
 ghost use Rattle.pv_links.specs.Reading.{ComposesFetched};
+ghost use Rattle.pv_maker.specs.declared.class.TheConstants.{MOST_MADE};
 ghost use Rattle.pv_report.specs.declared.verdict.Detail.TheVariants as Detail;
 ghost use Rattle.pv_top.specs.Words.{IsCommand, fetches, first_of, names_of, second_of};
-ghost use Rattle.pv_top.specs.Commands.{named};
+ghost use Rattle.pv_top.specs.Commands.{CanMake, named};
 ghost use Rattle.pv_top.specs.Run.{Answered, CallsFor, Leaves, Says};
 ghost use Rattle.pv_top.specs.Promise.{EachEquivalent};
-ghost use Rattle.pv_top.specs.Fetching.{AnswersFetched, Asks, AsksAll, AsksPlaced, ChangesAt, ComposesIn, HoldAll, HoldsFetched, HoldsWanted, LeavesPlaced, PlaceFailed, PlacesFetched, PlacesIn, ReadFailed, SaysAfter, ShowsIn, content_of, named_as, wanted_names};
+ghost use Rattle.pv_top.specs.Fetching.{AnswersFetched, Asks, AsksAll, ChangesAt, ComposesIn, Gives, HoldAll, HoldsFetched, HoldsWanted, PlaceFailed, PlacesEach, PlacesFetched, PlacesIn, ReadFailed, ShowsIn, IsMadeAnswer, MakesIn, contents_of, named_as, placed_of, wanted_names};
 ghost use Rattle.pv_top.specs.declared.words.Command as commands;
 
 use crate::words::{Command, Mode, order_of};
@@ -22,11 +23,13 @@ use pv_base::{FileFault, Files, Gate, Sink};
 use pv_class::LONGEST_FILE;
 use pv_differences::{RunLimits, refute_all};
 use pv_links::{Composition, LONGEST_CHAIN, check_chain, compose};
+use pv_maker::generate;
 use pv_pieces::Workers;
 use pv_report::{Answer, Detail, Fetched, Graphs, Limits, Status, judge};
 use pv_sections::{LONGEST_CERT, Shown, rule, show};
+use pv_token::push_decimal;
 use pv_value::Memory;
-use std::alloc::Global;
+use std::alloc::{AllocError, Global};
 use std::thread::Threads;
 
 /// The file with a name, of at most so many bytes.
@@ -36,10 +39,10 @@ pub(crate) struct Wanted<'a> {
     limit: usize,
 }
 
-/// What a command answers: what it places, under which name, and what it says after that.
+/// What a command answers: what it places, under which names, and what it says after that.
 #[derive(Drop)]
 pub(crate) struct Reply<'a> {
-    placed: Option<Placed<'a>>,
+    placed: Vec<Placed<'a>>,
     answer: Answer,
 }
 
@@ -60,7 +63,8 @@ pub(crate) struct Placed<'a> {
 /// the steps of the section show this of the two methods that it names. `compose A B C CERT1 CERT2 OUT` places under OUT the chain of a certificate
 /// for A and B and one for B and C, and `check-chain [--workers N] A C CHAIN` says, in a line for each section of the first that has one of the same method
 /// in the second, whether the two show this of the methods of A and C. `refute [--tries N] [--steps N] A B` says, in a line for each
-/// method of A, whether runs of it and its partner end with different outcomes. Pairs of methods, the places of axioms and the
+/// method of A, whether runs of it and its partner end with different outcomes. `make SEED COUNT A B` places under A the class of COUNT random methods
+/// that the draws from SEED give, and under B that of their twins. Pairs of methods, the places of axioms and the
 /// steps of a section are cut into as many pieces as there are workers, which run at once, and each piece passes the gate before each of
 /// its items. Neither the workers nor the gate change what is said.
 pub fn run<R: Threads + Sync, F: Files, K: Sink, G: Gate>(
@@ -99,6 +103,7 @@ fn execute<R: Threads + Sync, F: Files, K: Sink, G: Gate>(
     files: &mut F,
     out: &mut K,
 ) -> Status
+    requires { CanMake (named command) }
     ensures answered { Answered (F.held files.old) (Some (named command.entry)) (K.sent out.old) (K.sent out.new) (Rose (F.failures files.old) (F.failures files.new)) (Rose (K.failures out.old) (K.failures out.new)) result }
     ensures asked { CallsFor (F.held files.old) (Some (named command.entry)) (F.asked files.old) (F.asked files.new) (Rose (K.failures out.old) (K.failures out.new)) result }
     ensures held { Leaves (Some (named command.entry)) (F.held files.old) (F.held files.new) (Rose (F.failures files.old) (F.failures files.new)) (Rose (K.failures out.old) (K.failures out.new)) result }
@@ -120,9 +125,10 @@ fn reply_to<'a, R: Threads + Sync, G: Gate>(
     command: Command<&'a str>,
     fetched: &[Fetched],
 ) -> Result<Reply<'a>, Memory>
-    requires { length fetched.now ≡ length (fetches (named command)) }
+    requires count { CanMake (named command) }
+    requires fetched { length fetched.now ≡ length (fetches (named command)) }
     ensures answer { IfOk result (λ reply. AnswersFetched (named command.entry) fetched.now reply.answer.text.items reply.answer.status) }
-    ensures placed { IfOk result (λ reply. PlacesFetched (named command.entry) fetched.now reply.answer.status (content_of reply.placed)) }
+    ensures placed { IfOk result (λ reply. PlacesFetched (named command.entry) fetched.now reply.answer.status (contents_of reply.placed.items)) }
 {
     match command {
         Command::Validate {
@@ -158,7 +164,7 @@ fn reply_to<'a, R: Threads + Sync, G: Gate>(
                 unreachable!();
             };
             let answer = rule(workers, alloc, first, second, cert)?;
-            Ok(said(answer))
+            Ok(said(alloc, answer))
         }
         Command::Compose { out, .. } => {
             let [first, second, third, one, two] = fetched else {
@@ -171,7 +177,7 @@ fn reply_to<'a, R: Threads + Sync, G: Gate>(
                 unreachable!();
             };
             let answer = check_chain(workers, alloc, first, last, chain)?;
-            Ok(said(answer))
+            Ok(said(alloc, answer))
         }
         Command::Refute { tries, steps, .. } => {
             let [first, second] = fetched else {
@@ -179,18 +185,24 @@ fn reply_to<'a, R: Threads + Sync, G: Gate>(
             };
             let limits = RunLimits { tries, steps };
             let answer = refute_all(alloc, limits, first, second)?;
-            Ok(said(answer))
+            Ok(said(alloc, answer))
         }
+        Command::Make {
+            seed,
+            count,
+            first,
+            second,
+        } => make_in(alloc, seed, count, first, second),
     }
 }
 
 // A reply that places nothing.
-fn said<'a>(answer: Answer) -> Reply<'a>
+fn said<'a>(alloc: Global, answer: Answer) -> Reply<'a>
     ensures answer { result.answer ≡ answer }
-    ensures placed { result.placed ≡ None }
+    ensures placed { result.placed.items ≡ [] }
 {
     Reply {
-        placed: None,
+        placed: Vec::new(alloc),
         answer,
     }
 }
@@ -205,7 +217,7 @@ fn judge_in<'a, R: Threads + Sync, G: Gate>(
     second: &Fetched,
 ) -> Result<Reply<'a>, Memory>
     ensures answer { IfOk result (λ reply. JudgesFetched (options_of limits (Detail.Verdict graphs)) first.now second.now reply.answer.text.items reply.answer.status) }
-    ensures placed { IfOk result (λ reply. reply.placed ≡ None) }
+    ensures placed { IfOk result (λ reply. reply.placed.items ≡ []) }
 {
     let report = judge(
         workers,
@@ -215,7 +227,7 @@ fn judge_in<'a, R: Threads + Sync, G: Gate>(
         first,
         second,
     )?;
-    Ok(said(report.answer))
+    Ok(said(alloc, report.answer))
 }
 
 // What is said of two class files, with the certificate that shows it under a name.
@@ -228,14 +240,14 @@ fn show_in<'a, R: Threads + Sync, G: Gate>(
     second: &Fetched,
 ) -> Result<Reply<'a>, Memory>
     ensures answer { IfOk result (λ reply. JudgesFetched (in_least limits) first.now second.now reply.answer.text.items reply.answer.status) }
-    ensures placed { IfOk result (λ reply. ShowsIn limits name.entry.now first.now second.now reply.answer.status (content_of reply.placed)) }
+    ensures placed { IfOk result (λ reply. ShowsIn limits name.entry.now first.now second.now reply.answer.status (contents_of reply.placed.items)) }
 {
     let Shown {
         answer,
         certificate,
     } = show(workers, alloc, limits, first, second)?;
     Ok(Reply {
-        placed: placed_as(name, certificate),
+        placed: placed_as(alloc, name, certificate)?,
         answer,
     })
 }
@@ -251,43 +263,111 @@ fn compose_in<'a>(
     two: &Fetched,
 ) -> Result<Reply<'a>, Memory>
     ensures answer { IfOk result (λ reply. ComposesFetched first.now second.now third.now one.now two.now reply.answer.text.items reply.answer.status) }
-    ensures placed { IfOk result (λ reply. ComposesIn name.entry.now first.now second.now third.now one.now two.now reply.answer.status (content_of reply.placed)) }
+    ensures placed { IfOk result (λ reply. ComposesIn name.entry.now first.now second.now third.now one.now two.now reply.answer.status (contents_of reply.placed.items)) }
 {
     let Composition { answer, chain } = compose(alloc, first, second, third, one, two)?;
     Ok(Reply {
-        placed: placed_as(name, chain),
+        placed: placed_as(alloc, name, chain)?,
         answer,
     })
 }
 
 // A certificate or a chain, if any, under its name.
-fn placed_as<'a>(name: &'a str, certificate: Option<Vec<u8>>) -> Option<Placed<'a>>
-    ensures { content_of result ≡ named_as name.entry.now certificate }
+fn placed_as<'a>(
+    alloc: Global,
+    name: &'a str,
+    certificate: Option<Vec<u8>>,
+) -> Result<Vec<Placed<'a>>, AllocError>
+    ensures { IfOk result (λ placed. contents_of placed.items ≡ named_as name.entry.now certificate) }
 {
-    match certificate {
-        Some(bytes) => Some(Placed { name, bytes }),
-        None => None,
+    let mut placed = Vec::new(alloc);
+    if let Some(bytes) = certificate {
+        placed.push(Placed { name, bytes })?;
     }
+    Ok(placed)
+}
+
+// The class of random methods and that of their twins under two names, and what is said of them.
+fn make_in<'a>(
+    alloc: Global,
+    seed: u64,
+    count: u32,
+    first: &'a str,
+    second: &'a str,
+) -> Result<Reply<'a>, Memory>
+    requires { count ≤ MOST_MADE }
+    ensures answer { IfOk result (λ reply. IsMadeAnswer count reply.answer) }
+    ensures placed { IfOk result (λ reply. MakesIn seed count first.entry.now second.entry.now (contents_of reply.placed.items)) }
+{
+    let plain = generate(alloc, seed, count, false)?;
+    let twin = generate(alloc, seed, count, true)?;
+    let placed = both(
+        alloc,
+        Placed {
+            name: first,
+            bytes: plain,
+        },
+        Placed {
+            name: second,
+            bytes: twin,
+        },
+    )?;
+    let answer = made(alloc, count)?;
+    Ok(Reply { placed, answer })
+}
+
+// One after the other.
+fn both<'a>(
+    alloc: Global,
+    first: Placed<'a>,
+    second: Placed<'a>,
+) -> Result<Vec<Placed<'a>>, AllocError>
+    ensures { IfOk result (λ placed. contents_of placed.items ≡ placed_of first.entry ∷ placed_of second.entry ∷ []) }
+{
+    let mut placed = Vec::new(alloc);
+    placed.push(first)?;
+    placed.push(second)?;
+    Ok(placed)
+}
+
+// What is said where two classes were made. Out of memory is the one error.
+fn made(alloc: Global, count: u32) -> Result<Answer, AllocError>
+    ensures { IfOk result (λ answer. IsMadeAnswer count answer) }
+{
+    let mut text = Vec::from_slice(alloc, b"made ")?;
+    push_decimal(&mut text, count as usize)?;
+    text.extend_from_slice(b" methods\n")?;
+    Ok(Answer {
+        text,
+        status: Status::AllEquivalent,
+    })
 }
 
 // Places what a reply has to place, and says what it says.
 fn give<F: Files, K: Sink>(alloc: Global, reply: &Reply, files: &mut F, out: &mut K) -> Status
-    ensures said { SaysAfter (content_of reply.now.placed) (K.sent out.old) (K.sent out.new) reply.now.answer.text.items reply.now.answer.status result (Rose (F.failures files.old) (F.failures files.new)) (Rose (K.failures out.old) (K.failures out.new)) }
-    ensures held { LeavesPlaced (content_of reply.now.placed) (F.held files.old) (F.held files.new) result (Rose (F.failures files.old) (F.failures files.new)) }
-    ensures asked { AsksPlaced (content_of reply.now.placed) (F.asked files.old) (F.asked files.new) result }
+    ensures given { Gives (F.held files.old) (F.held files.new) (F.asked files.old) (F.asked files.new) (contents_of reply.now.placed.items) (K.sent out.old) (K.sent out.new) reply.now.answer.text.items reply.now.answer.status result (Rose (F.failures files.old) (F.failures files.new)) (Rose (K.failures out.old) (K.failures out.new)) }
     ensures later { F.failures files.old ≤ F.failures files.new }
 {
-    if let Some(placed) = &reply.placed {
-        if let Err(status) = place(alloc, placed, files) {
-            return status;
-        }
+    match place_all(alloc, &reply.placed, files) {
+        Ok(()) => say(out, &reply.answer.text, reply.answer.status),
+        Err(status) => status,
     }
-    say(out, &reply.answer.text, reply.answer.status)
+}
+
+// Places bytes under their names, one after the other.
+fn place_all<F: Files>(alloc: Global, all: &[Placed], files: &mut F) -> Result<(), Status>
+    ensures placed { PlacesEach (F.held files.old) (F.held files.new) (F.asked files.old) (F.asked files.new) (contents_of all.now) result (Rose (F.failures files.old) (F.failures files.new)) }
+    ensures later { F.failures files.old ≤ F.failures files.new }
+{
+    for placed in all {
+        place(alloc, placed, files)?;
+    }
+    Ok(())
 }
 
 // Places bytes under their name.
 fn place<F: Files>(alloc: Global, placed: &Placed, files: &mut F) -> Result<(), Status>
-    ensures ok { OnOk result (PlacesIn (F.held files.old) (F.held files.new) placed.now.name.now placed.now.bytes.items) }
+    ensures ok { OnOk result (PlacesIn (F.held files.old) (F.held files.new) (placed_of placed.now ∷ [])) }
     ensures err { OnErr result (ChangesAt (F.held files.old) (F.held files.new) placed.now.name.now) }
     ensures failure { IfErr result (λ status. PlaceFailed status (Rose (F.failures files.old) (F.failures files.new))) }
     ensures asked { Asks (F.asked files.old) (F.asked files.new) (Place placed.now.name.now) result }
@@ -379,6 +459,7 @@ fn fetch_files<F: Files>(
             ];
             fetch_all(alloc, &all, files)
         }
+        Command::Make { .. } => fetch_all(alloc, &[], files),
         Command::CheckChain { first, last, chain } => {
             let all = [
                 Wanted {

@@ -4,9 +4,10 @@ ghost use Rattle.std.specs.Prelude.{◌≡◌, IfOk, codes};
 ghost use Rattle.pv_top.specs.Commands.{IsRead, IsReadAs, ReadsArguments, ReadsChecked, ReadsLimit, ReadsMode, ReadsSet, ordered};
 
 use pv_list::Listed;
+use pv_maker::MOST_MADE;
 use pv_report::AxiomSet;
 use pv_value::Memory;
-use pv_words::{Shape, number_in, read_words};
+use pv_words::{Shape, number_in, read_words, u64_in};
 use std::alloc::Global;
 
 /// The rounds that a search may make, where the words don't say.
@@ -32,6 +33,9 @@ pub const DEFAULT_STEPS: u32 = 10_000;
 
 /// The most steps that the words may allow. The least is 1.
 pub const MOST_STEPS: u32 = 100_000;
+
+/// The greatest seed. The least is 0.
+pub const MOST_SEED: u64 = u64::MAX;
 
 /// The workers of a command that has some, where the words don't say.
 pub const DEFAULT_WORKERS: u32 = 4;
@@ -90,6 +94,13 @@ pub enum Command<N> {
         tries: u32,
         steps: u32,
     },
+    /// Make the class of `count` random methods that the draws from a seed give, and that of their twins, and place both.
+    Make {
+        seed: u64,
+        count: u32,
+        first: N,
+        second: N,
+    },
 }
 
 /// A command, and by how many workers it goes, which changes nothing that it answers.
@@ -137,6 +148,8 @@ pub(crate) fn order_of<'a>(alloc: Global, words: &'a [&'a str]) -> Result<Option
         check_chain_of(alloc, rest)
     } else if name == "refute" {
         Ok(alone(refute_of(alloc, rest)?))
+    } else if name == "make" {
+        Ok(alone(make_of(alloc, rest)?))
     } else {
         Ok(None)
     }
@@ -300,6 +313,30 @@ fn refute_of<'a>(alloc: Global, words: &'a [&'a str]) -> Result<Option<Command<&
         second: *second,
         tries,
         steps,
+    }))
+}
+
+// The command `make` with these words after its name.
+fn make_of<'a>(alloc: Global, words: &'a [&'a str]) -> Result<Option<Command<&'a str>>, Memory>
+    ensures { IfOk result (λ command. IsReadAs (codes "make") words.now command) }
+{
+    let Some(given) = arguments_of(alloc, words, 4)? else {
+        return Ok(None);
+    };
+    let [seed, count, first, second] = given.as_slice() else {
+        unreachable!();
+    };
+    let Some(seed) = u64_in(*seed) else {
+        return Ok(None);
+    };
+    let Some(count) = number_in(*count, 1, MOST_MADE) else {
+        return Ok(None);
+    };
+    Ok(Some(Command::Make {
+        seed,
+        count,
+        first: *first,
+        second: *second,
     }))
 }
 

@@ -1,7 +1,7 @@
 use Rattle.pv_base.specs.Outside.{Rose}
 use Rattle.pv_top.specs.Commands.{named}
-use Rattle.pv_top.specs.Fetching.{content_of}
-use Rattle.pv_top.proofs.Replying.{IsReply, fetches_asked, reply_answered, reply_asked, leaves_since, reply_left, says_since}
+use Rattle.pv_top.specs.Fetching.{contents_of}
+use Rattle.pv_top.proofs.Replying.{IsReply, fetches_asked, gives_since, reply_answered, reply_asked, reply_left}
 use Rattle.pv_top.proofs.top.execute.Goals as goal
 
 pub returns-in-Err-clause-asked : goal.returns-in-Err-clause-asked
@@ -13,7 +13,7 @@ returns-in-Ok-reply_to-clause-answered g c =
     let command = named c.args.command in
     let fetched = c.in-Ok.fetched.items in
     let reply = c.in-Ok-reply_to.reply in
-    let placed = content_of reply.placed in
+    let placed = contents_of reply.placed.items in
     let text = reply.answer.text.items in
     let old = g.K.Sink.sent c.args.out.now in
     let new = g.K.Sink.sent c.give.new.out in
@@ -26,8 +26,8 @@ returns-in-Ok-reply_to-clause-answered g c =
       answers = rw c.deref.ensures.value at c.in-Ok-reply_to.ensures.answer;
       places = rw c.deref.ensures.value at c.in-Ok-reply_to.ensures.placed;
     } in
-    let says = says_since placed old new text reply.answer.status c.give.result rose failures mid later c.in-Ok.ensures.later c.give.ensures.said in
-    reply_answered held command fetched text reply.answer.status c.give.result old new (Rose failures later) rose placed is says
+    let gives = gives_since held (g.F.Files.held c.give.new.files) (g.F.Files.asked c.fetch_files.new.files) (g.F.Files.asked c.give.new.files) placed old new text reply.answer.status c.give.result rose failures mid later c.in-Ok.ensures.later (rw c.in-Ok.ensures.held at c.give.ensures.given) in
+    reply_answered held command fetched text reply.answer.status c.give.result old new (Rose failures later) rose (g.F.Files.held c.give.new.files) (g.F.Files.asked c.fetch_files.new.files) (g.F.Files.asked c.give.new.files) placed is gives
 
 pub returns-in-Ok-reply_to-clause-asked : goal.returns-in-Ok-reply_to-clause-asked
 returns-in-Ok-reply_to-clause-asked g c =
@@ -35,7 +35,7 @@ returns-in-Ok-reply_to-clause-asked g c =
     let command = named c.args.command in
     let fetched = c.in-Ok.fetched.items in
     let reply = c.in-Ok-reply_to.reply in
-    let placed = content_of reply.placed in
+    let placed = contents_of reply.placed.items in
     let text = reply.answer.text.items in
     let old = g.K.Sink.sent c.args.out.now in
     let new = g.K.Sink.sent c.give.new.out in
@@ -48,8 +48,8 @@ returns-in-Ok-reply_to-clause-asked g c =
       answers = rw c.deref.ensures.value at c.in-Ok-reply_to.ensures.answer;
       places = rw c.deref.ensures.value at c.in-Ok-reply_to.ensures.placed;
     } in
-    let says = says_since placed old new text reply.answer.status c.give.result rose failures mid later c.in-Ok.ensures.later c.give.ensures.said in
-    reply_asked held command fetched placed text reply.answer.status c.give.result old new (Rose failures later) rose (g.F.Files.asked c.args.files.now) (g.F.Files.asked c.fetch_files.new.files) (g.F.Files.asked c.give.new.files) is says c.in-Ok.ensures.asked c.give.ensures.asked
+    let gives = gives_since held (g.F.Files.held c.give.new.files) (g.F.Files.asked c.fetch_files.new.files) (g.F.Files.asked c.give.new.files) placed old new text reply.answer.status c.give.result rose failures mid later c.in-Ok.ensures.later (rw c.in-Ok.ensures.held at c.give.ensures.given) in
+    reply_asked held (g.F.Files.held c.give.new.files) command fetched placed text reply.answer.status c.give.result old new (Rose failures later) rose (g.F.Files.asked c.args.files.now) (g.F.Files.asked c.fetch_files.new.files) (g.F.Files.asked c.give.new.files) is gives c.in-Ok.ensures.asked
 
 pub returns-in-Ok-reply_to-clause-held : goal.returns-in-Ok-reply_to-clause-held
 returns-in-Ok-reply_to-clause-held g c =
@@ -57,7 +57,7 @@ returns-in-Ok-reply_to-clause-held g c =
     let command = named c.args.command in
     let fetched = c.in-Ok.fetched.items in
     let reply = c.in-Ok-reply_to.reply in
-    let placed = content_of reply.placed in
+    let placed = contents_of reply.placed.items in
     let text = reply.answer.text.items in
     let old = g.K.Sink.sent c.args.out.now in
     let new = g.K.Sink.sent c.give.new.out in
@@ -70,6 +70,5 @@ returns-in-Ok-reply_to-clause-held g c =
       answers = rw c.deref.ensures.value at c.in-Ok-reply_to.ensures.answer;
       places = rw c.deref.ensures.value at c.in-Ok-reply_to.ensures.placed;
     } in
-    let says = says_since placed old new text reply.answer.status c.give.result rose failures mid later c.in-Ok.ensures.later c.give.ensures.said in
-    let left = leaves_since placed held (g.F.Files.held c.give.new.files) c.give.result failures mid later c.in-Ok.ensures.later (rw c.in-Ok.ensures.held at c.give.ensures.held) in
-    reply_left held (g.F.Files.held c.give.new.files) command fetched placed text reply.answer.status c.give.result old new (Rose failures later) rose is says left
+    let gives = gives_since held (g.F.Files.held c.give.new.files) (g.F.Files.asked c.fetch_files.new.files) (g.F.Files.asked c.give.new.files) placed old new text reply.answer.status c.give.result rose failures mid later c.in-Ok.ensures.later (rw c.in-Ok.ensures.held at c.give.ensures.given) in
+    reply_left held (g.F.Files.held c.give.new.files) (g.F.Files.asked c.fetch_files.new.files) (g.F.Files.asked c.give.new.files) command fetched placed text reply.answer.status c.give.result old new (Rose failures later) rose is gives

@@ -7,7 +7,8 @@ use Rattle.pv_top.specs.Words.{IsCommand, first_of, second_of}
 use Rattle.pv_top.specs.Run.{Answered, CallsFor, Leaves}
 use Rattle.pv_top.specs.Promise.{EachEquivalent}
 use Rattle.pv_top.proofs.Answering.{answered_equivalent}
-use Rattle.pv_top.proofs.Commands.{one_command}
+use Rattle.pv_top.proofs.Commands.{can_make, one_command}
+use Rattle.pv_top.proofs.Replying.{nothing_left}
 use Rattle.pv_top.proofs.Saying.{silent}
 use Rattle.pv_top.proofs.top.run.Goals as goal
 
@@ -52,3 +53,13 @@ returns-in-Ok-Some-clause-equivalent g c o is =
 
 pub returns-in-Err-clause-equivalent : goal.returns-in-Err-clause-equivalent
 returns-in-Err-clause-equivalent g c o is = silent (g.F.Files.held c.args.files.now) (first_of o) (second_of o) (g.K.Sink.sent c.args.out.now) (g.K.Sink.sent c.args.out.now) refl
+
+pub execute-requires : goal.execute-requires
+execute-requires g c =
+    let words = texts c.args.words.now in
+    let command = named c.in-Ok-Some.command in
+    let read : IsCommand words (Some command) = rw c.in-Ok-Some.field-0-is at c.in-Ok-Some.ensures in
+    can_make words command read
+
+pub returns-in-Err-clause-held : goal.returns-in-Err-clause-held
+returns-in-Err-clause-held g c o is = nothing_left o (g.F.Files.held c.args.files.now) _ _

@@ -3,7 +3,7 @@ use Rattle.std.specs.Prelude.{codes}
 use Rattle.pv_listing.specs.declared.line.Line.TheVariants as lines
 use Rattle.pv_maker.specs.Draws.{after}
 use Rattle.pv_maker.specs.Methods.{methods}
-use Rattle.pv_maker.proofs.methods.generate.Given as goal
+use Rattle.pv_maker.proofs.methods.listing.Given as goal
 
 abbrev pub invariant-loop-i : goal.invariant-loop-i
 invariant-loop-i l = record {

@@ -49,6 +49,7 @@ run '1 2 50' '1 40 50' tests/differences.py
 run "$jars" "$jars /usr/share/java/commons-io.jar /usr/share/java/commons-lang3.jar" tests/pairs.py --cert
 run '8 3 1' '11 12 3' tests/wide.py
 run '10000' '100000' tests/rounds.py
+run '200' '2000' tests/workers.py
 run '500' '10000' tests/twins.py
 run '2000' '100000' tests/chains.py
 run - - tests/memory.py

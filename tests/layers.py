@@ -14,7 +14,7 @@ import crates
 # The layers from the top, each with its crates from left to right.
 LAYERS = [
     ("programs", ["punthizha", "graphs"]),
-    ("commands", ["pv_top", "pv_words"]),
+    ("commands", ["pv_top", "pv_draw", "pv_words"]),
     ("reports", ["pv_links", "pv_sections", "pv_differences", "pv_report", "pv_drawings"]),
     ("certificates made", ["pv_certify", "pv_explain", "pv_writer", "pv_paths", "pv_trim"]),
     ("the search", ["pv_prove", "pv_grounds", "pv_rounds", "pv_saturate", "pv_closings"]),
@@ -28,7 +28,7 @@ LAYERS = [
     ("graphs", ["pv_counted", "pv_alike", "pv_denote", "pv_graph"]),
     ("listings", ["pv_asm", "pv_maker", "pv_listing"]),
     ("bytes", ["pv_insn", "pv_class", "pv_pool", "pv_token"]),
-    ("ground", ["pv_base", "pv_types", "pv_format", "pv_value", "pv_list"]),
+    ("ground", ["pv_base", "pv_pieces", "pv_types", "pv_format", "pv_value", "pv_list"]),
 ]
 WIDTH, HEIGHT, LEFT, ACROSS, DOWN = 104, 26, 140, 124, 62
 

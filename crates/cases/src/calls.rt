@@ -50,11 +50,11 @@ pub fn answer<R: Files + Threads + Sync>(rt: &R, bench: &Bench, line: &str) -> A
         "base" => bases::base(bench, rest),
         "chain" => leasts::chain(bench, rest),
         "classes" => node_classes::classes(bench, rest),
-        "matches" => joined::joined_matches(bench, rest),
+        "matches" => joined::joined_matches(rt, bench, rest),
         "cleared" => counting::cleared(bench, rest),
         "counted" => counting::counted(bench, rest),
-        "search" => searching::search(bench, rest),
-        "search-methods" => searching::search_methods(bench, rest),
+        "search" => searching::search(rt, bench, rest),
+        "search-methods" => searching::search_methods(rt, bench, rest),
 
         "axioms" => axioms::axioms(bench),
         "axiom" => axioms::equation(bench, rest),
@@ -75,6 +75,7 @@ pub fn answer<R: Files + Threads + Sync>(rt: &R, bench: &Bench, line: &str) -> A
         "trim" => sections::trim(bench, rest),
 
         "run" => runs::running(rt, bench, rest),
+        "meets" => runs::meeting(rt, bench, rest),
         "validate" => runs::validation(rt, bench, rest),
         "refute" => runs::refutation(rt, bench, rest),
         "one-line" => runs::one_line(rt, bench, rest),

@@ -3,6 +3,7 @@
 //! | Line | Answer |
 //! |---|---|
 //! | `run WORD ..; SETTING` | the status, what was sent, the calls that the store got, and whether it holds what it held |
+//! | `meets MEETINGS WORD ..; SETTING` | whether at a gate for this many meetings (`MeetGate`) no call looked for its partner in vain, how often the gate was passed, and what `run` answers |
 //! | `validate BYTES BYTES WORD ..` | the status and what was sent, where the words are `validate A B WORD ..` and these are the files A and B |
 //! | `refute BYTES BYTES WORD ..` | the same, where the words are `refute A B WORD ..` |
 //! | `one-line BYTES BYTES WORD ..` | whether by `validate A B WORD ..` the status is at most 2 and what was sent is one line |
@@ -16,7 +17,7 @@
 use crate::outside::{asked_text, read_files};
 use cases_words::answers::{Answer, NoAnswer, shown};
 use cases_words::bench::{Bench, number, words};
-use pv_base::{Files, MemFiles, MemSink, OpenGate};
+use pv_base::{Files, Gate, MeetGate, MemFiles, MemSink, OpenGate};
 use pv_top::{Status, run};
 use pv_value::Name;
 use std::alloc::Global;
@@ -28,6 +29,19 @@ const ROOM: usize = 100000;
 
 /// `run WORD ..; SETTING`
 pub fn running<R: Threads + Sync>(rt: &R, bench: &Bench, rest: &str) -> Answer {
+    run_at(rt, bench, &OpenGate, rest)
+}
+
+/// `meets MEETINGS WORD ..; SETTING`
+pub fn meeting<R: Threads + Sync>(rt: &R, bench: &Bench, rest: &str) -> Answer {
+    let (meetings, rest) = rest.split_once(' ').ok_or(NoAnswer::Unreadable)?;
+    let gate = MeetGate::new(number(meetings)?);
+    let text = run_at(rt, bench, &gate, rest)?;
+    Ok(format!(in bench.alloc(); "{} {} {text}", gate.met(), gate.calls())?)
+}
+
+// What a run answers whose pieces pass this gate.
+fn run_at<R: Threads + Sync, G: Gate>(rt: &R, bench: &Bench, gate: &G, rest: &str) -> Answer {
     let alloc = bench.alloc();
     let (command, setting) = rest.split_once(';').ok_or(NoAnswer::Unreadable)?;
     let command = command_words(alloc, command)?;
@@ -35,7 +49,7 @@ pub fn running<R: Threads + Sync>(rt: &R, bench: &Bench, rest: &str) -> Answer {
     let (room, setting) = read_room(&setting)?;
     let mut files = read_files(bench, setting)?;
     let mut out = MemSink::new(alloc, room)?;
-    let status = run(rt, alloc, &command, &mut files, &mut out, &OpenGate);
+    let status = run(rt, alloc, &command, &mut files, &mut out, gate);
     let sent = sent_text(&out)?;
     let asked = asked_text(alloc, files.asked())?;
     let held = if holds(bench, &mut files, setting)? {

@@ -13,16 +13,18 @@ use crate::showing::{matches_answer, read_member};
 use crate::tables::core_axioms;
 use cases_words::answers::{Answer, NoAnswer};
 use cases_words::bench::{Bench, number, words};
-use pv_base::OpenGate;
+use pv_base::{Gate, OpenGate};
 use pv_classes::{Classes, Reason};
 use pv_graph::{Graph, Kids};
 use pv_induct::induct;
 use pv_marks::node_marks;
 use pv_match::matches;
+use pv_pieces::Workers;
 use std::alloc::Global;
+use std::thread::Threads;
 
 /// `matches FIRST SECOND; STEP; .. | LIMIT PAIR ..`
-pub fn joined_matches(bench: &Bench, rest: &str) -> Answer {
+pub fn joined_matches<R: Threads + Sync>(rt: &R, bench: &Bench, rest: &str) -> Answer {
     let alloc = bench.alloc();
     let (making, asking) = rest.split_once('|').ok_or(NoAnswer::Unreadable)?;
     let (nodes, steps) = making.split_once(';').ok_or(NoAnswer::Unreadable)?;
@@ -31,11 +33,18 @@ pub fn joined_matches(bench: &Bench, rest: &str) -> Answer {
         return Err(NoAnswer::Unreadable);
     };
     let least = least_of_nodes(alloc, nodes, steps)?;
-    matches_over(alloc, least.graph(), number(limit)?, pairs)
+    let workers = Workers::new(rt, &OpenGate, 1);
+    matches_over(&workers, alloc, least.graph(), number(limit)?, pairs)
 }
 
 // The matches over a least graph with these pairs joined.
-fn matches_over(alloc: Global, graph: &Graph, limit: usize, pairs: &[&str]) -> Answer
+fn matches_over<R: Threads + Sync, G: Gate>(
+    workers: &Workers<R, G>,
+    alloc: Global,
+    graph: &Graph,
+    limit: usize,
+    pairs: &[&str],
+) -> Answer
     requires { IsLeastGraph graph.now }
 {
     let table = core_axioms(alloc)?;
@@ -44,7 +53,7 @@ fn matches_over(alloc: Global, graph: &Graph, limit: usize, pairs: &[&str]) -> A
     join_pairs(alloc, graph, &mut classes, pairs)?;
     let _counts = (graph.len(), classes.len());
     induct(alloc, graph, &mut classes)?;
-    let answer = matches(alloc, &OpenGate, graph, &classes, &marks, &table, limit)?;
+    let answer = matches(workers, alloc, graph, &classes, &marks, &table, limit)?;
     matches_answer(alloc, &answer)
 }
 

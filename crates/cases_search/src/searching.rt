@@ -12,7 +12,9 @@
 //! |---|---|
 //! | `matches LIMIT` | all matches, with commas between them, or `more` and one more than the limit |
 //! | `scalar LIMIT` | the same, by the axioms on numbers, choices and tokens alone |
-//! | `scalar-starts LIMIT` | at how many nodes matching by these looked: how often it passed the gate as piece 0 |
+//! | `matches LIMIT WORKERS`, `scalar LIMIT WORKERS` | the same, by this many pieces at once, of which there is one at least |
+//! | `scalar-meets LIMIT WORKERS MEETINGS` | what `scalar` answers, and before it whether at a gate for this many meetings (`MeetGate`) no call looked for its partner in vain, and how often the gate was passed |
+//! | `scalar-starts LIMIT` | at how many nodes matching by these looked: how often one worker passed the gate as piece 0 |
 //! | `look` | `over` and one more than the greatest number of matches; `saturated`, where no match joins more; or `open` and how many matches there are |
 //! | `round` | what `look` answers; after `open` it makes a round |
 //! | `joined FIRST SECOND` | whether two nodes are in one class |
@@ -40,36 +42,43 @@ use cases_graphs::graphs::{node_text, read_node};
 use cases_words::answers::{Answer, List, NoAnswer, shown};
 use cases_words::bench::{Bench, number, words};
 use pv_alike::Least;
-use pv_base::{Gate, OpenGate};
+use pv_base::{Gate, MeetGate, OpenGate};
 use pv_classes::Classes;
 use pv_endings::endings;
 use pv_graph::{Graph, NodeId};
 use pv_match::{Matches, matches};
 use pv_pattern::Axiom;
+use pv_pieces::Workers;
 use pv_rounds::{Looked, Search};
 use pv_scalar::scalar_axioms;
 use pv_value::Memory;
 use std::alloc::Global;
+use std::thread::Threads;
 
 /// `search FIRST SECOND; STEP; .. | BEGINNING; STEP; ..`
-pub fn search(bench: &Bench, rest: &str) -> Answer {
+pub fn search<R: Threads + Sync>(rt: &R, bench: &Bench, rest: &str) -> Answer {
     let alloc = bench.alloc();
     let (making, asking) = rest.split_once('|').ok_or(NoAnswer::Unreadable)?;
     let (nodes, steps) = making.split_once(';').ok_or(NoAnswer::Unreadable)?;
     let least = least_of_nodes(alloc, nodes, steps)?;
-    searched(alloc, &least, asking)
+    searched(&Workers::new(rt, &OpenGate, 1), alloc, &least, asking)
 }
 
 /// `search-methods BYTES PLACE BYTES PLACE | BEGINNING; STEP; ..`
-pub fn search_methods(bench: &Bench, rest: &str) -> Answer {
+pub fn search_methods<R: Threads + Sync>(rt: &R, bench: &Bench, rest: &str) -> Answer {
     let alloc = bench.alloc();
     let (methods, asking) = rest.split_once('|').ok_or(NoAnswer::Unreadable)?;
     let least = least_of_two(bench, &words(alloc, methods)?)?;
-    searched(alloc, &least, asking)
+    searched(&Workers::new(rt, &OpenGate, 1), alloc, &least, asking)
 }
 
 // What the steps of a search answer.
-fn searched(alloc: Global, least: &Least, asking: &str) -> Answer
+fn searched<R: Threads + Sync, G: Gate>(
+    workers: &Workers<R, G>,
+    alloc: Global,
+    least: &Least,
+    asking: &str,
+) -> Answer
     requires { IsLeastGraph least.now.graph }
 {
     let (beginning, steps) = asking.split_once(';').ok_or(NoAnswer::Unreadable)?;
@@ -78,7 +87,7 @@ fn searched(alloc: Global, least: &Least, asking: &str) -> Answer
     let mut list = List::new(alloc);
     for step in steps.split(';') {
         let words = words(alloc, step)?;
-        let answer = search_step(alloc, &mut search, &words)?;
+        let answer = search_step(workers, alloc, &mut search, &words)?;
         list.add(answer.as_str())?;
     }
     list.into_text()
@@ -104,25 +113,54 @@ fn begin<'a>(
     Ok(search)
 }
 
-fn search_step(alloc: Global, search: &mut Search, words: &[&str]) -> Answer
+fn search_step<R: Threads + Sync, G: Gate>(
+    workers: &Workers<R, G>,
+    alloc: Global,
+    search: &mut Search,
+    words: &[&str],
+) -> Answer
     requires { IsBegun search.old }
     ensures { IfOk result (λ text. IsBegun search.new) }
 {
     match *words {
-        ["round"] => round(alloc, search),
-        _ => asked(alloc, search, words),
+        ["round"] => round(workers, alloc, search),
+        _ => asked(workers, alloc, search, words),
     }
 }
 
 // What a step asks of a search.
-fn asked(alloc: Global, search: &Search, words: &[&str]) -> Answer
+fn asked<R: Threads + Sync, G: Gate>(
+    workers: &Workers<R, G>,
+    alloc: Global,
+    search: &Search,
+    words: &[&str],
+) -> Answer
     requires { IsBegun search.now }
 {
     match *words {
-        ["look"] => looked_text(alloc, &search.look(alloc, &OpenGate)?),
-        ["matches", limit] => all_matches(alloc, search, limit),
-        ["scalar", limit] => scalar_matches(alloc, search, limit),
-        ["scalar-starts", limit] => scalar_starts(alloc, search, limit),
+        ["look"] => looked_text(alloc, &search.look(workers, alloc)?),
+        ["matches", limit] => all_matches(workers, alloc, search, limit),
+        ["matches", limit, count] => all_matches(
+            &workers_in(workers, count)?,
+            alloc,
+            search,
+            limit,
+        ),
+        ["scalar", limit] => scalar_matches(workers, alloc, search, limit),
+        ["scalar", limit, count] => scalar_matches(
+            &workers_in(workers, count)?,
+            alloc,
+            search,
+            limit,
+        ),
+        ["scalar-meets", limit, count, meetings] => scalar_meets(
+            &workers_in(workers, count)?,
+            alloc,
+            search,
+            limit,
+            meetings,
+        ),
+        ["scalar-starts", limit] => scalar_starts(&workers.alone(), alloc, search, limit),
         ["endings"] => nodes_text(alloc, &search.endings),
         ["numbers"] => nodes_text(alloc, &search.classes.numbers(alloc)?),
         ["joined", first, second] => joined_text(alloc, &search.classes, first, second),
@@ -141,11 +179,15 @@ fn graph_text(alloc: Global, graph: &Graph, words: &[&str]) -> Answer {
 }
 
 // Looks, and makes a round where some match joins more.
-fn round(alloc: Global, search: &mut Search) -> Answer
+fn round<R: Threads + Sync, G: Gate>(
+    workers: &Workers<R, G>,
+    alloc: Global,
+    search: &mut Search,
+) -> Answer
     requires { IsBegun search.old }
     ensures { IfOk result (λ text. IsBegun search.new) }
 {
-    let looked = search.look(alloc, &OpenGate)?;
+    let looked = search.look(workers, alloc)?;
     go_on(alloc, search, &looked)?;
     looked_text(alloc, &looked)
 }
@@ -161,47 +203,91 @@ fn go_on(alloc: Global, search: &mut Search, looked: &Looked) -> Result<(), Memo
     }
 }
 
+// As many workers as a word says, of which there is one at least.
+fn workers_in<'a, R, G>(
+    workers: &Workers<'a, R, G>,
+    word: &str,
+) -> Result<Workers<'a, R, G>, NoAnswer> {
+    let count = number(word)?;
+    if count == 0 {
+        return Err(NoAnswer::Unreadable);
+    }
+    Ok(Workers::new(workers.rt, workers.gate, count))
+}
+
 // All matches by the axioms of the search.
-fn all_matches(alloc: Global, search: &Search, limit: &str) -> Answer
+fn all_matches<R: Threads + Sync, G: Gate>(
+    workers: &Workers<R, G>,
+    alloc: Global,
+    search: &Search,
+    limit: &str,
+) -> Answer
     requires { IsBegun search.now }
 {
-    let answer = matches_by(alloc, &OpenGate, search, search.table, limit)?;
+    let answer = matches_by(workers, alloc, search, search.table, limit)?;
     matches_answer(alloc, &answer)
 }
 
 // All matches by the axioms on numbers, choices and tokens.
-fn scalar_matches(alloc: Global, search: &Search, limit: &str) -> Answer
+fn scalar_matches<R: Threads + Sync, G: Gate>(
+    workers: &Workers<R, G>,
+    alloc: Global,
+    search: &Search,
+    limit: &str,
+) -> Answer
     requires { IsBegun search.now }
 {
-    let answer = matches_by_scalar(alloc, &OpenGate, search, limit)?;
+    let answer = matches_by_scalar(workers, alloc, search, limit)?;
     matches_answer(alloc, &answer)
 }
 
-// How often matching by these axioms passes the gate.
-fn scalar_starts(alloc: Global, search: &Search, limit: &str) -> Answer
+// The same, by a gate for some meetings: whether each found its partner, how often the gate was passed, and the matches.
+fn scalar_meets<R: Threads + Sync, G: Gate>(
+    workers: &Workers<R, G>,
+    alloc: Global,
+    search: &Search,
+    limit: &str,
+    meetings: &str,
+) -> Answer
+    requires { IsBegun search.now }
+{
+    let gate = MeetGate::new(number(meetings)?);
+    let meeting = Workers::new(workers.rt, &gate, workers.count());
+    let text = scalar_matches(&meeting, alloc, search, limit)?;
+    Ok(format!(in alloc; "{} {} {text}", gate.met(), gate.calls())?)
+}
+
+// How often matching by these axioms passes the gate as piece 0.
+fn scalar_starts<R: Threads + Sync, G: Gate>(
+    workers: &Workers<R, G>,
+    alloc: Global,
+    search: &Search,
+    limit: &str,
+) -> Answer
     requires { IsBegun search.now }
 {
     let gate = CountingGate::new();
-    let _answer = matches_by_scalar(alloc, &gate, search, limit)?;
+    let counting = Workers::new(workers.rt, &gate, workers.count());
+    let _answer = matches_by_scalar(&counting, alloc, search, limit)?;
     shown(alloc, gate.count())
 }
 
-fn matches_by_scalar<G: Gate>(
+fn matches_by_scalar<R: Threads + Sync, G: Gate>(
+    workers: &Workers<R, G>,
     alloc: Global,
-    gate: &G,
     search: &Search,
     limit: &str,
 ) -> Result<Matches, NoAnswer>
     requires { IsBegun search.now }
 {
     let table = scalar_axioms(alloc)?;
-    matches_by(alloc, gate, search, &table, limit)
+    matches_by(workers, alloc, search, &table, limit)
 }
 
 // All matches by a table, or that there are more than a limit.
-fn matches_by<G: Gate>(
+fn matches_by<R: Threads + Sync, G: Gate>(
+    workers: &Workers<R, G>,
     alloc: Global,
-    gate: &G,
     search: &Search,
     table: &[Axiom],
     limit: &str,
@@ -213,8 +299,8 @@ fn matches_by<G: Gate>(
     let limit = number(limit)?;
     let _count = search.graph.len();
     let answer = matches(
+        workers,
         alloc,
-        gate,
         &search.graph,
         &search.classes,
         &search.marks,

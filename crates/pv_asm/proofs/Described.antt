@@ -21,13 +21,13 @@ use Rattle.pv_listing.specs.Lines.{line_text}
 use Rattle.pv_asm.specs.declared.draft.Draft.{Draft}
 use Rattle.pv_asm.specs.declared.draft.Method.{Method}
 use Rattle.pv_asm.specs.declared.draft.Place.TheVariants.{Start, Between}
-use Rattle.pv_asm.specs.Classes.{code_of, attribute_of, member_of, items_of, last_line, lines_of, text_lines, draft_of, bytes_of, class_of_text}
-use Rattle.pv_asm.specs.Laws.{titles_of, IsStated, ListingIsClass, EntriesOnce}
+use Rattle.pv_asm.specs.Classes.{code_of, attribute_of, member_of, items_of, last_line, lines_of, text_lines, bytes_of}
+use Rattle.pv_asm.specs.Laws.{titles_of, IsStated, AreFit, LinesAreClass, ListingIsClass, EntriesOnce}
 use Rattle.pv_asm.specs.Listings.{read_lines}
 use Rattle.pv_asm.specs.Needs.{after, pool_text}
 use Rattle.pv_asm.proofs.Apart.{AreApart}
 use Rattle.pv_asm.proofs.Entered.{ok_is, IsGood, count_is, index_small}
-use Rattle.pv_asm.proofs.Made.{IsHead, IsMade, IsDraft, Stage, AreFit, all_read}
+use Rattle.pv_asm.proofs.Made.{IsHead, IsMade, IsDraft, Stage, all_read}
 
 -- ---- a method as a class file has it
 
@@ -216,20 +216,23 @@ are_fit (line ∷ next ∷ parts) = line_fit line (line_text.reads line) (lines_
 pub lines_fit : (text : List ℕ) → AreFit (text_lines text)
 lines_fit text = are_fit (slice_split is_feed text)
 
-pub draft_stage : (text : List ℕ) (d : Draft) → draft_of text ≡ Ok d → Stage (Between d) (titles_of (text_lines text))
-draft_stage text d h = all_read 1 Start (text_lines text) [] d refl (lines_fit text) h
+draft_stage : (all : List (Option Line)) (d : Draft) → AreFit all → read_lines 1 Start all ≡ Ok d → Stage (Between d) (titles_of all)
+draft_stage all d fit h = all_read 1 Start all [] d refl fit h
 
 class_found : (r : Result Draft ℕ) (bytes : List ℕ) → bytes_of r ≡ Ok bytes → (d : Draft) × (r ≡ Ok d) × (bytes ≡ file_text (items_of d))
 class_found (Ok d) bytes is = (d, refl, sym (ok_is (file_text (items_of d)) bytes is))
 class_found (Err n) bytes is = absurd (cc)
 
-pub listing_is_class : ListingIsClass
-listing_is_class text bytes is small =
-    let found = class_found (draft_of text) bytes is in
-    let stage = draft_stage text found.0 found.1 in
-    let titles : List Title = titles_of (text_lines text) in
+pub lines_are_class : LinesAreClass
+lines_are_class all bytes fit is small =
+    let found = class_found (read_lines 1 Start all) bytes is in
+    let stage = draft_stage all found.0 fit found.1 in
+    let titles : List Title = titles_of all in
     let file : ClassFile = record { pool = stage.0; methods = files_of titles found.0.methods } in
     (file, record { items = items_of found.0; spelled = found.2; small = small; describes = described found.0 stage.0 titles stage.1 }, are_stated stage.0 titles found.0.methods stage.1.methods)
 
+pub listing_is_class : ListingIsClass
+listing_is_class text bytes is small = lines_are_class (text_lines text) bytes (lines_fit text) is small
+
 pub entries_once : EntriesOnce
-entries_once text d is i j entry at other = let stage = draft_stage text d is in stage.1.good.once.same i j entry at other
+entries_once text d is i j entry at other = let stage = draft_stage (text_lines text) d (lines_fit text) is in stage.1.good.once.same i j entry at other

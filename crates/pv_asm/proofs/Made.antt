@@ -33,7 +33,7 @@ use Rattle.pv_asm.specs.declared.draft.Place.TheVariants.{Start, Between, Inside
 use Rattle.pv_asm.specs.declared.seen.Signature.{Signature}
 use Rattle.pv_asm.specs.Codes.{insn_bytes}
 use Rattle.pv_asm.specs.Labels.{labels_from}
-use Rattle.pv_asm.specs.Laws.{titles_of}
+use Rattle.pv_asm.specs.Laws.{titles_of, AreFit}
 use Rattle.pv_asm.specs.Listings.{begin, alike, put_signature, need_head, open_method, put_label, at_label, need_of, at_insn, at_end, next, ended, go_on, read_lines}
 use Rattle.pv_asm.specs.Needs.{Pool, Needed, needed, need, need_text, need_class}
 use Rattle.pv_asm.proofs.Apart.{AreApart, signature, none_apart, more_apart}
@@ -322,12 +322,6 @@ stage_next (Inside d m) lines.End after titles later is fits h =
     let moved : Stage later titles = subst (λ (p : Place). Stage p titles) (some_is (Between b.0) later b.2) (at_end_kept d m titles b.0 is b.1) in
     subst (λ (ts : List Title). Stage later ts) (sym (append-nil titles)) moved
 stage_next place line after titles later is fits h = absurd (cc)
-
--- the lines that have a reading have a spelling
-abbrev pub AreFit : List (Option Line) → Type 0
-AreFit [] = Unit {0}
-AreFit (None ∷ lines) = AreFit lines
-AreFit (Some line ∷ lines) = LineFits line × AreFit lines
 
 titles_cons : (line : Line) (after : List (Option Line)) → titles_of (Some line ∷ after) ≡ title_of line ++ titles_of after
 titles_cons (lines.Method t) after = refl

@@ -33,7 +33,7 @@ use Rattle.pv_asm.specs.Listings.{begin, put_signature, need_head, open_method, 
 use Rattle.pv_asm.specs.Needs.{Pool, Needed}
 use Rattle.pv_asm.proofs.Described.{lines_fit}
 use Rattle.pv_asm.proofs.Entered.{some_is, bound}
-use Rattle.pv_asm.proofs.Made.{AreFit}
+use Rattle.pv_asm.specs.Laws.{AreFit}
 
 -- ---- how many bytes there are
 

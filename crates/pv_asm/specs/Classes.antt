@@ -38,6 +38,16 @@ items_of d = record {
   attributes = [];
 }
 
+-- ---- the class of lines
+
+abbrev pub bytes_of : Result Draft ℕ → Result (List ℕ) ℕ
+bytes_of (Ok d) = Ok (file_text (items_of d))
+bytes_of (Err n) = Err n
+
+-- the bytes of the class, or the number of the first line that has no reading; so has None
+abbrev pub class_of_lines : List (Option Line) → Result (List ℕ) ℕ
+class_of_lines lines = bytes_of (read_lines 1 Start lines)
+
 -- ---- the class of a listing
 
 -- what stands after the last line feed, if anything, has no reading
@@ -57,10 +67,6 @@ text_lines text = lines_of (slice_split is_feed text)
 abbrev pub draft_of : List ℕ → Result Draft ℕ
 draft_of text = read_lines 1 Start (text_lines text)
 
-abbrev pub bytes_of : Result Draft ℕ → Result (List ℕ) ℕ
-bytes_of (Ok d) = Ok (file_text (items_of d))
-bytes_of (Err n) = Err n
-
--- the bytes of the class, or the number of the first line without a reading
+-- the bytes of the class, or the number of the first line that has no reading
 abbrev pub class_of_text : List ℕ → Result (List ℕ) ℕ
-class_of_text text = bytes_of (draft_of text)
+class_of_text text = class_of_lines (text_lines text)

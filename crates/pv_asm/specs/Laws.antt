@@ -10,13 +10,14 @@ use Rattle.pv_pool.specs.Readers.{◌>>=◌}
 use Rattle.pv_listing.specs.declared.line.Line.{Line}
 use Rattle.pv_listing.specs.declared.line.Line.TheVariants as lines
 use Rattle.pv_listing.specs.declared.line.Title.{Title}
+use Rattle.pv_listing.specs.Lines.{LineFits}
 use Rattle.pv_asm.specs.declared.draft.Draft.{Draft}
 use Rattle.pv_asm.specs.declared.draft.Open.{Open}
 use Rattle.pv_asm.specs.declared.draft.Place.{Place}
 use Rattle.pv_asm.specs.declared.draft.Place.TheVariants.{Start, Inside}
 use Rattle.pv_asm.specs.Labels.{address_of}
 use Rattle.pv_asm.specs.Listings.{at_label, next}
-use Rattle.pv_asm.specs.Classes.{text_lines, draft_of, class_of_text}
+use Rattle.pv_asm.specs.Classes.{text_lines, draft_of, class_of_lines, class_of_text}
 
 -- ---- each class of a listing can be read again
 
@@ -37,6 +38,18 @@ pub record IsStated (t : Title) (m : Method) : Type 0 where
   pub name : m.name ≡ t.name
   pub desc : m.desc ≡ t.desc
   pub code : HasCode t m.code
+
+-- each line that has a reading has a spelling
+abbrev pub AreFit : List (Option Line) → Type 0
+AreFit [] = Unit {0}
+AreFit (None ∷ after) = AreFit after
+AreFit (Some line ∷ after) = LineFits line × AreFit after
+
+-- a class of lines, if it isn't too long, is a class file with the methods that the lines have, in order
+abbrev pub LinesAreClass : Type 0
+LinesAreClass =
+    (all : List (Option Line)) (bytes : List ℕ) → AreFit all → class_of_lines all ≡ Ok bytes → length bytes ≤ LONGEST_FILE
+    → (file : ClassFile) × IsClass bytes file × AllZip IsStated (titles_of all) file.methods
 
 -- a class of a listing, if it isn't too long, is a class file with the methods that the listing has, in order
 abbrev pub ListingIsClass : Type 0

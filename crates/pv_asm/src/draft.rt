@@ -1,6 +1,9 @@
 //! A class as far as its listing was read, and what each line adds to it.
 
-ghost use Rattle.std.specs.Prelude.{◌≡◌, []};
+ghost use Rattle.std.specs.Prelude.{◌≡◌, ◌++◌, [], length, IfOk, List, Option};
+ghost use Rattle.pv_listing.specs.declared.line.Line.{Line};
+ghost use Rattle.pv_asm.specs.declared.draft.Place.TheVariants.{Inside};
+ghost use Rattle.pv_asm.specs.Codes.{insn_bytes};
 ghost use Rattle.pv_asm.specs.Needs.{needed};
 ghost use Rattle.pv_asm.specs.Listings.{begin, need_head, open_method, at_label, need_of, at_insn, at_end, next};
 ghost use Rattle.pv_asm.specs.Stopping.{Yields};
@@ -13,7 +16,7 @@ use crate::stop::Stop;
 use pv_list::Listed;
 use pv_listing::{Line, Operands, Title};
 use pv_value::Name;
-use std::alloc::Global;
+use std::alloc::{AllocError, Global};
 
 /// The most bytes of a code (JVMS 4.7.3).
 const LONGEST_CODE: usize = 65535;
@@ -142,6 +145,45 @@ fn need_of(alloc: Global, pool: &mut Pool, op: u8, operands: &Operands) -> Resul
     }
 }
 
+// The method with more code.
+fn with_code(method: Open, bytes: &[u8]) -> Result<Open, AllocError>
+    ensures { IfOk result (λ m. m ≡ record method { code = method.code ++ bytes.now }) }
+{
+    let Open {
+        head,
+        labels,
+        seen,
+        code,
+    } = method;
+    let mut code = code.into_vec();
+    code.extend_from_slice(bytes)?;
+    Ok(Open {
+        head,
+        labels,
+        seen,
+        code: Listed::from(code),
+    })
+}
+
+// The bytes of an instruction after those of a method, by the index of its entry.
+fn bytes_at(
+    alloc: Global,
+    method: &Open,
+    index: u16,
+    op: u8,
+    operands: &Operands,
+) -> Result<Vec<u8>, Stop>
+    ensures { Yields (λ v. v.items) result (insn_bytes method.now.labels (length method.now.code) index op operands.now) }
+{
+    let site = Site {
+        labels: &method.labels,
+        at: method.code.as_slice().len(),
+        index,
+        op,
+    };
+    insn_bytes(alloc, &site, operands)
+}
+
 // An instruction.
 fn at_insn(
     alloc: Global,
@@ -153,28 +195,8 @@ fn at_insn(
     ensures { Yields (λ p. p) result (at_insn draft method op operands.now) }
 {
     let index = need_of(alloc, &mut draft.pool, op, operands)?;
-    let Open {
-        head,
-        labels,
-        seen,
-        code,
-    } = method;
-    let mut code = code.into_vec();
-    let site = Site {
-        labels: &labels,
-        at: code.len(),
-        index,
-        op,
-    };
-    let bytes = insn_bytes(alloc, &site, operands)?;
-    code.extend_from_slice(&bytes)?;
-    let method = Open {
-        head,
-        labels,
-        seen,
-        code: Listed::from(code),
-    };
-    Ok(Place::Inside(draft, method))
+    let bytes = bytes_at(alloc, &method, index, op, operands)?;
+    Ok(Place::Inside(draft, with_code(method, &bytes)?))
 }
 
 // The end of a method.
@@ -204,6 +226,19 @@ fn at_end(draft: Draft, method: Open) -> Result<Draft, Stop>
     })
 }
 
+// What a line in a method adds.
+fn next_inside(alloc: Global, draft: Draft, method: Open, line: &Line) -> Result<Place, Stop>
+    ensures { (after : List (Option Line)) → Yields (λ p. p) result (next (Inside draft method) line.now after) }
+{
+    match line {
+        Line::Label(label) => Ok(Place::Inside(draft, at_label(method, label)?)),
+        Line::Instruction(op, operands) => at_insn(alloc, draft, method, *op, operands),
+        Line::End => Ok(Place::Between(at_end(draft, method)?)),
+        Line::Class(_) => Err(Stop::NoReading),
+        Line::Method(_) => Err(Stop::NoReading),
+    }
+}
+
 /// What a line adds, after which these lines stand.
 pub(crate) fn next(
     alloc: Global,
@@ -213,27 +248,10 @@ pub(crate) fn next(
 ) -> Result<Place, Stop>
     ensures { Yields (λ p. p) result (next place line.now after.now) }
 {
-    match place {
-        Place::Start => match line {
-            Line::Class(name) => Ok(Place::Between(begin(alloc, name)?)),
-            Line::Method(_) => Err(Stop::NoReading),
-            Line::Label(_) => Err(Stop::NoReading),
-            Line::Instruction(_, _) => Err(Stop::NoReading),
-            Line::End => Err(Stop::NoReading),
-        },
-        Place::Between(draft) => match line {
-            Line::Method(title) => open_method(alloc, draft, title, after),
-            Line::Class(_) => Err(Stop::NoReading),
-            Line::Label(_) => Err(Stop::NoReading),
-            Line::Instruction(_, _) => Err(Stop::NoReading),
-            Line::End => Err(Stop::NoReading),
-        },
-        Place::Inside(draft, method) => match line {
-            Line::Label(label) => Ok(Place::Inside(draft, at_label(method, label)?)),
-            Line::Instruction(op, operands) => at_insn(alloc, draft, method, *op, operands),
-            Line::End => Ok(Place::Between(at_end(draft, method)?)),
-            Line::Class(_) => Err(Stop::NoReading),
-            Line::Method(_) => Err(Stop::NoReading),
-        },
+    match (place, line) {
+        (Place::Start, Line::Class(name)) => Ok(Place::Between(begin(alloc, name)?)),
+        (Place::Between(draft), Line::Method(title)) => open_method(alloc, draft, title, after),
+        (Place::Inside(draft, method), line) => next_inside(alloc, draft, method, line),
+        _ => Err(Stop::NoReading),
     }
 }

@@ -8,7 +8,8 @@
 //! - which line may stand where and what it adds to the class so far (`Listings`);
 //! - the bytes of the class, or the number of the first line that has no reading (`Classes`).
 //!
-//! `assemble` gives exactly that (`class_of_text`), unless memory runs out. It takes a listing line by line: `next` of `draft` is a line's part
+//! `assemble` gives exactly that (`class_of_text`), and `assemble_lines` the same of lines that were read already (`class_of_lines`),
+//! unless memory runs out. A listing is taken a line by line: `next` of `draft` is a line's part
 //! in the class so far, and it meets the definition of the same name. An entry of the pool is looked up by its bytes, and a label by its
 //! name, so the work grows with the length of the text. What no `usize` or int counts, as the address after 2^63 bytes, is answered as
 //! out of memory.
@@ -18,6 +19,7 @@ mod assembler;
 mod class;
 mod code;
 mod draft;
+mod fault;
 mod labels;
 mod laws;
 mod opcode;
@@ -25,5 +27,6 @@ mod pool;
 mod seen;
 mod stop;
 
-pub use assembler::assemble;
-pub use laws::{law_class, law_labels, law_once};
+pub use assembler::{assemble, assemble_lines};
+pub use fault::AsmFault;
+pub use laws::{law_class, law_labels, law_lines, law_once};

@@ -1,19 +1,20 @@
--- From the first steps of a section to one more.
-use Rattle.std.specs.Prelude.{◌≡◌, ◌↔◌, ℕ, suc, ◌<◌, Bool, false, List, [], ◌∷◌, ◌++◌, length, reverse, take, refl}
+-- From the first steps of a section to one more, and what is known after the last of a piece.
+use Rattle.std.specs.Prelude.{◌≡◌, ◌↔◌, ℕ, suc, ◌<◌, Bool, false, List, [], ◌∷◌, ◌++◌, length, reverse, take, refl, Option, None, Some}
 use Rattle.std.proofs.Math.ListN.{get_or}
 use Rattle.std.proofs.Common.{inl, inr, sym, ap, ◌∙◌, subst, arith, take-suc, take_all}
 use Rattle.std.proofs.lemmas.Option.{slice_get-get_or}
 use Rattle.pv_graph.specs.Graphs.{Graph}
 use Rattle.pv_graph.specs.Calls.{IsSame}
+use Rattle.pv_alike.specs.Least.{Rooted}
 use Rattle.pv_steps.specs.declared.step.Step.TheVariants as steps
 use Rattle.pv_steps.specs.declared.step.Step.{Step}
 use Rattle.pv_steps.specs.Right.{AddsNode, Grows, GraphAfter, Right, RightOver}
-use Rattle.pv_steps.specs.Accepted.{AllRight, IsConcluded, Derives, Rejects, first_steps}
-use Rattle.pv_steps.proofs.Cited.{after_same}
+use Rattle.pv_steps.specs.Accepted.{AllRight, IsConcluded, first_steps}
+use Rattle.pv_steps.proofs.Cited.{after_same, graph_there}
 use Rattle.pv_axioms.specs.Entries.{Instance}
 use Rattle.pv_check.specs.Growth.{GrowsTo}
 use Rattle.pv_check.specs.Kept.{AreKept}
-use Rattle.pv_check.specs.Checking.{IsReplayed, IsSoFar}
+use Rattle.pv_check.specs.Checking.{IsPiece, IsReplayed, IsSoFar}
 use Rattle.pv_check.proofs.Carried.{prepared_as, adds_same, right_same}
 use Rattle.pv_check.proofs.Fronts.{next_first}
 
@@ -76,38 +77,44 @@ is_right g graph section n innermost opened h s = (
   λ r. over_graph h.now graph h.same (first_steps n section) s (subst (λ (x : Graph). RightOver Instance x (first_steps n section) s) (after_same g (first_steps n section) r.0 h.now r.1 h.after) r.2),
 )
 
-pub goes_on : (g graph new : Graph) (section : List Step) (n : ℕ) (innermost innermost' : List ℕ) (opened opened' : List Bool) → IsSoFar g section n innermost opened graph → n < length section → (d : Step)
-    → RightOver Instance graph (first_steps n section) (get_or section n d) → GrowsTo (get_or section n d) graph new → AreKept (take n section ++ get_or section n d ∷ []) innermost' opened' → IsSoFar g section (suc n) innermost' opened' new
-goes_on g graph new section n innermost innermost' opened opened' h low d right grows kept =
+pub goes_on : (g graph new : Graph) (section : List Step) (a n : ℕ) (innermost innermost' : List ℕ) (opened opened' : List Bool) → IsSoFar g section a n innermost opened graph → n < length section → (d : Step)
+    → RightOver Instance graph (first_steps n section) (get_or section n d) → GrowsTo (get_or section n d) graph new → AreKept (take n section ++ get_or section n d ∷ []) innermost' opened' → IsSoFar g section a (suc n) innermost' opened' new
+goes_on g graph new section a n innermost innermost' opened opened' h low d right grows kept =
     let s : Step = get_or section n d in
     let first : first_steps (suc n) section ≡ s ∷ first_steps n section = next_first section n s (slice_get-get_or section n d low) in
     record {
       replayed = replays g graph new section n innermost innermost' opened opened' h.replayed low d grows kept;
-      right = subst (λ (q : List Step). AllRight Instance g q) (sym first) ((is_right g graph section n innermost opened h.replayed s).0 right, h.right);
+      right = λ front. subst (λ (q : List Step). AllRight Instance g q) (sym first) ((is_right g graph section n innermost opened h.replayed s).0 right, h.right front);
     }
 
-pub is_wrong : (g graph : Graph) (section : List Step) (n : ℕ) (innermost : List ℕ) (opened : List Bool) (a b : ℕ) → IsSoFar g section n innermost opened graph → n < length section → (d : Step)
-    → (RightOver Instance graph (first_steps n section) (get_or section n d) → ⊥) → (m : ℕ) → m ≡ suc n → Rejects Instance g a b section m
-is_wrong g graph section n innermost opened a b h low d wrong m e = record {
+-- ---- what a piece answers
+
+pub is_wrong : (l : Rooted) (graph : Graph) (section : List Step) (a b n : ℕ) (innermost : List ℕ) (opened : List Bool) → IsSoFar l.graph section a n innermost opened graph → n < length section → (d : Step)
+    → (RightOver Instance graph (first_steps n section) (get_or section n d) → ⊥) → (m : ℕ) → m ≡ suc n → IsPiece l section a b (Some m)
+is_wrong l graph section a b n innermost opened h low d wrong m e = λ front. record {
   before = n;
   number = e;
-  right = h.right;
-  wrong = inl (get_or section n d, slice_get-get_or section n d low, λ r. wrong ((is_right g graph section n innermost opened h.replayed (get_or section n d)).1 r));
+  right = h.right front;
+  wrong = inl (get_or section n d, slice_get-get_or section n d low, λ r. wrong ((is_right l.graph graph section n innermost opened h.replayed (get_or section n d)).1 r));
 }
 
 all_steps : (section : List Step) (n : ℕ) → n ≡ length section → take n section ≡ section
 all_steps section n e = take_all n section (omega (arith, e))
 
-pub all_kept : (g graph : Graph) (section : List Step) (n : ℕ) (innermost : List ℕ) (opened : List Bool) → IsSoFar g section n innermost opened graph → n ≡ length section → AreKept section innermost opened
-all_kept g graph section n innermost opened h e = subst (λ (q : List Step). AreKept q innermost opened) (all_steps section n e) h.replayed.kept
+pub all_kept : (g graph : Graph) (section : List Step) (a n : ℕ) (innermost : List ℕ) (opened : List Bool) → IsSoFar g section a n innermost opened graph → n ≡ length section → AreKept section innermost opened
+all_kept g graph section a n innermost opened h e = subst (λ (q : List Step). AreKept q innermost opened) (all_steps section n e) h.replayed.kept
 
-pub is_accepted : (g graph : Graph) (section : List Step) (n : ℕ) (innermost : List ℕ) (opened : List Bool) (a b : ℕ) → IsSoFar g section n innermost opened graph → n ≡ length section → IsConcluded (reverse section) a b → Derives Instance g a b section
-is_accepted g graph section n innermost opened a b h e c = (subst (λ (q : List Step). AllRight Instance g (reverse q)) (all_steps section n e) h.right, c)
+pub no_number : (l : Rooted) (graph : Graph) (section : List Step) (a b n : ℕ) (innermost : List ℕ) (opened : List Bool) → IsSoFar l.graph section a n innermost opened graph → n ≡ b → (b ≡ length section → IsConcluded (reverse section) l.first l.second) → IsPiece l section a b None
+no_number l graph section a b n innermost opened h e c = λ front. (subst (λ (m : ℕ). AllRight Instance l.graph (first_steps m section)) e (h.right front), c)
 
-pub not_concluded : (g graph : Graph) (section : List Step) (n : ℕ) (innermost : List ℕ) (opened : List Bool) (a b : ℕ) → IsSoFar g section n innermost opened graph → n ≡ length section → (IsConcluded (reverse section) a b → ⊥) → (m : ℕ) → m ≡ suc n → Rejects Instance g a b section m
-not_concluded g graph section n innermost opened a b h e c m f = record {
+pub not_concluded : (l : Rooted) (graph : Graph) (section : List Step) (a b n : ℕ) (innermost : List ℕ) (opened : List Bool) → IsSoFar l.graph section a n innermost opened graph → n ≡ length section → (IsConcluded (reverse section) l.first l.second → ⊥) → (m : ℕ) → m ≡ suc n → IsPiece l section a b (Some m)
+not_concluded l graph section a b n innermost opened h e c m f = λ front. record {
   before = n;
   number = f;
-  right = h.right;
-  wrong = inr (e, λ z. c (subst (λ (q : List Step). IsConcluded (reverse q) a b) (all_steps section n e) z));
+  right = h.right front;
+  wrong = inr (e, λ z. c (subst (λ (q : List Step). IsConcluded (reverse q) l.first l.second) (all_steps section n e) z));
 }
+
+-- after steps that are right there is a graph, so a piece whose front has none may answer anything
+pub no_front : (l : Rooted) (section : List Step) (a b : ℕ) → ((now : Graph) → GraphAfter l.graph (first_steps a section) now → ⊥) → (number : Option ℕ) → IsPiece l section a b number
+no_front l section a b none number = λ front. let there = graph_there Instance l.graph (first_steps a section) front in absurd (none there.0 there.1)

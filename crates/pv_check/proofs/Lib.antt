@@ -15,5 +15,6 @@ pub mod Carried
 pub mod Moments
 pub mod Concluding
 pub mod Checking
+pub mod Pieces
 pub mod Replaying
 pub mod Judged

@@ -34,7 +34,7 @@ grows_graph (steps.Node n o kids) now graph new e h = (new, subst (λ (g : Graph
 grows_graph s now graph new e h = (graph, refl)
 
 -- after a step that leaves no graph there is none
-no_graph : (g graph : Graph) (section : List Step) (n : ℕ) (innermost : List ℕ) (opened : List Bool) → IsReplayed g section n innermost opened graph → n < length section → (d : Step)
+pub no_graph : (g graph : Graph) (section : List Step) (n : ℕ) (innermost : List ℕ) (opened : List Bool) → IsReplayed g section n innermost opened graph → n < length section → (d : Step)
     → ((new : Graph) → Grows (get_or section n d) graph new → ⊥) → (k : ℕ) → n < k → k ≤ length section → (now : Graph) → GraphAfter g (first_steps k section) now → ⊥
 no_graph g graph section n innermost opened h low d none k past within now after =
     let s : Step = get_or section n d in
@@ -45,10 +45,9 @@ no_graph g graph section n innermost opened h low d none k past within now after
     let z = grows_graph s h.now graph r.0 h.same (subst (λ (x : Graph). Grows s x r.0) same t.2) in
     none z.0 z.1
 
--- and so no later step is right
-pub is_stuck : (g graph : Graph) (section : List Step) (n : ℕ) (innermost : List ℕ) (opened : List Bool) → IsReplayed g section n innermost opened graph → (d : Step) → ((new : Graph) → Grows (get_or section n d) graph new → ⊥)
-    → (k : ℕ) → n < k - 1 → k ≤ length section → IsTrue false ↔ IsRightAt g section k
-is_stuck g graph section n innermost opened h d none k past within = (λ yes. absurd (cc), λ r. absurd (no_graph g graph section n innermost opened h (omega (arith, past, within)) d none (k - 1) past (omega (arith, within)) r.2.0 r.2.1))
+-- where there is no graph after the steps before it, a step isn't right
+pub is_stuck : (g : Graph) (section : List Step) (k : ℕ) → ((now : Graph) → GraphAfter g (first_steps (k - 1) section) now → ⊥) → IsTrue false ↔ IsRightAt g section k
+is_stuck g section k none = (λ yes. absurd (cc), λ r. absurd (none r.2.0 r.2.1))
 
 right_at : (g graph : Graph) (section : List Step) (k : ℕ) (innermost : List ℕ) (opened : List Bool) → IsReplayed g section (k - 1) innermost opened graph → 1 ≤ k → k ≤ length section → (d : Step)
     → (b : Bool) → IsTrue b ↔ RightOver Instance graph (first_steps (k - 1) section) (get_or section (k - 1) d) → IsTrue b ↔ IsRightAt g section k
@@ -61,7 +60,7 @@ right_at g graph section k innermost opened h low within d b t =
       λ a. let same : a.0 ≡ s = let z : Some a.0 ≡ Some s = sym a.1 ∙ number in cc in t.1 (r.1 (subst (λ (x : Step). Right Instance g (first_steps (k - 1) section) x) same a.2)),
     )
 
-pub all_right_at : (g graph : Graph) (section : List Step) (n k : ℕ) (innermost : List ℕ) (opened : List Bool) → IsReplayed g section n innermost opened graph → n ≡ k - 1 → 1 ≤ k → k ≤ length section → (d : Step)
+pub all_right_at : (g graph : Graph) (section : List Step) (k : ℕ) (innermost : List ℕ) (opened : List Bool) → IsReplayed g section (k - 1) innermost opened graph → 1 ≤ k → k ≤ length section → (d : Step)
     → (r : Result Bool Memory) → IfOk r (λ yes. IsTrue yes ↔ RightOver Instance graph (first_steps (k - 1) section) (get_or section (k - 1) d)) → IfOk r (λ yes. IsTrue yes ↔ IsRightAt g section k)
-all_right_at g graph section n k innermost opened h e low within d (Ok b) t = right_at g graph section k innermost opened (subst (λ (m : ℕ). IsReplayed g section m innermost opened graph) e h) low within d b t
-all_right_at g graph section n k innermost opened h e low within d (Err m) t = tt
+all_right_at g graph section k innermost opened h low within d (Ok b) t = right_at g graph section k innermost opened h low within d b t
+all_right_at g graph section k innermost opened h low within d (Err m) t = tt

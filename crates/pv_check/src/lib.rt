@@ -2,8 +2,9 @@
 //!
 //! This layer stands on `pv_steps`, whose `specs/Right` says when a step is right after those before it
 //! (`RightOver`), on `pv_axioms` for the axioms (`Instance`), on `pv_endings` for the nodes that a root waits for, on
-//! `pv_graph`, and on `pv_base` for the gate that is passed before each step. A check takes the steps of a section in order, and looks at no step twice: each
-//! is tested over the graph of the moment and by what is kept of the steps so far.
+//! `pv_graph`, and on `pv_base` and `pv_pieces` for what runs the pieces of a section at once. A check cuts the steps of a section into
+//! consecutive pieces. Each piece replays the steps before its own, and then tests its own in order: over the graph of the moment, and by
+//! what is kept of the steps so far. With one worker no step is looked at twice.
 //!
 //! What is kept (`specs/Kept`, `AreKept`): of each number of steps the innermost block that is open after
 //! them, and of each block whether it is open now. A block goes by the number of the step that opened it.
@@ -21,9 +22,14 @@
 //! `advance` of `checker` takes one right step. `replay` takes one that may be wrong: it keeps the graph (`follow` of
 //! `moment`) and the tables, and tests node steps alone.
 //!
-//! The layer above uses `Checker`, of axioms, a least graph and steps. `check` walks over a section: its clauses say that
+//! `specs/Checking` says what a piece answers (`IsPiece`): where all steps before it are right, the number of the first of its steps that isn't
+//! right, if there is one. `piece` of `checker` finds it: it replays the steps before the piece (`front`), and may answer nothing where
+//! there is no graph after them, since a piece before it has a wrong step then. The last piece ends with the tables of all steps, and tests whether these conclude.
+//! `put_together` takes the first number in the order of the pieces, which is that of the section.
+//!
+//! The layer above uses `Checker`, of axioms, a least graph and steps. `check` runs the pieces of a section at once: its clauses say that
 //! the answer is `Accepted` exactly where the section derives that the roots are equal (`Derives`), and a number exactly
-//! where it is rejected with that number (`Rejects`). What an accepted section shows is `law_accepted` of `pv_axioms`.
+//! where it is rejected with that number (`Rejects`), whatever the workers. What an accepted section shows is `law_accepted` of `pv_axioms`.
 //! `step_is_right` answers of one step whether it is right after those before it (`IsRightAt`), each node step of which is
 //! right; it replays these.
 #![tactic(auto)]

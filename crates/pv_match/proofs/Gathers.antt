@@ -112,17 +112,20 @@ place_in_list (y ∷ xs) (suc i) x e = inr (place_in_list xs i x e)
 -- ---- the matches of a table
 
 module _ (g : Graph) (numbers assumed : List ℕ) (table : List Axiom) where
+  -- a set that gains a list has the matches of both
+  pub where_gathered : (P : Axiom → ℕ → Type 0) (old more new : List Match) → AreMatchesWhere g numbers assumed P (old ++ more) → GathersAll old more new → AreMatchesWhere g numbers assumed P new
+  where_gathered P old more new both gathers = record {
+    each = λ x i. both.each x (elim (gathers.some_.each x i) [ inl j ↦ in_left old more x j | inr j ↦ in_right old more x j ]);
+    all = λ b m ps cs h k. let r = both.all b m ps cs h k in elim (in_both old more r.0 r.1) [
+      | inl i ↦ (r.0, gathers.some_.kept r.0 i, r.2, r.3, r.4)
+      | inr i ↦ let y = gathers.has r.0 i in (y.0, y.1, sym y.2.0 ∙ r.2, sym y.2.1 ∙ r.3, sym y.2.2 ∙ r.4)
+    ];
+  }
+
   where_gathers : (P : Axiom → ℕ → Type 0) (a : Axiom) (n : ℕ) (old more new : List Match) → AreMatchesWhere g numbers assumed P old → AreMatchesAt g numbers assumed a n more → GathersAll old more new
       → AreMatchesWhere g numbers assumed (λ b m. P b m ⊎ ((b ≡ a) × (m ≡ n))) new
   where_gathers P a n old more new is at gathers =
-      let both = where_both g numbers assumed P (λ b m. (b ≡ a) × (m ≡ n)) old more is (where_at g numbers assumed a n more at) in
-      record {
-        each = λ x i. both.each x (elim (gathers.some_.each x i) [ inl j ↦ in_left old more x j | inr j ↦ in_right old more x j ]);
-        all = λ b m ps cs h k. let r = both.all b m ps cs h k in elim (in_both old more r.0 r.1) [
-          | inl i ↦ (r.0, gathers.some_.kept r.0 i, r.2, r.3, r.4)
-          | inr i ↦ let y = gathers.has r.0 i in (y.0, y.1, sym y.2.0 ∙ r.2, sym y.2.1 ∙ r.3, sym y.2.2 ∙ r.4)
-        ];
-      }
+      where_gathered (λ b m. P b m ⊎ ((b ≡ a) × (m ≡ n))) old more new (where_both g numbers assumed P (λ b m. (b ≡ a) × (m ≡ n)) old more is (where_at g numbers assumed a n more at)) gathers
 
   pub tried_begin : (before : List ℕ) (n : ℕ) (list : List Match) → AreMatchesOf g numbers assumed table before list → AreMatchesWhere g numbers assumed (TriedAt table before [] n) list
   tried_begin before n list is = record {

@@ -14,6 +14,7 @@ pub mod AllOf
 pub mod Ordered
 pub mod Listing
 pub mod Gathers
+pub mod Parts
 -- 4. Tables that are read.
 pub mod Readable
 -- 5. Class numbers are classes of nodes, and matches by number are matches on classes.

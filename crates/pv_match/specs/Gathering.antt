@@ -1,10 +1,11 @@
 -- How the matches of a table are gathered in a set, node by node, up to a limit.
-use Rattle.std.specs.Prelude.{◌≡◌, ◌⊎◌, ℕ, suc, ◌≤◌, Bool, List, length, Some, slice_get}
+use Rattle.std.specs.Prelude.{◌≡◌, ◌⊎◌, ℕ, suc, ◌≤◌, Bool, List, length, Some, slice_get, Result, Ok}
 use Rattle.std.specs.Bool.{OnTrue, OnFalse}
 use Rattle.pv_graph.specs.Walks.{In}
 use Rattle.pv_graph.specs.Graphs.{Graph}
 use Rattle.pv_pattern.specs.Patterns.{Axiom}
 use Rattle.pv_match.specs.declared.found.Match.{Match}
+use Rattle.pv_match.specs.declared.gathered.Gathered.{Gathered}
 use Rattle.pv_match.specs.Matches.{IsMatch}
 use Rattle.pv_match.specs.All.{AreMatchesOf, AreMatchesWhere}
 use Rattle.std.specs.List.Sorted.{IsStrictlySortedBy}
@@ -62,3 +63,9 @@ Finds g numbers assumed table limit items over set = OnTrue over (AreTooMany g n
 abbrev pub IsFound : Graph → List ℕ → List ℕ → List Axiom → ℕ → List ℕ → answers.Matches → Type 0
 IsFound g numbers assumed table limit items (All list) = AreMatchesOf g numbers assumed table items list.items × IsStrictlySortedBy match_cmp list.items × (length list.items ≤ limit)
 IsFound g numbers assumed table limit items (More n) = (n ≡ suc limit) × (list : List Match) × AreTooMany g numbers assumed table limit list × IsStrictlySortedBy match_cmp list
+
+-- ---- pieces
+
+-- each part that isn't out of memory has what is found at the items of its number
+abbrev pub AreParts : {E : Type 0} → Graph → List ℕ → List ℕ → List Axiom → ℕ → (ℕ → List ℕ) → List (Result Gathered E) → Type 0
+AreParts g numbers assumed table limit items parts = (k : ℕ) (got : Gathered) → slice_get parts k ≡ Some (Ok got) → Finds g numbers assumed table limit (items k) got.is_over got.set.keys

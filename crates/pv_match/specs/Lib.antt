@@ -14,5 +14,6 @@ pub mod Finishing
 pub mod Grouping
 pub mod Rules
 pub mod Gathering
+pub mod Finding
 -- how class numbers are classes of nodes
 pub mod Agreeing

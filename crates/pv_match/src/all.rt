@@ -20,16 +20,22 @@ use pv_classes::Classes;
 use pv_graph::Graph;
 use pv_marks::class_marks;
 use pv_pattern::Axiom;
+use pv_pieces::Workers;
 use pv_value::Memory;
 use std::alloc::Global;
+use std::thread::Threads;
 
 /// All matches of a table over the classes of a graph's nodes, or that there are more than `limit`. `base` has the marks of the nodes
 /// of the base, as `pv_marks::node_marks` gives them, with some nodes assumed to end. Of nodes with one operation over kids in the
-/// same classes, which match the same patterns, the first alone is looked at. It passes the gate before each of these at which a left
-/// side may start, as piece 0. It holds at most `limit + 1` matches, and beside them those of one axiom at one node.
-pub fn matches<G: Gate>(
+/// same classes, which match the same patterns, the first alone is looked at. Those of these at which a left side may start are cut into
+/// consecutive pieces, one for each worker, which run at once. The answer is the same for every number of workers.
+///
+/// It passes the gate before each node at which a left side may start, with the number of the piece. Each piece holds at most `limit + 1`
+/// matches, and beside them those of one axiom at one node. What they hold is put together in the order of the pieces, up to `limit + 1`
+/// matches, while that of the later pieces waits.
+pub fn matches<R: Threads + Sync, G: Gate>(
+    workers: &Workers<R, G>,
     alloc: Global,
-    gate: &G,
     graph: &Graph,
     classes: &Classes,
     base: &[u32],
@@ -61,6 +67,6 @@ pub fn matches<G: Gate>(
         rules: &rules,
         limit,
     };
-    let answer = finder.find(alloc, gate, &items)?;
+    let answer = finder.find(workers, alloc, &items)?;
     Ok(answer)
 }

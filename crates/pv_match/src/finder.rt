@@ -1,53 +1,27 @@
-//! The matches that start at some nodes, each once and in order, up to a limit.
+//! The matches that start at some nodes, each once and in order, up to a limit, by pieces of the nodes at once.
 
-ghost use Rattle.std.specs.Prelude.{◌≡◌, ◌≤◌, ◌∷◌, ◌++◌, [], ℕ, List, length, map, suc, IfOk};
-ghost use Rattle.std.specs.Bool.{OnFalse, OnTrue};
-ghost use Rattle.pv_graph.specs.Graphs.{IsGraph};
+ghost use Rattle.std.specs.Prelude.{◌<◌, ◌≤◌, ◌∷◌, ◌++◌, [], ℕ, List, length, map, IfOk};
+ghost use Rattle.std.specs.Bool.{OnFalse};
 ghost use Rattle.pv_pattern.specs.Seen.{axiom_seen};
 ghost use Rattle.pv_marks.specs.Marks.{AreClassMarks};
 ghost use Rattle.pv_match.specs.All.{AreMatchesOf, AreMatchesWhere};
-ghost use Rattle.pv_match.specs.Bindings.{IsMembers};
-ghost use Rattle.pv_match.specs.Gathering.{Finds, GathersAll, GathersSome, IsFound, TriedAt, Tries};
-ghost use Rattle.pv_match.specs.Reading.{AreReadable};
-ghost use Rattle.pv_match.specs.Rules.{AreRules};
+ghost use Rattle.pv_match.specs.Gathering.{Finds, TriedAt, Tries};
+ghost use Rattle.pv_match.specs.Finding.{HasFound, HasGathered, IsReady};
+ghost use Rattle.pv_pieces.specs.Cut.{nth_piece};
 
 use crate::found::{Match, Matches};
+use crate::gathered::{Gathered, gather, listed, put_together};
 use crate::members::{Group, with_number};
 use crate::reader::Reader;
 use pv_base::Gate;
 use pv_graph::NodeId;
 use pv_pattern::{Axiom, op_number};
+use pv_pieces::{Workers, piece_of};
 use pv_value::Memory;
 use std::alloc::Global;
 use std::collections::BTreeSet;
-
-// Puts matches into a set, and says whether it has more than `limit` then. It stops as soon as it has.
-fn gather(set: &mut BTreeSet<Match>, more: Vec<Match>, limit: usize) -> Result<bool, Memory>
-    requires { length set.old.keys ≤ limit }
-    ensures over { IfOk result (λ over. OnTrue over ((length set.new.keys ≡ suc limit) × GathersSome set.old.keys more.items set.new.keys)) }
-    ensures all { IfOk result (λ over. OnFalse over ((length set.new.keys ≤ limit) × GathersAll set.old.keys more.items set.new.keys)) }
-{
-    let mut rest = more;
-    while let Some(x) = rest.pop() {
-        set.insert(x)?;
-        if set.len() > limit {
-            return Ok(true);
-        }
-    }
-    Ok(false)
-}
-
-// The matches of a set, in order.
-fn listed(alloc: Global, set: BTreeSet<Match>) -> Result<Vec<Match>, Memory>
-    ensures { IfOk result (λ list. list.items ≡ set.keys) }
-{
-    let mut rest = set;
-    let mut list = Vec::new(alloc);
-    while let Some(x) = rest.pop_first() {
-        list.push(x)?;
-    }
-    Ok(list)
-}
+use std::thread;
+use std::thread::Threads;
 
 // What matches are looked for by: the classes and their marks, a table with its rules, and how many matches are allowed.
 #[derive(Clone, Copy)]
@@ -69,9 +43,7 @@ impl Finder<'_> {
         n: NodeId,
         found: &mut BTreeSet<Match>,
     ) -> Result<bool, Memory>
-        requires graph { IsGraph self.now.reader.graph.now }
-        requires members { IsMembers self.now.reader.graph.now self.now.reader.numbers.now self.now.reader.members.now.groups.items }
-        requires readable { AreReadable (map axiom_seen self.now.table.now) }
+        requires ready { IsReady self.now }
         requires few { length found.old.keys ≤ self.now.limit }
         ensures found { IfOk result (λ over. (assumed before places : List ℕ) → AreClassMarks self.now.reader.graph.now self.now.reader.numbers.now assumed self.now.marks.now → AreMatchesWhere self.now.reader.graph.now self.now.reader.numbers.now assumed (TriedAt (map axiom_seen self.now.table.now) before places n) found.old.keys → Tries self.now.reader.graph.now self.now.reader.numbers.now assumed (map axiom_seen self.now.table.now) self.now.limit before (places ++ place ∷ []) n over found.new.keys) }
         ensures few { IfOk result (λ over. OnFalse over (length found.new.keys ≤ self.now.limit)) }
@@ -86,10 +58,7 @@ impl Finder<'_> {
 
     // Gathers the matches whose left sides start at a node, and says whether there are more than the limit.
     fn find_at(&self, alloc: Global, n: NodeId, found: &mut BTreeSet<Match>) -> Result<bool, Memory>
-        requires graph { IsGraph self.now.reader.graph.now }
-        requires members { IsMembers self.now.reader.graph.now self.now.reader.numbers.now self.now.reader.members.now.groups.items }
-        requires readable { AreReadable (map axiom_seen self.now.table.now) }
-        requires rules { AreRules (map axiom_seen self.now.table.now) self.now.rules.now }
+        requires ready { IsReady self.now }
         requires few { length found.old.keys ≤ self.now.limit }
         ensures found { IfOk result (λ over. (assumed before : List ℕ) → AreClassMarks self.now.reader.graph.now self.now.reader.numbers.now assumed self.now.marks.now → AreMatchesOf self.now.reader.graph.now self.now.reader.numbers.now assumed (map axiom_seen self.now.table.now) before found.old.keys → Finds self.now.reader.graph.now self.now.reader.numbers.now assumed (map axiom_seen self.now.table.now) self.now.limit (before ++ n ∷ []) over found.new.keys) }
         ensures few { IfOk result (λ over. OnFalse over (length found.new.keys ≤ self.now.limit)) }
@@ -107,53 +76,73 @@ impl Finder<'_> {
         Ok(false)
     }
 
-    // Gathers the matches whose left sides start at these nodes, and says whether there are more than the limit. It passes the
-    // gate before each node, as piece 0.
+    // Gathers the matches whose left sides start at these nodes, which are those of a piece, and stops once there are more than the limit.
+    // It passes the gate before each node, with the number of the piece.
     fn find_in<G: Gate>(
         &self,
         alloc: Global,
         gate: &G,
+        piece: usize,
         items: &[NodeId],
-        found: &mut BTreeSet<Match>,
-    ) -> Result<bool, Memory>
-        requires graph { IsGraph self.now.reader.graph.now }
-        requires members { IsMembers self.now.reader.graph.now self.now.reader.numbers.now self.now.reader.members.now.groups.items }
-        requires readable { AreReadable (map axiom_seen self.now.table.now) }
-        requires rules { AreRules (map axiom_seen self.now.table.now) self.now.rules.now }
-        requires empty { found.old.keys ≡ [] }
-        ensures found { IfOk result (λ over. (assumed : List ℕ) → AreClassMarks self.now.reader.graph.now self.now.reader.numbers.now assumed self.now.marks.now → Finds self.now.reader.graph.now self.now.reader.numbers.now assumed (map axiom_seen self.now.table.now) self.now.limit items.now over found.new.keys) }
-        ensures few { IfOk result (λ over. OnFalse over (length found.new.keys ≤ self.now.limit)) }
+    ) -> Result<Gathered, Memory>
+        requires ready { IsReady self.now }
+        ensures { IfOk result (HasGathered self.now items.now) }
     {
+        let mut set = BTreeSet::new(alloc);
         for n in items {
-            gate.enter(0);
-            let is_over = self.find_at(alloc, *n, found)?;
+            gate.enter(piece);
+            let is_over = self.find_at(alloc, *n, &mut set)?;
             if is_over {
-                return Ok(true);
+                return Ok(Gathered { set, is_over });
             }
         }
-        Ok(false)
+        Ok(Gathered {
+            set,
+            is_over: false,
+        })
     }
 
-    // The matches whose left sides start at these nodes.
-    pub(crate) fn find<G: Gate>(
+    // Gathers the matches whose left sides start at these nodes, by consecutive pieces at once.
+    fn find_all<R: Threads + Sync, G: Gate>(
         &self,
+        workers: &Workers<R, G>,
         alloc: Global,
-        gate: &G,
+        items: &[NodeId],
+    ) -> Result<Gathered, Memory>
+        requires ready { IsReady self.now }
+        ensures found { IfOk result (HasGathered self.now items.now) }
+        ensures few { IfOk result (λ got. OnFalse got.is_over (length got.set.keys ≤ self.now.limit)) }
+    {
+        let (gate, count) = (workers.gate, workers.count());
+        let parts = thread::map_indices(
+            workers.rt,
+            alloc,
+            count,
+            &|k| -> Result<Gathered, Memory>
+                requires { (k < count) × IsReady self.now }
+                ensures { IfOk result (HasGathered self.entry.now (nth_piece items.entry.now count k)) }
+            { self.find_in(alloc, gate, k, piece_of(items, count, k)) },
+        )?;
+        let got = put_together(alloc, parts, self.limit)?;
+        Ok(got)
+    }
+
+    // The matches whose left sides start at these nodes, by consecutive pieces at once.
+    pub(crate) fn find<R: Threads + Sync, G: Gate>(
+        &self,
+        workers: &Workers<R, G>,
+        alloc: Global,
         items: &[NodeId],
     ) -> Result<Matches, Memory>
-        requires graph { IsGraph self.now.reader.graph.now }
-        requires members { IsMembers self.now.reader.graph.now self.now.reader.numbers.now self.now.reader.members.now.groups.items }
-        requires readable { AreReadable (map axiom_seen self.now.table.now) }
-        requires rules { AreRules (map axiom_seen self.now.table.now) self.now.rules.now }
-        ensures { IfOk result (λ answer. (assumed : List ℕ) → AreClassMarks self.now.reader.graph.now self.now.reader.numbers.now assumed self.now.marks.now → IsFound self.now.reader.graph.now self.now.reader.numbers.now assumed (map axiom_seen self.now.table.now) self.now.limit items.now answer) }
+        requires ready { IsReady self.now }
+        ensures { IfOk result (HasFound self.now items.now) }
     {
-        let mut found = BTreeSet::new(alloc);
-        let is_over = self.find_in(alloc, gate, items, &mut found)?;
-        let count = found.len();
-        if is_over {
+        let got = self.find_all(workers, alloc, items)?;
+        let count = got.set.len();
+        if got.is_over {
             return Ok(Matches::More(count));
         }
-        let list = listed(alloc, found)?;
+        let list = listed(alloc, got.set)?;
         Ok(Matches::All(list))
     }
 }

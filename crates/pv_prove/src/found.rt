@@ -11,8 +11,10 @@ use crate::searches::{Searches, Seen};
 use pv_alike::Least;
 use pv_base::Gate;
 use pv_pattern::Axiom;
+use pv_pieces::Workers;
 use pv_value::Memory;
 use std::alloc::Global;
+use std::thread::Threads;
 
 /// What two searches ended with, and the searches as they were then.
 #[derive(Drop)]
@@ -22,9 +24,9 @@ pub struct Found<'a> {
 }
 
 // Looks at both searches and takes them on, until they decide or the rounds are at an end. The last look needs no round.
-fn hunt<G: Gate>(
+fn hunt<R: Threads + Sync, G: Gate>(
+    workers: &Workers<R, G>,
     alloc: Global,
-    gate: &G,
     least: &Least,
     limits: Limits,
     searches: &mut Searches,
@@ -33,12 +35,12 @@ fn hunt<G: Gate>(
     ensures { IfOk result (λ outcome. Ends least.now limits searches.new outcome) }
 {
     for k in 0..limits.rounds {
-        match searches.look(alloc, gate, least, k)? {
+        match searches.look(workers, alloc, least, k)? {
             Seen::Decided(outcome) => return Ok(outcome),
             Seen::Open { plain, other } => searches.go_on(alloc, &plain, &other)?,
         }
     }
-    if let Seen::Decided(outcome) = searches.look(alloc, gate, least, limits.rounds)? {
+    if let Seen::Decided(outcome) = searches.look(workers, alloc, least, limits.rounds)? {
         return Ok(outcome);
     }
     Ok(Outcome::Rounds(limits.rounds))
@@ -46,9 +48,9 @@ fn hunt<G: Gate>(
 
 /// What a search finds of the roots of a least graph, by the axioms that the limits name. The outcome is the verdict on them, and there is no other;
 /// where the roots met, they have the same values, and the two searches show how they met. It passes the gate as `Search::look` does. Out of memory is the one error.
-pub fn find<'a, G: Gate>(
+pub fn find<'a, R: Threads + Sync, G: Gate>(
+    workers: &Workers<R, G>,
     alloc: Global,
-    gate: &G,
     least: &Least,
     table: &'a [Axiom],
     limits: Limits,
@@ -63,6 +65,6 @@ pub fn find<'a, G: Gate>(
     ensures shown { IfOk result (λ found. IsShown least.now limits found.searches found.outcome) }
 {
     let mut searches = Searches::new(alloc, least, table, limits)?;
-    let outcome = hunt(alloc, gate, least, limits, &mut searches)?;
+    let outcome = hunt(workers, alloc, least, limits, &mut searches)?;
     Ok(Found { outcome, searches })
 }

@@ -15,8 +15,10 @@ use pv_endings::endings;
 use pv_graph::{Graph, NodeId};
 use pv_grounds::{Looked, Search};
 use pv_pattern::Axiom;
+use pv_pieces::Workers;
 use pv_value::Memory;
 use std::alloc::Global;
+use std::thread::Threads;
 
 /// Two searches over one least graph: a plain one, in which no nodes count as ending, and one in which the nodes that the first
 /// root waits for do. Where it waits for none, that is the plain one, and there is no other.
@@ -67,9 +69,9 @@ fn other_search<'a>(
 }
 
 // What a look at a search shows, if there is one.
-fn look_at<G: Gate>(
+fn look_at<R: Threads + Sync, G: Gate>(
+    workers: &Workers<R, G>,
     alloc: Global,
-    gate: &G,
     search: &Option<Search>,
 ) -> Result<Option<Looked>, Memory>
     requires { ForOther IsBegun search.now }
@@ -77,7 +79,7 @@ fn look_at<G: Gate>(
 {
     match search {
         Some(search) => {
-            let looked = search.look(alloc, gate)?;
+            let looked = search.look(workers, alloc)?;
             Ok(Some(looked))
         }
         None => Ok(None),
@@ -143,10 +145,10 @@ impl<'a> Searches<'a> {
     }
 
     // What is seen of the roots and of both searches, which have made k rounds.
-    pub(crate) fn look<G: Gate>(
+    pub(crate) fn look<R: Threads + Sync, G: Gate>(
         &self,
+        workers: &Workers<R, G>,
         alloc: Global,
-        gate: &G,
         least: &Least,
         k: u32,
     ) -> Result<Seen, Memory>
@@ -156,8 +158,8 @@ impl<'a> Searches<'a> {
         if let Some(meeting) = how_met(least, &self.plain.classes, &self.ending().classes) {
             return Ok(Seen::Decided(Outcome::Met(meeting)));
         }
-        let plain = self.plain.look(alloc, gate)?;
-        let other = look_at(alloc, gate, &self.other)?;
+        let plain = self.plain.look(workers, alloc)?;
+        let other = look_at(workers, alloc, &self.other)?;
         Ok(seen_of(k, plain, other))
     }
 

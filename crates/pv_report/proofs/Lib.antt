@@ -2,8 +2,10 @@ pub mod Places
 pub mod Lists
 pub mod LineWords
 pub mod Partnering
+pub mod WaitsForNothing
 pub mod Searched
 pub mod Showing
+pub mod Pieces
 pub mod Judgements
 pub mod SameFlows
 pub mod SameMeanings

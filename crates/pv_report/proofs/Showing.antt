@@ -78,17 +78,18 @@ steps_at w f g place other m (Err e) here like h = tt
 
 -- ---- sections, method by method
 
-zip_append : {X Y : Type 0} (Is : X → Y → Type 0) (xs us : List X) (ys vs : List Y) → AllZip Is xs ys → AllZip Is us vs → AllZip Is (xs ++ us) (ys ++ vs)
+pub zip_append : {X Y : Type 0} (Is : X → Y → Type 0) (xs us : List X) (ys vs : List Y) → AllZip Is xs ys → AllZip Is us vs → AllZip Is (xs ++ us) (ys ++ vs)
 zip_append Is [] us [] vs h k = k
 zip_append Is (x ∷ xs) us (y ∷ ys) vs h k = (h.0, zip_append Is xs us ys vs h.1 k)
 zip_append Is _ us _ vs h k = absurd h
 
-equivalent_next : (ms : List Method) (vs : List Verdict) (m : Method) (v : Verdict) → length vs ≡ length ms → equivalent_of (ms ++ m ∷ []) (vs ++ v ∷ []) ≡ equivalent_of ms vs ++ equivalent_of (m ∷ []) (v ∷ [])
-equivalent_next [] [] m v e = refl
-equivalent_next [] (w ∷ vs) m v e = absurd (cc e)
-equivalent_next (x ∷ ms) [] m v e = absurd (cc e)
-equivalent_next (x ∷ ms) (verdict.Equivalent ∷ vs) m v e = ap (λ (l : List Method). x ∷ l) (equivalent_next ms vs m v (cc e))
-equivalent_next (x ∷ ms) (w ∷ vs) m v e = equivalent_next ms vs m v (cc e)
+-- the methods of two lists, one after the other
+pub equivalent_append : (ms us : List Method) (vs ws : List Verdict) → length vs ≡ length ms → equivalent_of (ms ++ us) (vs ++ ws) ≡ equivalent_of ms vs ++ equivalent_of us ws
+equivalent_append [] us [] ws e = refl
+equivalent_append [] us (v ∷ vs) ws e = absurd (cc e)
+equivalent_append (m ∷ ms) us [] ws e = absurd (cc e)
+equivalent_append (m ∷ ms) us (verdict.Equivalent ∷ vs) ws e = ap (λ (l : List Method). m ∷ l) (equivalent_append ms us vs ws (cc e))
+equivalent_append (m ∷ ms) us (v ∷ vs) ws e = equivalent_append ms us vs ws (cc e)
 
 -- the section of one method
 one_shown : (first second : ClassFile) (m : Method) (v : Verdict) (steps : Option (List Step)) → title_text.fits (m.name, m.desc) → HasSteps detail.Steps (AreStepsOf first second m) v steps
@@ -103,5 +104,5 @@ pub shown_next : (first second : ClassFile) (ms : List Method) (vs : List Verdic
     → AllZip (IsSectionOf first second) (equivalent_of ms vs) sections → HasSteps detail.Steps (AreStepsOf first second m) v steps
     → AllZip (IsSectionOf first second) (equivalent_of (ms ++ m ∷ []) (vs ++ v ∷ [])) (sections ++ sections_for m steps)
 shown_next first second ms vs sections m v steps long fits all h =
-    subst (λ (l : List Method). AllZip (IsSectionOf first second) l (sections ++ sections_for m steps)) (sym (equivalent_next ms vs m v long))
+    subst (λ (l : List Method). AllZip (IsSectionOf first second) l (sections ++ sections_for m steps)) (sym (equivalent_append ms (m ∷ []) vs (v ∷ []) long))
     (zip_append (IsSectionOf first second) (equivalent_of ms vs) (equivalent_of (m ∷ []) (v ∷ [])) sections (sections_for m steps) all (one_shown first second m v steps fits h))

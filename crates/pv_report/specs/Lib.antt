@@ -11,4 +11,7 @@ pub mod Shown
 pub mod Judging
 pub mod Proving
 pub mod Tables
+pub mod Pieces
 pub mod Laws
+-- the vocabulary of private functions
+pub mod Waiting

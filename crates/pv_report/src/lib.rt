@@ -17,13 +17,16 @@
 //! pair (`read_pair`), partners (`partner_of`), the least graph of two methods' roots (`least_roots`), and what lines are made of.
 #![tactic(auto)]
 
+mod judged;
 mod laws;
 mod line;
 mod pair;
+mod pairs;
 mod partners;
 mod report;
 mod status;
 mod verdict;
+mod waiting;
 
 pub use laws::{law_judged, law_lines};
 pub use line::{push_method, push_verdict, side_word};

@@ -2,29 +2,27 @@
 
 ghost use Rattle.std.specs.Prelude.{◌≡◌, ◌↔◌, ◌++◌, ◌∷◌, [], None, Some, length, IfOk, OnOk, IsTrue};
 ghost use Rattle.std.specs.List.{AllZip, flat_map};
-ghost use Rattle.pv_cert.specs.Lines.{title_text};
-ghost use Rattle.pv_token.specs.Spellings.{AreBytes};
 ghost use Rattle.pv_report.specs.Lines.{bad_class, line_text};
 ghost use Rattle.pv_report.specs.declared.verdict.Graphs.{Graphs};
 ghost use Rattle.pv_report.specs.Report.{IsStatusOf, lines_of};
 ghost use Rattle.pv_report.specs.Options.{options_of};
-ghost use Rattle.pv_report.specs.Verdicts.{IsVerdict};
-ghost use Rattle.pv_report.specs.Judging.{IsReadPair, JudgesFetched};
+ghost use Rattle.pv_report.specs.Judging.{JudgesFetched};
 ghost use Rattle.pv_report.specs.Proving.{ShowsFetched};
-ghost use Rattle.pv_report.specs.Shown.{IsSectionOf, equivalent_of, section_of, sections_for};
 
 use crate::line::{push_bad_class, push_line};
 use crate::pair::{BadClass, Fetched, Pair, read_pair};
+use crate::pairs::judge_all;
 use crate::status::Status;
-use crate::verdict::{Detail, Judgement, Means, Table, Verdict, judgement_on};
+use crate::verdict::{Detail, Means, Verdict};
 use pv_base::Gate;
 use pv_cert::Section;
 use pv_certify::Limits;
 use pv_class::Method;
 use pv_list::Listed;
-use pv_steps::Step;
+use pv_pieces::Workers;
 use pv_value::Memory;
 use std::alloc::{AllocError, Global};
+use std::thread::Threads;
 
 /// What there is to say, and the status that goes with it.
 #[derive(Drop)]
@@ -42,11 +40,12 @@ pub struct Report {
 
 /// What is said of two files: a line for each method of the first, in its order, or one line on the first of the two that
 /// is no class file. Where steps are wanted and both are class files, there is a section for each method that is equivalent to its
-/// partner, in the order of the lines; else there are no sections. The limit of the fetches is `LONGEST_FILE`. The gate is passed as `find` does, and changes no answer. Out of
-/// memory is the one error.
-pub fn judge<G: Gate>(
+/// partner, in the order of the lines; else there are no sections. The limit of the fetches is `LONGEST_FILE`. Where
+/// as many methods have partners as there are workers, these are judged in pieces at once; else one after another, and each search
+/// has the workers. Neither they nor the gate change an answer. Out of memory is the one error.
+pub fn judge<R: Threads + Sync, G: Gate>(
+    workers: &Workers<R, G>,
     alloc: Global,
-    gate: &G,
     limits: Limits,
     detail: Detail,
     first: &Fetched,
@@ -68,7 +67,7 @@ pub fn judge<G: Gate>(
         }
     };
     let means = Means { limits, detail };
-    let judgements = judge_all(alloc, gate, means, &pair)?;
+    let judgements = judge_all(workers, alloc, means, &pair)?;
     let answer = answer_of(alloc, pair.first.methods.as_slice(), &judgements.verdicts)?;
     Ok(Report {
         answer,
@@ -109,70 +108,6 @@ pub fn bad_class(alloc: Global, bad: BadClass) -> Result<Answer, AllocError>
         text,
         status: Status::BadClass,
     })
-}
-
-// The verdicts on some methods, and the sections of those that are shown to be equivalent to their partners.
-#[derive(Drop)]
-struct Judgements {
-    verdicts: Vec<Verdict>,
-    sections: Vec<Section>,
-}
-
-impl Judgements {
-    // What is found of one method more.
-    fn push(&mut self, method: &Method, found: Judgement) -> Result<(), Memory>
-        ensures verdicts { OnOk result (self.new.verdicts.items ≡ self.old.verdicts.items ++ found.verdict ∷ []) }
-        ensures sections { OnOk result (self.new.sections.items ≡ self.old.sections.items ++ sections_for method.now found.steps) }
-        ensures title { title_text.fits (method.now.name, method.now.desc) }
-    {
-        law_bytes(method.name.bytes());
-        law_bytes(method.desc.bytes());
-        self.verdicts.push(found.verdict)?;
-        if let Some(steps) = found.steps {
-            self.sections.push(section_of(method, steps)?)?;
-        }
-        Ok(())
-    }
-}
-
-// What a slice of bytes holds are bytes: a law, for its caller's proof.
-fn law_bytes(bytes: &[u8])
-    ensures { AreBytes bytes.now }
-{}
-
-// The section of a method with these steps.
-fn section_of(method: &Method, steps: Listed<Step>) -> Result<Section, Memory>
-    ensures { IfOk result (λ section. section ≡ section_of method.now steps) }
-{
-    Ok(Section {
-        name: method.name.clone()?,
-        desc: method.desc.clone()?,
-        steps,
-    })
-}
-
-// What is found of the methods of the first class, in their order.
-fn judge_all<G: Gate>(
-    alloc: Global,
-    gate: &G,
-    means: Means,
-    pair: &Pair,
-) -> Result<Judgements, Memory>
-    requires read { IsReadPair pair.now }
-    ensures verdicts { IfOk result (λ found. AllZip (IsVerdict (options_of means.limits means.detail) pair.now.first pair.now.second) pair.now.first.methods found.verdicts.items) }
-    ensures sections { IfOk result (λ found. means.detail ≡ Detail.Steps → AllZip (IsSectionOf pair.now.first pair.now.second) (equivalent_of pair.now.first.methods found.verdicts.items) found.sections.items) }
-{
-    let methods = pair.first.methods.as_slice();
-    let mut table = Table::new();
-    let mut judgements = Judgements {
-        verdicts: Vec::new(alloc),
-        sections: Vec::new(alloc),
-    };
-    for place in 0..methods.len() {
-        let found = judgement_on(alloc, gate, means, &mut table, pair, place)?;
-        judgements.push(&methods[place], found)?;
-    }
-    Ok(judgements)
 }
 
 // The lines of methods, each with its verdict.

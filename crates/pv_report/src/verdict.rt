@@ -14,21 +14,23 @@ ghost use Rattle.pv_report.specs.Proving.{HasSteps, IsProvedAt, IsProvedBy, IsPr
 
 use crate::pair::Pair;
 use crate::partners::partner_of;
+use crate::waiting::endings_of;
 use pv_alike::{Least, least};
 use pv_base::Gate;
 use pv_build::convert;
 use pv_certify::{AxiomSet, Found, Limits, Outcome, axioms_in, certify, find};
 use pv_class::ClassFile;
 use pv_counted::clear;
-use pv_endings::endings;
 use pv_frame::{Cause, Refused};
 use pv_graph::{Graph, NodeId};
 use pv_heights::laws::law_verdict;
 use pv_list::Listed;
 use pv_pattern::Axiom;
+use pv_pieces::Workers;
 use pv_steps::Step;
 use pv_value::Memory;
 use std::alloc::Global;
+use std::thread::Threads;
 
 /// One of the two files.
 #[derive(Clone, Copy, Debug, PartialEq, Eq)]
@@ -99,6 +101,22 @@ pub(crate) struct Means {
     pub(crate) detail: Detail,
 }
 
+/// A piece of the methods: its number, and the workers of the phases inside it.
+#[derive(Drop)]
+pub(crate) struct Piece<'a, R, G> {
+    pub(crate) number: usize,
+    inside: &'a Workers<'a, R, G>,
+}
+
+impl<'a, R, G> Piece<'a, R, G> {
+    // The piece of this number.
+    pub(crate) fn new(number: usize, inside: &'a Workers<'a, R, G>) -> Piece<'a, R, G>
+        ensures { result.number ≡ number }
+    {
+        Piece { number, inside }
+    }
+}
+
 /// The axioms of searches, which are made when the first search needs them.
 #[derive(Drop)]
 pub(crate) struct Table {
@@ -160,9 +178,9 @@ impl Judgement {
 }
 
 /// What is found of the method at a place of the first class.
-pub(crate) fn judgement_on<G: Gate>(
+pub(crate) fn judgement_on<R: Threads + Sync, G: Gate>(
+    piece: &Piece<R, G>,
     alloc: Global,
-    gate: &G,
     means: Means,
     table: &mut Table,
     pair: &Pair,
@@ -178,7 +196,7 @@ pub(crate) fn judgement_on<G: Gate>(
     let one = &pair.first.methods.as_slice()[method];
     match partner_of(one, &pair.second.methods)? {
         None => Ok(Judgement::bare(Verdict::Missing)),
-        Some(partner) => judgement_with(alloc, gate, means, table, pair, method, partner),
+        Some(partner) => judgement_with(piece, alloc, means, table, pair, method, partner),
     }
 }
 
@@ -190,10 +208,30 @@ fn has_code(class: &ClassFile, method: usize) -> bool
     class.methods.as_slice()[method].code.is_some()
 }
 
-// What is found of a method and its partner, each at its place in its class.
-fn judgement_with<G: Gate>(
+// Whether a method and its partner, each at its place in its class, have a code.
+fn have_code(pair: &Pair, method: usize, partner: usize) -> bool
+    requires there { method < length pair.now.first.methods }
+    requires partner { partner < length pair.now.second.methods }
+{
+    has_code(&pair.first, method) && has_code(&pair.second, partner)
+}
+
+/// Whether the method at a place of the first class has a partner, both with a code.
+pub(crate) fn is_pair(pair: &Pair, method: usize) -> Result<bool, Memory>
+    requires read { IsReadPair pair.now }
+    requires there { method < length pair.now.first.methods }
+{
+    let one = &pair.first.methods.as_slice()[method];
+    match partner_of(one, &pair.second.methods)? {
+        Some(partner) => Ok(have_code(pair, method, partner)),
+        None => Ok(false),
+    }
+}
+
+// What is found of a method and its partner, each at its place in its class. It passes the gate where both have a code.
+fn judgement_with<R: Threads + Sync, G: Gate>(
+    piece: &Piece<R, G>,
     alloc: Global,
-    gate: &G,
     means: Means,
     table: &mut Table,
     pair: &Pair,
@@ -208,17 +246,20 @@ fn judgement_with<G: Gate>(
     ensures steps { IfOk result (λ found. IsProvedOnPlaces means.detail pair.now.first method pair.now.second partner found) }
     ensures table { OnOk result (IsTableOf means.limits.axioms table.new) }
 {
+    if have_code(pair, method, partner) {
+        piece.inside.gate.enter(piece.number);
+    }
     match least_roots(alloc, &pair.first, method, &pair.second, partner)? {
-        Ok(roots) => judgement_by(alloc, gate, means, table, &roots),
+        Ok(roots) => judgement_by(piece, alloc, means, table, &roots),
         Err(verdict) => Ok(Judgement::bare(verdict)),
     }
 }
 
 // What is found of two methods by the least graph of their roots, or by the graph that is cleared, where a search may look there. There it
 // looks only where it doesn't find them equal in the least graph.
-fn judgement_by<G: Gate>(
+fn judgement_by<R: Threads + Sync, G: Gate>(
+    piece: &Piece<R, G>,
     alloc: Global,
-    gate: &G,
     means: Means,
     table: &mut Table,
     roots: &Least,
@@ -229,20 +270,20 @@ fn judgement_by<G: Gate>(
     ensures steps { IfOk result (λ found. IsProvedBy means.detail roots.now found) }
     ensures table { OnOk result (IsTableOf means.limits.axioms table.new) }
 {
-    let found = found_by(alloc, gate, means, table, roots)?;
+    let found = found_by(piece, alloc, means, table, roots)?;
     if found.verdict.is_equivalent() || !means.detail.may_clear() {
         return Ok(found);
     }
-    if finds_cleared(alloc, gate, means, table, roots)? {
+    if finds_cleared(piece, alloc, means, table, roots)? {
         return Ok(Judgement::bare(Verdict::Equivalent));
     }
     Ok(found)
 }
 
 // Whether a search finds the roots equal in the graph that is cleared.
-fn finds_cleared<G: Gate>(
+fn finds_cleared<R: Threads + Sync, G: Gate>(
+    piece: &Piece<R, G>,
     alloc: Global,
-    gate: &G,
     means: Means,
     table: &mut Table,
     roots: &Least,
@@ -258,15 +299,15 @@ fn finds_cleared<G: Gate>(
         limits: means.limits,
         detail: Detail::Verdict(Graphs::Least),
     };
-    let found = found_by(alloc, gate, means, table, &cleared)?;
+    let found = found_by(piece, alloc, means, table, &cleared)?;
     Ok(found.verdict.is_equivalent())
 }
 
 // What a search finds of the roots of a least graph. Where they are one node it finds under all limits that they are equal, and takes no
-// search and no steps: for the law that says so their endings are listed, in linear time.
-fn found_by<G: Gate>(
+// search and no steps: for the law that says so the nodes for which they wait are listed, in linear time.
+fn found_by<R: Threads + Sync, G: Gate>(
+    piece: &Piece<R, G>,
     alloc: Global,
-    gate: &G,
     means: Means,
     table: &mut Table,
     roots: &Least,
@@ -279,14 +320,14 @@ fn found_by<G: Gate>(
 {
     if roots.first() == roots.second() {
         law_verdict();
-        let _endings = endings(alloc, roots.graph(), roots.first())?;
+        let _endings = endings_of(alloc, roots.graph(), roots.first())?;
         return Ok(Judgement {
             verdict: Verdict::Equivalent,
             steps: no_steps(alloc, means.detail),
         });
     }
     table.make(alloc, means.limits.axioms)?;
-    let found = find(alloc, gate, roots, table.axioms(), means.limits)?;
+    let found = find(piece.inside, alloc, roots, table.axioms(), means.limits)?;
     let steps = steps_of(alloc, roots, means, &found)?;
     Ok(Judgement {
         verdict: said_of(found.outcome),

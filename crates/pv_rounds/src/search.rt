@@ -17,8 +17,10 @@ use pv_induct::induct;
 use pv_marks::node_marks;
 use pv_match::{Match, Matches, matches};
 use pv_pattern::Axiom;
+use pv_pieces::Workers;
 use pv_value::Memory;
 use std::alloc::Global;
+use std::thread::Threads;
 
 /// A search: its graph, the classes of its nodes, the axioms by which it goes, the nodes that count as ending, the marks of the base, and how
 /// many matches a round may have. Its classes are closed, with all inductions.
@@ -71,15 +73,20 @@ impl<'a> Search<'a> {
         })
     }
 
-    /// What there is to do. It passes the gate before each node at which a left side may start, as piece 0.
-    pub fn look<G: Gate>(&self, alloc: Global, gate: &G) -> Result<Looked, Memory>
+    /// What there is to do. It passes the gate before each node at which a left side may start, with the number of the piece. It is the
+    /// same for every number of workers.
+    pub fn look<R: Threads + Sync, G: Gate>(
+        &self,
+        workers: &Workers<R, G>,
+        alloc: Global,
+    ) -> Result<Looked, Memory>
         requires { IsBegun self.now }
         ensures { IfOk result (λ looked. Looks self.now looked) }
     {
         let _count = self.graph.len();
         match matches(
+            workers,
             alloc,
-            gate,
             &self.graph,
             &self.classes,
             &self.marks,

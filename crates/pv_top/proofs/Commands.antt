@@ -11,12 +11,12 @@ use Rattle.pv_words.specs.Answers.{texts}
 use Rattle.pv_words.specs.Words as words
 use Rattle.pv_words.specs.Words.{Give, once_or_never, times_of}
 use Rattle.pv_words.proofs.Cited.{is_one, one_number}
-use Rattle.pv_top.specs.declared.words.TheConstants.{DEFAULT_ROUNDS, MOST_ROUNDS, DEFAULT_BUDGET, MOST_BUDGET, DEFAULT_TRIES, MOST_TRIES, DEFAULT_STEPS, MOST_STEPS}
+use Rattle.pv_top.specs.declared.words.TheConstants.{DEFAULT_ROUNDS, MOST_ROUNDS, DEFAULT_BUDGET, MOST_BUDGET, DEFAULT_TRIES, MOST_TRIES, DEFAULT_STEPS, MOST_STEPS, DEFAULT_WORKERS, MOST_WORKERS}
 use Rattle.pv_top.specs.declared.words.Mode.{Mode}
 use Rattle.pv_top.specs.declared.words.Command.{Command}
 use Rattle.pv_top.specs.declared.words.Command.TheVariants.{Validate, Check, Compose, CheckChain, Refute}
 use Rattle.pv_top.specs.Commands.{named}
-use Rattle.pv_top.specs.Words.{AreOf, IsCommand, IsLimit, IsMode, IsSet, arguments_alone, set_word, refute_words, validate_words}
+use Rattle.pv_top.specs.Words.{AreOf, GiveCheck, IsCommand, IsLimit, IsMode, IsSet, IsWorkers, arguments_alone, check_words, set_word, refute_words, validate_words}
 
 -- ---- the words are one command at most
 
@@ -49,10 +49,15 @@ arguments_once n words rest more name a b is are p q =
     let same : rest ≡ more = let e = sym is ∙ are in cc e in
     (is_one (arguments_alone n) refl more _ _ _ _ _ _ (subst (λ (w : List (List ℕ)). Give (arguments_alone n) w [] [] a) same p) q).2
 
+checked_once : (words rest more : List (List ℕ)) (name : List ℕ) (a b : List (List ℕ)) → words ≡ name ∷ rest → words ≡ name ∷ more → GiveCheck rest a → GiveCheck more b → a ≡ b
+checked_once words rest more name a b is are p q =
+    let same : rest ≡ more = let e = sym is ∙ are in cc e in
+    (is_one check_words refl more _ _ _ _ _ _ (subst (λ (w : List (List ℕ)). Give check_words w [] (p.workers_word ∷ []) a) same p.given) q.given).2
+
 words_once : (words : List (List ℕ)) (c d : Command (List ℕ)) → AreOf words c → AreOf words d → c ≡ d
 words_once words (Validate a b t r k m) (Validate x y u s l n) (rest, is, p) (more, are, q) =
     let same : rest ≡ more = let e = sym is ∙ are in cc e in
-    let one = is_one validate_words refl more _ _ _ _ _ _ (subst (λ (w : List (List ℕ)). Give validate_words w (p.counted_flag ∷ []) (p.axioms_word ∷ p.rounds_word ∷ p.budget_word ∷ p.cert_word ∷ []) (a ∷ b ∷ [])) same p.given) q.given in
+    let one = is_one validate_words refl more _ _ _ _ _ _ (subst (λ (w : List (List ℕ)). Give validate_words w (p.counted_flag ∷ []) (p.axioms_word ∷ p.rounds_word ∷ p.budget_word ∷ p.workers_word ∷ p.cert_word ∷ []) (a ∷ b ∷ [])) same p.given) q.given in
     let flag : p.counted_flag ≡ q.counted_flag = let e = one.0 in cc e in
     let name : p.axioms_word ≡ q.axioms_word = let e = one.1 in cc e in
     let words : p.rounds_word ≡ q.rounds_word = let e = one.1 in cc e in
@@ -65,9 +70,9 @@ words_once words (Validate a b t r k m) (Validate x y u s l n) (rest, is, p) (mo
     let budget : k ≡ l = limit_once 1 MOST_BUDGET DEFAULT_BUDGET q.budget_word k l (omega arith) (subst (λ (o : Option (List ℕ)). IsLimit 1 MOST_BUDGET DEFAULT_BUDGET o k) text p.budget_is) q.budget_is in
     let mode : m ≡ n = same_mode p.counted_flag q.counted_flag p.cert_word q.cert_word m n flag file p.mode_is q.mode_is in
     cc (first, second, axioms, rounds, budget, mode)
-words_once words (Check a b c) (Check x y z) (rest, is, p) (more, are, q) = let one = arguments_once 3 words rest more (codes "check") _ _ is are p q in cc one
+words_once words (Check a b c) (Check x y z) (rest, is, p) (more, are, q) = let one = checked_once words rest more (codes "check") _ _ is are p q in cc one
 words_once words (Compose a b c d e f) (Compose g h i j k l) (rest, is, p) (more, are, q) = let one = arguments_once 6 words rest more (codes "compose") _ _ is are p q in cc one
-words_once words (CheckChain a b c) (CheckChain x y z) (rest, is, p) (more, are, q) = let one = arguments_once 3 words rest more (codes "check-chain") _ _ is are p q in cc one
+words_once words (CheckChain a b c) (CheckChain x y z) (rest, is, p) (more, are, q) = let one = checked_once words rest more (codes "check-chain") _ _ is are p q in cc one
 words_once words (Refute a b r k) (Refute x y s l) (rest, is, p) (more, are, q) =
     let same : rest ≡ more = let e = sym is ∙ are in cc e in
     let one = is_one refute_words refl more _ _ _ _ _ _ (subst (λ (w : List (List ℕ)). Give refute_words w [] (p.tries_word ∷ p.steps_word ∷ []) (a ∷ b ∷ [])) same p.given) q.given in
@@ -96,22 +101,22 @@ pub whole_words : (whole words : List (List ℕ)) (r : Result (Option (Command (
 whole_words whole words r e h = subst (λ (ws : List (List ℕ)). IfOk r (λ c. IsCommand ws (option_map named c))) (sym e) h
 
 -- words that give `check` nothing are no command
-pub no_check : (rest : List (List ℕ)) → ((a : List (List ℕ)) → Give (arguments_alone 3) rest [] [] a → ⊥) → (c : Command (List ℕ)) → AreOf (codes "check" ∷ rest) c → ⊥
-no_check rest none (Check a b cert) (more, e, g) = none _ (subst (λ (w : List (List ℕ)). Give (arguments_alone 3) w [] [] (a ∷ b ∷ cert ∷ [])) (let same : more ≡ rest = cc (sym e) in same) g)
+pub no_check : (rest : List (List ℕ)) → ((a : List (List ℕ)) → GiveCheck rest a → ⊥) → (c : Command (List ℕ)) → AreOf (codes "check" ∷ rest) c → ⊥
+no_check rest none (Check a b cert) (more, e, g) = none _ (subst (λ (w : List (List ℕ)). GiveCheck w (a ∷ b ∷ cert ∷ [])) (let same : more ≡ rest = cc (sym e) in same) g)
 no_check rest none _ (more, e, g) = absurd (cc e)
 
 pub no_compose : (rest : List (List ℕ)) → ((a : List (List ℕ)) → Give (arguments_alone 6) rest [] [] a → ⊥) → (c : Command (List ℕ)) → AreOf (codes "compose" ∷ rest) c → ⊥
 no_compose rest none (Compose a b c x y out) (more, e, g) = none _ (subst (λ (w : List (List ℕ)). Give (arguments_alone 6) w [] [] (a ∷ b ∷ c ∷ x ∷ y ∷ out ∷ [])) (let same : more ≡ rest = cc (sym e) in same) g)
 no_compose rest none _ (more, e, g) = absurd (cc e)
 
-pub no_check_chain : (rest : List (List ℕ)) → ((a : List (List ℕ)) → Give (arguments_alone 3) rest [] [] a → ⊥) → (c : Command (List ℕ)) → AreOf (codes "check-chain" ∷ rest) c → ⊥
-no_check_chain rest none (CheckChain a b chain) (more, e, g) = none _ (subst (λ (w : List (List ℕ)). Give (arguments_alone 3) w [] [] (a ∷ b ∷ chain ∷ [])) (let same : more ≡ rest = cc (sym e) in same) g)
+pub no_check_chain : (rest : List (List ℕ)) → ((a : List (List ℕ)) → GiveCheck rest a → ⊥) → (c : Command (List ℕ)) → AreOf (codes "check-chain" ∷ rest) c → ⊥
+no_check_chain rest none (CheckChain a b chain) (more, e, g) = none _ (subst (λ (w : List (List ℕ)). GiveCheck w (a ∷ b ∷ chain ∷ [])) (let same : more ≡ rest = cc (sym e) in same) g)
 no_check_chain rest none _ (more, e, g) = absurd (cc e)
 
 -- nor are words that give `validate` nothing
 pub no_validate : (rest : List (List ℕ)) → ((f : List Bool) (o : List (Option (List ℕ))) (a : List (List ℕ)) → Give validate_words rest f o a → ⊥) → (c : Command (List ℕ)) → AreOf (codes "validate" ∷ rest) c → ⊥
 no_validate rest none (Validate a b axioms rounds budget mode) (more, e, g) =
-    none (g.counted_flag ∷ []) (g.axioms_word ∷ g.rounds_word ∷ g.budget_word ∷ g.cert_word ∷ []) (a ∷ b ∷ []) (subst (λ (w : List (List ℕ)). Give validate_words w (g.counted_flag ∷ []) (g.axioms_word ∷ g.rounds_word ∷ g.budget_word ∷ g.cert_word ∷ []) (a ∷ b ∷ [])) (let same : more ≡ rest = cc (sym e) in same) g.given)
+    none (g.counted_flag ∷ []) (g.axioms_word ∷ g.rounds_word ∷ g.budget_word ∷ g.workers_word ∷ g.cert_word ∷ []) (a ∷ b ∷ []) (subst (λ (w : List (List ℕ)). Give validate_words w (g.counted_flag ∷ []) (g.axioms_word ∷ g.rounds_word ∷ g.budget_word ∷ g.workers_word ∷ g.cert_word ∷ []) (a ∷ b ∷ [])) (let same : more ≡ rest = cc (sym e) in same) g.given)
 no_validate rest none _ (more, e, g) = absurd (cc e)
 
 -- nor are words that give `refute` nothing
@@ -121,25 +126,32 @@ no_refute rest none (Refute a b tries steps) (more, e, g) =
 no_refute rest none _ (more, e, g) = absurd (cc e)
 
 -- nor those of which an option names no axioms, or a limit is no number within its bounds, or the flag and a certificate are given
-abbrev pub IsNoValue : Bool → (t r k cert : Option (List ℕ)) → Type 0
-IsNoValue c t r k cert = ((s : AxiomSet) → IsSet t s → ⊥) ⊎ (((n : ℕ) → IsLimit 0 MOST_ROUNDS DEFAULT_ROUNDS r n → ⊥) ⊎ (((n : ℕ) → IsLimit 1 MOST_BUDGET DEFAULT_BUDGET k n → ⊥) ⊎ ((m : Mode (List ℕ)) → IsMode c cert m → ⊥)))
+abbrev pub IsNoValue : Bool → (t r k w cert : Option (List ℕ)) → Type 0
+IsNoValue c t r k w cert =
+    ((s : AxiomSet) → IsSet t s → ⊥)
+    ⊎ (((n : ℕ) → IsLimit 0 MOST_ROUNDS DEFAULT_ROUNDS r n → ⊥)
+    ⊎ (((n : ℕ) → IsLimit 1 MOST_BUDGET DEFAULT_BUDGET k n → ⊥)
+    ⊎ (((n : ℕ) → IsLimit 1 MOST_WORKERS DEFAULT_WORKERS w n → ⊥)
+    ⊎ ((m : Mode (List ℕ)) → IsMode c cert m → ⊥))))
 
-no_value : (rest : List (List ℕ)) (c : Bool) (t r k cert : Option (List ℕ)) (a : List (List ℕ)) → Give validate_words rest (c ∷ []) (t ∷ r ∷ k ∷ cert ∷ []) a → IsNoValue c t r k cert → (d : Command (List ℕ)) → AreOf (codes "validate" ∷ rest) d → ⊥
-no_value rest c t r k cert a given none (Validate x y axioms rounds budget mode) (more, e, g) =
+no_value : (rest : List (List ℕ)) (c : Bool) (t r k w cert : Option (List ℕ)) (a : List (List ℕ)) → Give validate_words rest (c ∷ []) (t ∷ r ∷ k ∷ w ∷ cert ∷ []) a → IsNoValue c t r k w cert → (d : Command (List ℕ)) → AreOf (codes "validate" ∷ rest) d → ⊥
+no_value rest c t r k w cert a given none (Validate x y axioms rounds budget mode) (more, e, g) =
     let same : more ≡ rest = cc (sym e) in
-    let one = is_one validate_words refl rest _ _ _ _ _ _ given (subst (λ (w : List (List ℕ)). Give validate_words w (g.counted_flag ∷ []) (g.axioms_word ∷ g.rounds_word ∷ g.budget_word ∷ g.cert_word ∷ []) (x ∷ y ∷ [])) same g.given) in
+    let one = is_one validate_words refl rest _ _ _ _ _ _ given (subst (λ (w : List (List ℕ)). Give validate_words w (g.counted_flag ∷ []) (g.axioms_word ∷ g.rounds_word ∷ g.budget_word ∷ g.workers_word ∷ g.cert_word ∷ []) (x ∷ y ∷ [])) same g.given) in
     let flag : c ≡ g.counted_flag = let f = one.0 in cc f in
     let name : t ≡ g.axioms_word = let f = one.1 in cc f in
     let words : r ≡ g.rounds_word = let f = one.1 in cc f in
     let text : k ≡ g.budget_word = let f = one.1 in cc f in
+    let crew : w ≡ g.workers_word = let f = one.1 in cc f in
     let file : cert ≡ g.cert_word = let f = one.1 in cc f in
     elim none [
       | inl n ↦ n axioms (subst (λ (o : Option (List ℕ)). IsSet o axioms) (sym name) g.axioms_are)
       | inr (inl n) ↦ n rounds (subst (λ (o : Option (List ℕ)). IsLimit 0 MOST_ROUNDS DEFAULT_ROUNDS o rounds) (sym words) g.rounds_are)
       | inr (inr (inl n)) ↦ n budget (subst (λ (o : Option (List ℕ)). IsLimit 1 MOST_BUDGET DEFAULT_BUDGET o budget) (sym text) g.budget_is)
-      | inr (inr (inr n)) ↦ n mode (subst (λ (b : Bool). IsMode b cert mode) (sym flag) (subst (λ (o : Option (List ℕ)). IsMode g.counted_flag o mode) (sym file) g.mode_is))
+      | inr (inr (inr (inl n))) ↦ n g.workers_are.0 (subst (λ (o : Option (List ℕ)). IsLimit 1 MOST_WORKERS DEFAULT_WORKERS o g.workers_are.0) (sym crew) g.workers_are.1)
+      | inr (inr (inr (inr n))) ↦ n mode (subst (λ (b : Bool). IsMode b cert mode) (sym flag) (subst (λ (o : Option (List ℕ)). IsMode g.counted_flag o mode) (sym file) g.mode_is))
     ]
-no_value rest c t r k cert a given none _ (more, e, g) = absurd (cc e)
+no_value rest c t r k w cert a given none _ (more, e, g) = absurd (cc e)
 
 no_try_limit : (rest : List (List ℕ)) (f : List Bool) (r k : Option (List ℕ)) (a : List (List ℕ)) → Give refute_words rest f (r ∷ k ∷ []) a → (((n : ℕ) → IsLimit 1 MOST_TRIES DEFAULT_TRIES r n → ⊥) ⊎ ((n : ℕ) → IsLimit 1 MOST_STEPS DEFAULT_STEPS k n → ⊥))
     → (c : Command (List ℕ)) → AreOf (codes "refute" ∷ rest) c → ⊥
@@ -164,18 +176,19 @@ abbrev pub text_of : Option (Bor (List ℕ)) → Option (List ℕ)
 text_of o = option_map (λ s. s.now) o
 
 module _ (rest : List (List ℕ)) where
-  pub no_value_at : (flags : List Bool) (options : List (Option (Bor (List ℕ)))) (arguments : List (Bor (List ℕ))) → Give validate_words rest flags (map text_of options) (texts arguments) → length flags ≡ 1 → length options ≡ 4
-      → IsNoValue (slice_index_or flags 0 false) (text_of (slice_index_or options 0 None)) (text_of (slice_index_or options 1 None)) (text_of (slice_index_or options 2 None)) (text_of (slice_index_or options 3 None))
+  pub no_value_at : (flags : List Bool) (options : List (Option (Bor (List ℕ)))) (arguments : List (Bor (List ℕ))) → Give validate_words rest flags (map text_of options) (texts arguments) → length flags ≡ 1 → length options ≡ 5
+      → IsNoValue (slice_index_or flags 0 false) (text_of (slice_index_or options 0 None)) (text_of (slice_index_or options 1 None)) (text_of (slice_index_or options 2 None)) (text_of (slice_index_or options 3 None)) (text_of (slice_index_or options 4 None))
       → (c : Command (List ℕ)) → AreOf (codes "validate" ∷ rest) c → ⊥
-  no_value_at (c ∷ []) (t ∷ r ∷ k ∷ cert ∷ []) arguments given one long none = no_value rest c (text_of t) (text_of r) (text_of k) (text_of cert) (texts arguments) given none
+  no_value_at (c ∷ []) (t ∷ r ∷ k ∷ w ∷ cert ∷ []) arguments given one long none = no_value rest c (text_of t) (text_of r) (text_of k) (text_of w) (text_of cert) (texts arguments) given none
   no_value_at _ _ arguments given one long none = absurd (omega (arith, one, long))
 
-  pub is_validate : (flags : List Bool) (options : List (Option (Bor (List ℕ)))) (arguments : List (Bor (List ℕ))) (d : Bor (List ℕ)) (axioms : AxiomSet) (rounds budget : ℕ) (mode : Mode (List ℕ))
-      → Give validate_words rest flags (map text_of options) (texts arguments) → length flags ≡ 1 → length options ≡ 4 → length arguments ≡ 2
+  pub is_validate : (flags : List Bool) (options : List (Option (Bor (List ℕ)))) (arguments : List (Bor (List ℕ))) (d : Bor (List ℕ)) (axioms : AxiomSet) (rounds budget workers : ℕ) (mode : Mode (List ℕ))
+      → Give validate_words rest flags (map text_of options) (texts arguments) → length flags ≡ 1 → length options ≡ 5 → length arguments ≡ 2
       → IsSet (text_of (slice_index_or options 0 None)) axioms → IsLimit 0 MOST_ROUNDS DEFAULT_ROUNDS (text_of (slice_index_or options 1 None)) rounds → IsLimit 1 MOST_BUDGET DEFAULT_BUDGET (text_of (slice_index_or options 2 None)) budget
-      → IsMode (slice_index_or flags 0 false) (text_of (slice_index_or options 3 None)) mode
+      → IsLimit 1 MOST_WORKERS DEFAULT_WORKERS (text_of (slice_index_or options 3 None)) workers
+      → IsMode (slice_index_or flags 0 false) (text_of (slice_index_or options 4 None)) mode
       → AreOf (codes "validate" ∷ rest) (Validate (slice_index_or arguments 0 d).now (slice_index_or arguments 1 d).now axioms rounds budget mode)
-  is_validate (c ∷ []) (t ∷ r ∷ k ∷ cert ∷ []) (a ∷ b ∷ []) d axioms rounds budget mode given one long two h p q w = (
+  is_validate (c ∷ []) (t ∷ r ∷ k ∷ w ∷ cert ∷ []) (a ∷ b ∷ []) d axioms rounds budget workers mode given one long two h p q n m = (
     rest,
     refl,
     record {
@@ -183,15 +196,31 @@ module _ (rest : List (List ℕ)) where
       axioms_word = text_of t;
       rounds_word = text_of r;
       budget_word = text_of k;
+      workers_word = text_of w;
       cert_word = text_of cert;
       given = given;
       axioms_are = h;
       rounds_are = p;
       budget_is = q;
-      mode_is = w;
+      workers_are = (workers, n);
+      mode_is = m;
     },
   )
-  is_validate _ _ _ d axioms rounds budget mode given one long two h p q w = absurd (omega (arith, one, long, two))
+  is_validate _ _ _ d axioms rounds budget workers mode given one long two h p q n m = absurd (omega (arith, one, long, two))
+
+  -- nor are words of a command that checks, where the workers are no number within its bounds
+  pub no_workers_at : (flags : List Bool) (options : List (Option (Bor (List ℕ)))) (arguments : List (Bor (List ℕ))) → Give check_words rest flags (map text_of options) (texts arguments) → length options ≡ 1
+      → ((n : ℕ) → IsLimit 1 MOST_WORKERS DEFAULT_WORKERS (text_of (slice_index_or options 0 None)) n → ⊥) → (all : List (List ℕ)) → GiveCheck rest all → ⊥
+  no_workers_at flags (w ∷ []) arguments given one none all g =
+      let same = (is_one check_words refl rest _ _ _ _ _ _ given g.given).1 in
+      let word : text_of w ≡ g.workers_word = cc same in
+      none g.workers_are.0 (subst (λ (o : Option (List ℕ)). IsLimit 1 MOST_WORKERS DEFAULT_WORKERS o g.workers_are.0) (sym word) g.workers_are.1)
+  no_workers_at flags _ arguments given one none all g = absurd (omega (arith, one))
+
+  pub is_checked : (flags : List Bool) (options : List (Option (Bor (List ℕ)))) (arguments : List (Bor (List ℕ))) (workers : ℕ) → Give check_words rest flags (map text_of options) (texts arguments) → length options ≡ 1
+      → IsLimit 1 MOST_WORKERS DEFAULT_WORKERS (text_of (slice_index_or options 0 None)) workers → GiveCheck rest (texts arguments)
+  is_checked flags (w ∷ []) arguments workers given one n = record { workers_word = text_of w; given = no_flags check_words rest flags _ _ refl given; workers_are = (workers, n) }
+  is_checked flags _ arguments workers given one n = absurd (omega (arith, one))
 
   pub no_try_limit_at : (flags : List Bool) (options : List (Option (Bor (List ℕ)))) (arguments : List (Bor (List ℕ))) → Give refute_words rest flags (map text_of options) (texts arguments) → length options ≡ 2
       → (((n : ℕ) → IsLimit 1 MOST_TRIES DEFAULT_TRIES (text_of (slice_index_or options 0 None)) n → ⊥) ⊎ ((n : ℕ) → IsLimit 1 MOST_STEPS DEFAULT_STEPS (text_of (slice_index_or options 1 None)) n → ⊥))

@@ -8,7 +8,9 @@ use Rattle.pv_top.specs.declared.words.Mode.{Mode}
 use Rattle.pv_top.specs.declared.words.Mode.TheVariants.{Plain, Counted, Cert}
 use Rattle.pv_top.specs.declared.words.Command.{Command}
 use Rattle.pv_top.specs.declared.words.Command.TheVariants.{Validate, Check, Compose, CheckChain, Refute}
-use Rattle.pv_top.specs.Words.{IsCommand, IsLimit, IsMode, IsSet, arguments_alone}
+use Rattle.pv_top.specs.declared.words.Order.{Order}
+use Rattle.pv_top.specs.declared.words.Checked.{Checked}
+use Rattle.pv_top.specs.Words.{GiveCheck, IsCommand, IsLimit, IsMode, IsSet, arguments_alone}
 
 -- a mode by its name
 abbrev pub named_mode : Mode (Bor (List ℕ)) → Mode (List ℕ)
@@ -30,6 +32,15 @@ IsRead words command = IsCommand (texts words) (option_map named command)
 -- .. of this name and the words after it
 abbrev pub IsReadAs : List ℕ → List (Bor (List ℕ)) → Option (Command (Bor (List ℕ))) → Type 0
 IsReadAs name words command = IsCommand (name ∷ texts words) (option_map named command)
+
+-- the same of a command with its workers
+abbrev pub ordered : Option Order → Option (Command (Bor (List ℕ)))
+ordered order = option_map (λ o. o.command) order
+
+-- the arguments that words give a command that checks, None where they give it none
+abbrev pub ReadsChecked : List (Bor (List ℕ)) → Option Checked → Type 0
+ReadsChecked words (Some c) = GiveCheck (texts words) (texts c.arguments)
+ReadsChecked words None = (arguments : List (List ℕ)) → GiveCheck (texts words) arguments → ⊥
 
 -- the arguments that words give a command with this many alone, None where they give it none
 abbrev pub ReadsArguments : ℕ → List (Bor (List ℕ)) → Option (List (Bor (List ℕ))) → Type 0

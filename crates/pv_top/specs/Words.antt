@@ -9,7 +9,7 @@ use Rattle.pv_links.specs.declared.chain.TheConstants.{LONGEST_CHAIN}
 use Rattle.pv_words.specs.Words as words
 use Rattle.pv_words.specs.Words.{Give}
 use Rattle.pv_words.specs.Numbers.{IsNumber}
-use Rattle.pv_top.specs.declared.words.TheConstants.{DEFAULT_ROUNDS, MOST_ROUNDS, DEFAULT_BUDGET, MOST_BUDGET, DEFAULT_TRIES, MOST_TRIES, DEFAULT_STEPS, MOST_STEPS}
+use Rattle.pv_top.specs.declared.words.TheConstants.{DEFAULT_ROUNDS, MOST_ROUNDS, DEFAULT_BUDGET, MOST_BUDGET, DEFAULT_TRIES, MOST_TRIES, DEFAULT_STEPS, MOST_STEPS, DEFAULT_WORKERS, MOST_WORKERS}
 use Rattle.pv_top.specs.declared.words.Mode.{Mode}
 use Rattle.pv_top.specs.declared.words.Mode.TheVariants.{Plain, Counted, Cert}
 use Rattle.pv_top.specs.declared.words.Command.{Command}
@@ -37,9 +37,17 @@ IsMode true None mode = mode ≡ Counted
 IsMode false (Some name) mode = mode ≡ Cert name
 IsMode true (Some name) mode = ⊥
 
--- `validate` has the flag `--counted`, the options `--axioms`, `--rounds`, `--budget` and `--cert`, and two arguments
+-- the value of an option is a number of workers. By how many a command goes changes nothing that it answers, so the command doesn't tell.
+abbrev pub IsWorkers : Option (List ℕ) → Type 0
+IsWorkers given = (n : ℕ) × IsLimit 1 MOST_WORKERS DEFAULT_WORKERS given n
+
+-- `validate` has the flag `--counted`, the options `--axioms`, `--rounds`, `--budget`, `--workers` and `--cert`, and two arguments
 abbrev pub validate_words : words.Command
-validate_words = record { flags = codes "counted" ∷ []; names = codes "axioms" ∷ codes "rounds" ∷ codes "budget" ∷ codes "cert" ∷ []; count = 2 }
+validate_words = record { flags = codes "counted" ∷ []; names = codes "axioms" ∷ codes "rounds" ∷ codes "budget" ∷ codes "workers" ∷ codes "cert" ∷ []; count = 2 }
+
+-- `check` and `check-chain` have the option `--workers`, and three arguments
+abbrev pub check_words : words.Command
+check_words = record { flags = []; names = codes "workers" ∷ []; count = 3 }
 
 -- a command with this many arguments, and with neither flags nor options
 abbrev pub arguments_alone : ℕ → words.Command
@@ -55,12 +63,20 @@ pub record GiveValidate (rest : List (List ℕ)) (a b : List ℕ) (axioms : Axio
   pub axioms_word : Option (List ℕ)
   pub rounds_word : Option (List ℕ)
   pub budget_word : Option (List ℕ)
+  pub workers_word : Option (List ℕ)
   pub cert_word : Option (List ℕ)
-  pub given : Give validate_words rest (counted_flag ∷ []) (axioms_word ∷ rounds_word ∷ budget_word ∷ cert_word ∷ []) (a ∷ b ∷ [])
+  pub given : Give validate_words rest (counted_flag ∷ []) (axioms_word ∷ rounds_word ∷ budget_word ∷ workers_word ∷ cert_word ∷ []) (a ∷ b ∷ [])
   pub axioms_are : IsSet axioms_word axioms
   pub rounds_are : IsLimit 0 MOST_ROUNDS DEFAULT_ROUNDS rounds_word rounds
   pub budget_is : IsLimit 1 MOST_BUDGET DEFAULT_BUDGET budget_word budget
+  pub workers_are : IsWorkers workers_word
   pub mode_is : IsMode counted_flag cert_word mode
+
+-- these words after `check` or `check-chain` give it these arguments
+pub record GiveCheck (rest arguments : List (List ℕ)) : Type 0 where
+  pub workers_word : Option (List ℕ)
+  pub given : Give check_words rest [] (workers_word ∷ []) arguments
+  pub workers_are : IsWorkers workers_word
 
 -- these words after `refute` give it these limits
 pub record GiveRefute (rest : List (List ℕ)) (a b : List ℕ) (tries steps : ℕ) : Type 0 where
@@ -73,9 +89,9 @@ pub record GiveRefute (rest : List (List ℕ)) (a b : List ℕ) (tries steps : �
 -- the words are those of a command: its name, and what gives its options and arguments
 abbrev pub AreOf : List (List ℕ) → Command (List ℕ) → Type 0
 AreOf words (Validate a b axioms rounds budget mode) = (rest : List (List ℕ)) × (words ≡ codes "validate" ∷ rest) × GiveValidate rest a b axioms rounds budget mode
-AreOf words (Check a b cert) = (rest : List (List ℕ)) × (words ≡ codes "check" ∷ rest) × Give (arguments_alone 3) rest [] [] (a ∷ b ∷ cert ∷ [])
+AreOf words (Check a b cert) = (rest : List (List ℕ)) × (words ≡ codes "check" ∷ rest) × GiveCheck rest (a ∷ b ∷ cert ∷ [])
 AreOf words (Compose a b c x y out) = (rest : List (List ℕ)) × (words ≡ codes "compose" ∷ rest) × Give (arguments_alone 6) rest [] [] (a ∷ b ∷ c ∷ x ∷ y ∷ out ∷ [])
-AreOf words (CheckChain a c chain) = (rest : List (List ℕ)) × (words ≡ codes "check-chain" ∷ rest) × Give (arguments_alone 3) rest [] [] (a ∷ c ∷ chain ∷ [])
+AreOf words (CheckChain a c chain) = (rest : List (List ℕ)) × (words ≡ codes "check-chain" ∷ rest) × GiveCheck rest (a ∷ c ∷ chain ∷ [])
 AreOf words (Refute a b tries steps) = (rest : List (List ℕ)) × (words ≡ codes "refute" ∷ rest) × GiveRefute rest a b tries steps
 
 -- the command that the words are, None where they are none

@@ -17,11 +17,12 @@ ghost use Rattle.pv_top.specs.Promise.{EachEquivalent};
 ghost use Rattle.pv_top.specs.Fetching.{AnswersFetched, Asks, AsksAll, AsksPlaced, ChangesAt, ComposesIn, HoldAll, HoldsFetched, HoldsWanted, LeavesPlaced, PlaceFailed, PlacesFetched, PlacesIn, ReadFailed, SaysAfter, ShowsIn, content_of, named_as, wanted_names};
 ghost use Rattle.pv_top.specs.declared.words.Command as commands;
 
-use crate::words::{Command, Mode, command_of};
+use crate::words::{Command, Mode, order_of};
 use pv_base::{FileFault, Files, Gate, Sink};
 use pv_class::LONGEST_FILE;
 use pv_differences::{RunLimits, refute_all};
 use pv_links::{Composition, LONGEST_CHAIN, check_chain, compose};
+use pv_pieces::Workers;
 use pv_report::{Answer, Detail, Fetched, Graphs, Limits, Status, judge};
 use pv_sections::{LONGEST_CERT, Shown, rule, show};
 use pv_value::Memory;
@@ -51,18 +52,19 @@ pub(crate) struct Placed<'a> {
 
 /// Does what the words of a command line say, and answers how that went.
 ///
-/// `words` are the words after the program's name. `validate [--axioms core|all] [--rounds N] [--budget N] [--cert FILE | --counted] A B`
+/// `words` are the words after the program's name. `validate [--axioms core|all] [--rounds N] [--budget N] [--workers N] [--cert FILE | --counted] A B`
 /// fetches the class files A and B and says, in a line for each method of A, whether a search shows that its partner in B has the same
 /// meaning; with `--cert` it places under FILE, before that, the certificate of what is equivalent; with `--counted` it also searches
 /// in the graphs from which the tokens that end because of counted loops are cleared.
-/// `check A B CERT` fetches a certificate too, and says, in a line for each of its sections, whether
+/// `check [--workers N] A B CERT` fetches a certificate too, and says, in a line for each of its sections, whether
 /// the steps of the section show this of the two methods that it names. `compose A B C CERT1 CERT2 OUT` places under OUT the chain of a certificate
-/// for A and B and one for B and C, and `check-chain A C CHAIN` says, in a line for each section of the first that has one of the same method
+/// for A and B and one for B and C, and `check-chain [--workers N] A C CHAIN` says, in a line for each section of the first that has one of the same method
 /// in the second, whether the two show this of the methods of A and C. `refute [--tries N] [--steps N] A B` says, in a line for each
-/// method of A, whether runs of it and its partner end with different outcomes. The gate is passed before each step, and by a search
-/// before each node at which the left side of an axiom may start.
+/// method of A, whether runs of it and its partner end with different outcomes. Pairs of methods, the places of axioms and the
+/// steps of a section are cut into as many pieces as there are workers, which run at once, and each piece passes the gate before each of
+/// its items. Neither the workers nor the gate change what is said.
 pub fn run<R: Threads + Sync, F: Files, K: Sink, G: Gate>(
-    _rt: &R,
+    rt: &R,
     alloc: Global,
     words: &[&str],
     files: &mut F,
@@ -79,17 +81,20 @@ pub fn run<R: Threads + Sync, F: Files, K: Sink, G: Gate>(
     ensures asked { (c : Option (commands.Command (List ℕ))) → IsCommand (texts words.now) c → CallsFor (F.held files.old) c (F.asked files.old) (F.asked files.new) (Rose (K.failures out.old) (K.failures out.new)) result }
     ensures held { (c : Option (commands.Command (List ℕ))) → IsCommand (texts words.now) c → Leaves c (F.held files.old) (F.held files.new) (Rose (F.failures files.old) (F.failures files.new)) (Rose (K.failures out.old) (K.failures out.new)) result }
 {
-    match command_of(alloc, words) {
-        Ok(Some(command)) => execute(alloc, gate, command, files, out),
+    match order_of(alloc, words) {
+        Ok(Some(order)) => {
+            let workers = Workers::new(rt, gate, (order.workers as usize).max(1));
+            execute(&workers, alloc, order.command, files, out)
+        }
         Ok(None) => say(out, b"bad words\n", Status::BadWords),
         Err(_) => Status::Memory,
     }
 }
 
 // Fetches the files of a command, and gives its reply to them.
-fn execute<F: Files, K: Sink, G: Gate>(
+fn execute<R: Threads + Sync, F: Files, K: Sink, G: Gate>(
+    workers: &Workers<R, G>,
     alloc: Global,
-    gate: &G,
     command: Command<&str>,
     files: &mut F,
     out: &mut K,
@@ -102,16 +107,16 @@ fn execute<F: Files, K: Sink, G: Gate>(
         Ok(fetched) => fetched,
         Err(status) => return status,
     };
-    match reply_to(alloc, gate, command, &fetched) {
+    match reply_to(workers, alloc, command, &fetched) {
         Ok(reply) => give(alloc, &reply, files, out),
         Err(_) => Status::Memory,
     }
 }
 
 // The reply of a command to the files that were fetched for it.
-fn reply_to<'a, G: Gate>(
+fn reply_to<'a, R: Threads + Sync, G: Gate>(
+    workers: &Workers<R, G>,
     alloc: Global,
-    gate: &G,
     command: Command<&'a str>,
     fetched: &[Fetched],
 ) -> Result<Reply<'a>, Memory>
@@ -136,23 +141,23 @@ fn reply_to<'a, G: Gate>(
                 budget,
             };
             match mode {
-                Mode::Plain => judge_in(alloc, gate, limits, Graphs::Least, first, second),
+                Mode::Plain => judge_in(workers, alloc, limits, Graphs::Least, first, second),
                 Mode::Counted => judge_in(
+                    workers,
                     alloc,
-                    gate,
                     limits,
                     Graphs::LeastOrCleared,
                     first,
                     second,
                 ),
-                Mode::Cert(name) => show_in(alloc, gate, limits, name, first, second),
+                Mode::Cert(name) => show_in(workers, alloc, limits, name, first, second),
             }
         }
         Command::Check { .. } => {
             let [first, second, cert] = fetched else {
                 unreachable!();
             };
-            let answer = rule(alloc, gate, first, second, cert)?;
+            let answer = rule(workers, alloc, first, second, cert)?;
             Ok(said(answer))
         }
         Command::Compose { out, .. } => {
@@ -165,7 +170,7 @@ fn reply_to<'a, G: Gate>(
             let [first, last, chain] = fetched else {
                 unreachable!();
             };
-            let answer = check_chain(alloc, gate, first, last, chain)?;
+            let answer = check_chain(workers, alloc, first, last, chain)?;
             Ok(said(answer))
         }
         Command::Refute { tries, steps, .. } => {
@@ -191,9 +196,9 @@ fn said<'a>(answer: Answer) -> Reply<'a>
 }
 
 // What is said of two class files by searches in these graphs.
-fn judge_in<'a, G: Gate>(
+fn judge_in<'a, R: Threads + Sync, G: Gate>(
+    workers: &Workers<R, G>,
     alloc: Global,
-    gate: &G,
     limits: Limits,
     graphs: Graphs,
     first: &Fetched,
@@ -202,14 +207,21 @@ fn judge_in<'a, G: Gate>(
     ensures answer { IfOk result (λ reply. JudgesFetched (options_of limits (Detail.Verdict graphs)) first.now second.now reply.answer.text.items reply.answer.status) }
     ensures placed { IfOk result (λ reply. reply.placed ≡ None) }
 {
-    let report = judge(alloc, gate, limits, Detail::Verdict(graphs), first, second)?;
+    let report = judge(
+        workers,
+        alloc,
+        limits,
+        Detail::Verdict(graphs),
+        first,
+        second,
+    )?;
     Ok(said(report.answer))
 }
 
 // What is said of two class files, with the certificate that shows it under a name.
-fn show_in<'a, G: Gate>(
+fn show_in<'a, R: Threads + Sync, G: Gate>(
+    workers: &Workers<R, G>,
     alloc: Global,
-    gate: &G,
     limits: Limits,
     name: &'a str,
     first: &Fetched,
@@ -221,7 +233,7 @@ fn show_in<'a, G: Gate>(
     let Shown {
         answer,
         certificate,
-    } = show(alloc, gate, limits, first, second)?;
+    } = show(workers, alloc, limits, first, second)?;
     Ok(Reply {
         placed: placed_as(name, certificate),
         answer,

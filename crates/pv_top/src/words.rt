@@ -1,7 +1,7 @@
 //! The words of the command line.
 
-ghost use Rattle.std.specs.Prelude.{IfOk, codes};
-ghost use Rattle.pv_top.specs.Commands.{IsRead, IsReadAs, ReadsArguments, ReadsLimit, ReadsMode, ReadsSet};
+ghost use Rattle.std.specs.Prelude.{◌≡◌, IfOk, codes};
+ghost use Rattle.pv_top.specs.Commands.{IsRead, IsReadAs, ReadsArguments, ReadsChecked, ReadsLimit, ReadsMode, ReadsSet, ordered};
 
 use pv_list::Listed;
 use pv_report::AxiomSet;
@@ -32,6 +32,12 @@ pub const DEFAULT_STEPS: u32 = 10_000;
 
 /// The most steps that the words may allow. The least is 1.
 pub const MOST_STEPS: u32 = 100_000;
+
+/// The workers of a command that has some, where the words don't say.
+pub const DEFAULT_WORKERS: u32 = 4;
+
+/// The most workers that the words may ask for. The least is 1.
+pub const MOST_WORKERS: u32 = 16;
 
 /// How two class files are compared.
 #[derive(Clone, Copy, Debug)]
@@ -86,12 +92,36 @@ pub enum Command<N> {
     },
 }
 
-/// The command that the words are, None where they are none. Out of memory is the one error.
-pub(crate) fn command_of<'a>(
-    alloc: Global,
-    words: &'a [&'a str],
-) -> Result<Option<Command<&'a str>>, Memory>
-    ensures { IfOk result (λ command. IsRead words.now command) }
+/// A command, and by how many workers it goes, which changes nothing that it answers.
+#[derive(Clone, Copy, Debug)]
+pub(crate) struct Order<'a> {
+    pub(crate) command: Command<&'a str>,
+    pub(crate) workers: u32,
+}
+
+// The arguments of a command that checks, and by how many workers it goes.
+#[derive(Drop)]
+pub(crate) struct Checked<'a> {
+    arguments: Listed<&'a str>,
+    workers: u32,
+}
+
+// A command that one worker does.
+fn alone<'a>(command: Option<Command<&'a str>>) -> Option<Order<'a>>
+    ensures { ordered result ≡ command.entry }
+{
+    match command {
+        Some(command) => Some(Order {
+            command,
+            workers: 1,
+        }),
+        None => None,
+    }
+}
+
+/// The command that the words are, and its workers; None where they are no command. Out of memory is the one error.
+pub(crate) fn order_of<'a>(alloc: Global, words: &'a [&'a str]) -> Result<Option<Order<'a>>, Memory>
+    ensures { IfOk result (λ order. IsRead words.now (ordered order)) }
 {
     let Some((name, rest)) = words.split_first() else {
         return Ok(None);
@@ -102,29 +132,29 @@ pub(crate) fn command_of<'a>(
     } else if name == "check" {
         check_of(alloc, rest)
     } else if name == "compose" {
-        compose_of(alloc, rest)
+        Ok(alone(compose_of(alloc, rest)?))
     } else if name == "check-chain" {
         check_chain_of(alloc, rest)
     } else if name == "refute" {
-        refute_of(alloc, rest)
+        Ok(alone(refute_of(alloc, rest)?))
     } else {
         Ok(None)
     }
 }
 
 // The command `validate` with these words after its name.
-fn validate_of<'a>(alloc: Global, words: &'a [&'a str]) -> Result<Option<Command<&'a str>>, Memory>
-    ensures { IfOk result (λ command. IsReadAs (codes "validate") words.now command) }
+fn validate_of<'a>(alloc: Global, words: &'a [&'a str]) -> Result<Option<Order<'a>>, Memory>
+    ensures { IfOk result (λ order. IsReadAs (codes "validate") words.now (ordered order)) }
 {
     let shape = Shape {
         flags: &["counted"],
-        options: &["axioms", "rounds", "budget", "cert"],
+        options: &["axioms", "rounds", "budget", "workers", "cert"],
         arguments: 2,
     };
     let Some(given) = read_words(alloc, &shape, words)? else {
         return Ok(None);
     };
-    let ([counted], [axioms, rounds, budget, cert], [first, second]) = (
+    let ([counted], [axioms, rounds, budget, workers, cert], [first, second]) = (
         given.flags.as_slice(),
         given.options.as_slice(),
         given.arguments.as_slice(),
@@ -140,33 +170,41 @@ fn validate_of<'a>(alloc: Global, words: &'a [&'a str]) -> Result<Option<Command
     let Some(budget) = limit(*budget, 1, MOST_BUDGET, DEFAULT_BUDGET) else {
         return Ok(None);
     };
+    let Some(workers) = limit(*workers, 1, MOST_WORKERS, DEFAULT_WORKERS) else {
+        return Ok(None);
+    };
     let Some(mode) = mode_of(*counted, *cert) else {
         return Ok(None);
     };
-    Ok(Some(Command::Validate {
+    let command = Command::Validate {
         first: *first,
         second: *second,
         axioms,
         rounds,
         budget,
         mode,
-    }))
+    };
+    Ok(Some(Order { command, workers }))
 }
 
 // The command `check` with these words after its name.
-fn check_of<'a>(alloc: Global, words: &'a [&'a str]) -> Result<Option<Command<&'a str>>, Memory>
-    ensures { IfOk result (λ command. IsReadAs (codes "check") words.now command) }
+fn check_of<'a>(alloc: Global, words: &'a [&'a str]) -> Result<Option<Order<'a>>, Memory>
+    ensures { IfOk result (λ order. IsReadAs (codes "check") words.now (ordered order)) }
 {
-    let Some(given) = arguments_of(alloc, words, 3)? else {
+    let Some(given) = checked_of(alloc, words)? else {
         return Ok(None);
     };
-    let [first, second, cert] = given.as_slice() else {
+    let [first, second, cert] = given.arguments.as_slice() else {
         unreachable!();
     };
-    Ok(Some(Command::Check {
+    let command = Command::Check {
         first: *first,
         second: *second,
         cert: *cert,
+    };
+    Ok(Some(Order {
+        command,
+        workers: given.workers,
     }))
 }
 
@@ -191,22 +229,47 @@ fn compose_of<'a>(alloc: Global, words: &'a [&'a str]) -> Result<Option<Command<
 }
 
 // The command `check-chain` with these words after its name.
-fn check_chain_of<'a>(
-    alloc: Global,
-    words: &'a [&'a str],
-) -> Result<Option<Command<&'a str>>, Memory>
-    ensures { IfOk result (λ command. IsReadAs (codes "check-chain") words.now command) }
+fn check_chain_of<'a>(alloc: Global, words: &'a [&'a str]) -> Result<Option<Order<'a>>, Memory>
+    ensures { IfOk result (λ order. IsReadAs (codes "check-chain") words.now (ordered order)) }
 {
-    let Some(given) = arguments_of(alloc, words, 3)? else {
+    let Some(given) = checked_of(alloc, words)? else {
         return Ok(None);
     };
-    let [first, last, chain] = given.as_slice() else {
+    let [first, last, chain] = given.arguments.as_slice() else {
         unreachable!();
     };
-    Ok(Some(Command::CheckChain {
+    let command = Command::CheckChain {
         first: *first,
         last: *last,
         chain: *chain,
+    };
+    Ok(Some(Order {
+        command,
+        workers: given.workers,
+    }))
+}
+
+// The arguments and the workers of a command that checks; None, where the words give it none.
+fn checked_of<'a>(alloc: Global, words: &'a [&'a str]) -> Result<Option<Checked<'a>>, Memory>
+    ensures { IfOk result (λ given. ReadsChecked words.now given) }
+{
+    let shape = Shape {
+        flags: &[],
+        options: &["workers"],
+        arguments: 3,
+    };
+    let Some(given) = read_words(alloc, &shape, words)? else {
+        return Ok(None);
+    };
+    let [workers] = given.options.as_slice() else {
+        unreachable!();
+    };
+    let Some(workers) = limit(*workers, 1, MOST_WORKERS, DEFAULT_WORKERS) else {
+        return Ok(None);
+    };
+    Ok(Some(Checked {
+        arguments: given.arguments,
+        workers,
     }))
 }
 

@@ -8,14 +8,14 @@ use Rattle.cases_search.proofs.Known.{core_readable}
 use Rattle.cases_search.proofs.joined.matches_over.Goals as goal
 
 pub matches-requires-clause-congruence : goal.matches-requires-clause-congruence
-matches-requires-clause-congruence c κs = induct_congruence c.args.graph.now c.join_pairs.new.classes c.induct.new.c c.in_ok-induct.field-0 c.in_ok-induct.ensures
+matches-requires-clause-congruence g c κs within = induct_congruence c.args.graph.now c.join_pairs.new.classes c.induct.new.c c.in_ok-induct.field-0 c.in_ok-induct.ensures
 
 pub matches-requires-clause-readable : goal.matches-requires-clause-readable
-matches-requires-clause-readable c κs =
+matches-requires-clause-readable g c κs within =
     let same : map axiom_seen c.deref-2.result.now ≡ core_axioms = ap (map axiom_seen) c.deref-2.ensures.value ∙ c.in_ok-table.ensures in
     subst AreReadable (sym same) core_readable
 
 pub matches-requires-clause-once : goal.matches-requires-clause-once
-matches-requires-clause-once c κs =
+matches-requires-clause-once g c κs within =
     let same : map axiom_seen c.deref-2.result.now ≡ core_axioms = ap (map axiom_seen) c.deref-2.ensures.value ∙ c.in_ok-table.ensures in
     subst NumbersOnce (sym same) core_are.once

@@ -1,10 +1,10 @@
-use Rattle.std.proofs.Common.{◌≡◌, ◌<◌, ℕ, Bool, List, map, sym, ◌∙◌, subst}
+use Rattle.std.proofs.Common.{rules, ◌≡◌, ◌<◌, ℕ, Bool, List, map, sym, ◌∙◌, subst}
 use Rattle.pv_pattern.specs.Seen.{axiom_seen}
 use Rattle.pv_marks.specs.Marks.{AreClassMarks}
 use Rattle.pv_match.specs.declared.members.Group.{Group}
 use Rattle.pv_match.specs.Bindings.{IsMembers}
 use Rattle.pv_match.specs.Kept.{KeepsForms}
-use Rattle.pv_match.specs.Rules.{AreItems}
+use Rattle.pv_match.specs.Rules.{AreItems, AreRules}
 use Rattle.pv_match.specs.Gathering.{IsFound}
 use Rattle.pv_match.proofs.Forms.{firsts_keep}
 use Rattle.pv_match.proofs.Answering.{answer_of}
@@ -16,8 +16,19 @@ new-requires-clause-kept g c =
     (subst (KeepsForms c.args.graph.now c.args.classes.now.numbers) (sym c.deref-2.ensures.value)
     (firsts_keep c.args.graph.now c.args.classes.now.numbers c.requires.knows.long c.in_ok-kept.kept.items c.requires.knows.index.kids c.requires.congruence c.in_ok-kept.ensures))
 
-pub find-requires-clause-members : goal.find-requires-clause-members
-find-requires-clause-members g c κs within = subst (λ (ns : List ℕ). IsMembers c.args.graph.now ns c.in_ok-members.members.groups.items) (c.deref.ensures.value ∙ sym c.deref-6.ensures.value) c.in_ok-members.ensures.members
+pub find-requires : goal.find-requires
+find-requires g c = (
+  search rules,
+  (
+    search rules,
+    record {
+      graph = c.in_ok-members.ensures.graph;
+      members = subst (λ (ns : List ℕ). IsMembers c.args.graph.now ns c.in_ok-members.members.groups.items) (c.deref.ensures.value ∙ sym c.deref-6.ensures.value) c.in_ok-members.ensures.members;
+      readable = c.requires.readable;
+      rules = subst (AreRules (map axiom_seen c.args.table.now)) (sym c.deref-8.ensures.value) c.in_ok-rules.ensures;
+    },
+  ),
+)
 
 pub returns : goal.returns
 returns g c ends base =

@@ -14,7 +14,7 @@ use Rattle.pv_top.proofs.top.run.Goals as goal
 pub returns-in-Ok-Some-clause-answered : goal.returns-in-Ok-Some-clause-answered
 returns-in-Ok-Some-clause-answered g c o is =
     let words = texts c.args.words.now in
-    let command = named c.in-Ok-Some.command in
+    let command = named c.in-Ok-Some.order.command in
     let read : IsCommand words (Some command) = rw c.in-Ok-Some.field-0-is at c.in-Ok-Some.ensures in
     let old = g.K.Sink.sent c.args.out.now in
     let new = g.K.Sink.sent c.execute.new.out in
@@ -24,7 +24,7 @@ returns-in-Ok-Some-clause-answered g c o is =
 pub returns-in-Ok-Some-clause-asked : goal.returns-in-Ok-Some-clause-asked
 returns-in-Ok-Some-clause-asked g c o is =
     let words = texts c.args.words.now in
-    let command = named c.in-Ok-Some.command in
+    let command = named c.in-Ok-Some.order.command in
     let read : IsCommand words (Some command) = rw c.in-Ok-Some.field-0-is at c.in-Ok-Some.ensures in
     let old = g.F.Files.asked c.args.files.now in
     let new = g.F.Files.asked c.execute.new.files in
@@ -34,14 +34,14 @@ returns-in-Ok-Some-clause-asked g c o is =
 pub returns-in-Ok-Some-clause-held : goal.returns-in-Ok-Some-clause-held
 returns-in-Ok-Some-clause-held g c o is =
     let words = texts c.args.words.now in
-    let command = named c.in-Ok-Some.command in
+    let command = named c.in-Ok-Some.order.command in
     let read : IsCommand words (Some command) = rw c.in-Ok-Some.field-0-is at c.in-Ok-Some.ensures in
     subst (λ (x : Option (Command (List ℕ))). Leaves x (g.F.Files.held c.args.files.now) (g.F.Files.held c.execute.new.files) (Rose (g.F.Files.failures c.args.files.now) (g.F.Files.failures c.execute.new.files)) (Rose (g.K.Sink.failures c.args.out.now) (g.K.Sink.failures c.execute.new.out)) c.execute.result) (one_command words (Some command) o read is) c.execute.ensures.held
 
 pub returns-in-Ok-Some-clause-equivalent : goal.returns-in-Ok-Some-clause-equivalent
 returns-in-Ok-Some-clause-equivalent g c o is =
     let words = texts c.args.words.now in
-    let command = named c.in-Ok-Some.command in
+    let command = named c.in-Ok-Some.order.command in
     let read : IsCommand words (Some command) = rw c.in-Ok-Some.field-0-is at c.in-Ok-Some.ensures in
     let held = g.F.Files.held c.args.files.now in
     let old = g.K.Sink.sent c.args.out.now in

@@ -5,7 +5,9 @@ use Rattle.pv_graph.specs.Walks.{In}
 use Rattle.pv_pattern.specs.Seen.{axiom_seen}
 use Rattle.pv_match.specs.declared.found.Match.{Match}
 use Rattle.pv_match.specs.All.{AreMatchesOf}
+use Rattle.pv_match.specs.Gathering.{AreTooMany}
 use Rattle.pv_match.proofs.AllOf.{where_none}
+use Rattle.pv_match.proofs.Parts.{finds_over}
 use Rattle.pv_match.proofs.finder.Finder.find_in.Goals as goal
 
 on_true : (b : Bool) (P : Type 0) → b ≡ true → OnTrue b P → P
@@ -16,13 +18,16 @@ on_false b P e h = subst (λ (v : Bool). OnFalse v P) e h
 
 pub loop-n-init : goal.loop-n-init
 loop-n-init g c = record {
-  few = subst (λ (ks : List Match). length ks ≤ c.args.self.now.limit) (sym c.requires.empty) (omega arith);
-  found = λ assumed marks. subst (λ (ks : List Match). AreMatchesOf c.args.self.now.reader.graph.now c.args.self.now.reader.numbers.now assumed (map axiom_seen c.args.self.now.table.now) [] ks) (sym c.requires.empty)
+  few = subst (λ (ks : List Match). length ks ≤ c.args.self.now.limit) (sym c.new-set.ensures.empty) (omega arith);
+  found = λ assumed marks. subst (λ (ks : List Match). AreMatchesOf c.args.self.now.reader.graph.now c.args.self.now.reader.numbers.now assumed (map axiom_seen c.args.self.now.table.now) [] ks) (sym c.new-set.ensures.empty)
       (where_none c.args.self.now.reader.graph.now c.args.self.now.reader.numbers.now assumed (λ a n. In (map axiom_seen c.args.self.now.table.now) a × In [] n) (λ a n h. h.1));
 }
 
-pub returns-then-is_over-clause-found : goal.returns-then-is_over-clause-found
-returns-then-is_over-clause-found g c assumed marks = (on_true c.in_ok-is_over.is_over _ c.if-is_over.true (c.in_ok-is_over.ensures.found assumed (take c.loop-n.n-index c.args.items.now) marks (c.loop-n.invariant.found assumed marks)).0, tt)
+pub returns-then-is_over : goal.returns-then-is_over
+returns-then-is_over g c assumed marks =
+    let here = c.in_ok-is_over.ensures.found assumed (take c.loop-n.n-index c.args.items.now) marks (c.loop-n.invariant.found assumed marks) in
+    finds_over c.args.self.now.reader.graph.now c.args.self.now.reader.numbers.now assumed (map axiom_seen c.args.self.now.table.now) c.args.self.now.limit c.args.items.now c.in_ok-is_over.is_over c.find_at.new.found.keys c.if-is_over.true
+    (on_true c.in_ok-is_over.is_over (AreTooMany c.args.self.now.reader.graph.now c.args.self.now.reader.numbers.now assumed (map axiom_seen c.args.self.now.table.now) c.args.self.now.limit c.find_at.new.found.keys) c.if-is_over.true here.0)
 
 pub loop-n-preserved : goal.loop-n-preserved
 loop-n-preserved g c = record {
@@ -31,9 +36,6 @@ loop-n-preserved g c = record {
       (on_false c.in_ok-is_over.is_over _ c.if-is_over.false (c.in_ok-is_over.ensures.found assumed (take c.loop-n.n-index c.args.items.now) marks (c.loop-n.invariant.found assumed marks)).1);
 }
 
-pub returns-clause-found : goal.returns-clause-found
-returns-clause-found g c assumed marks =
-    (tt, subst (λ (ns : List ℕ). AreMatchesOf c.args.self.now.reader.graph.now c.args.self.now.reader.numbers.now assumed (map axiom_seen c.args.self.now.table.now) ns c.loop-n.found.keys) (take_all c.loop-n.n-index c.args.items.now c.loop-n-test.false) (c.loop-n.invariant.found assumed marks))
-
-pub returns-clause-few : goal.returns-clause-few
-returns-clause-few g c = c.loop-n.invariant.few
+pub returns : goal.returns
+returns g c assumed marks =
+    (tt, subst (λ (ns : List ℕ). AreMatchesOf c.args.self.now.reader.graph.now c.args.self.now.reader.numbers.now assumed (map axiom_seen c.args.self.now.table.now) ns c.loop-n.set.keys) (take_all c.loop-n.n-index c.args.items.now c.loop-n-test.false) (c.loop-n.invariant.found assumed marks))

@@ -6,7 +6,7 @@ use Rattle.pv_match.proofs.finder.Finder.find_in.Given as goal
 
 abbrev pub invariant-loop-n : goal.invariant-loop-n
 invariant-loop-n g l = record {
-  few : length l.found.keys ≤ l.self.limit;
+  few : length l.set.keys ≤ l.self.limit;
   found : (assumed : List ℕ) → AreClassMarks l.self.reader.graph.now l.self.reader.numbers.now assumed l.self.marks.now
-      → AreMatchesOf l.self.reader.graph.now l.self.reader.numbers.now assumed (map axiom_seen l.self.table.now) (take l.n-index l.items) l.found.keys;
+      → AreMatchesOf l.self.reader.graph.now l.self.reader.numbers.now assumed (map axiom_seen l.self.table.now) (take l.n-index l.items) l.set.keys;
 }

@@ -7,7 +7,7 @@ use Rattle.pv_prove.proofs.Looking.{seen}
 use Rattle.pv_prove.proofs.searches.Searches.look.Goals as goal
 
 pub look_at-requires : goal.look_at-requires
-look_at-requires g c = (search rules, of_other IsBegun c.args.self.now.plain c.args.self.now.other c.requires.1)
+look_at-requires g c = (search rules, (search rules, of_other IsBegun c.args.self.now.plain c.args.self.now.other c.requires.1))
 
 pub returns-in-Some : goal.returns-in-Some
 returns-in-Some g c =

@@ -1,0 +1,5 @@
+use Rattle.pv_check.specs.Checking.{IsSoFar}
+use Rattle.pv_check.proofs.checker.Checker.piece.Given as goal
+
+abbrev pub invariant-loop-k : goal.invariant-loop-k
+invariant-loop-k g l = IsSoFar l.self.least.now.graph l.self.steps.now l.from l.k l.front.tables.innermost.items l.front.tables.opened.items l.front.graph

@@ -3,8 +3,8 @@
 
 It works on the program that `cd crates/punthizha && rt run` leaves, or on the one that the environment variable PUNTHIZHA names, and
 needs a JDK. The pairs of class files are: two sums of some ints in random order and brackets, of which one search is most of the work
-(`tests/wide.py`); the files of a folder of pairs, FOLDER/first/NAME and FOLDER/second/NAME, if one is given; and a class of many
-methods and their twins, as `make` writes them. Each pair is validated by 1, 2, 4 and 16 workers, with a certificate, and the certificate
+(`tests/wide.py`); a class of many methods, each a sum of four ints, and the same sums in another order; and the files of a folder of
+pairs, FOLDER/first/NAME and FOLDER/second/NAME, if one is given. Each pair is validated by 1, 2, 4 and 16 workers, with a certificate, and the certificate
 is checked by as many. Status, report and certificate must be the same each time. It prints the seconds that each number of workers took.
 
     tests/workers.py [METHODS [FOLDER]]      by default 2000 methods
@@ -17,6 +17,7 @@ import sys
 import tempfile
 import time
 
+from cases import sample_class
 from programs import punthizha
 from wide import compiled, pair_of_sums
 
@@ -74,6 +75,23 @@ def wide_pair(work):
     return compiled(os.path.join(work, "first"), [(words, first)])[0], compiled(os.path.join(work, "second"), [(words, second)])[0]
 
 
+def sum_code(order):
+    """The code that adds the parameters of these numbers, from the left, and returns the sum, in hexadecimal."""
+    loads = [f"{0x1A + it:02x}" for it in order]
+    return loads[0] + "".join(f"{load}60" for load in loads[1:]) + "ac"
+
+
+def many_sums(work, methods):
+    """The class files of this many methods, each a sum of four ints, and of the same sums in other orders."""
+    chance, paths = random.Random(7), []
+    for name in ("many", "others"):
+        words = [f"m{it},(IIII)I,0009,2,4,{sum_code(chance.sample(range(4), 4))}" for it in range(methods)]
+        paths.append(os.path.join(work, name))
+        with open(paths[-1], "wb") as file:
+            file.write(sample_class(words, {}))
+    return tuple(paths)
+
+
 def folder_pairs(folder):
     """The pairs of files of one name below two folders."""
     found = []
@@ -87,15 +105,11 @@ def folder_pairs(folder):
 
 
 def main():
-    methods = sys.argv[1] if len(sys.argv) > 1 else "2000"
+    methods = int(sys.argv[1]) if len(sys.argv) > 1 else 2000
     with tempfile.TemporaryDirectory() as work:
         cert = os.path.join(work, "cert")
         wrong = compared("sums of thirteen ints", [wide_pair(work)], cert)
-        made = os.path.join(work, "plain"), os.path.join(work, "twins")
-        said, _ = ran("make", "7", methods, *made)
-        if said[0]:
-            sys.exit(f"make ended with {said[0]}: {said[1].decode()}")
-        wrong += compared(f"{methods} methods and their twins", [made], cert)
+        wrong += compared(f"{methods} sums of four ints", [many_sums(work, methods)], cert)
         if len(sys.argv) > 2:
             wrong += compared(sys.argv[2], folder_pairs(sys.argv[2]), cert)
     sys.exit(1 if wrong else 0)

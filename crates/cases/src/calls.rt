@@ -70,9 +70,10 @@ pub fn answer<R: Files + Threads + Sync>(rt: &R, bench: &Bench, line: &str) -> A
         "cleared-root" => roots::cleared_root(bench, rest),
 
         "cert" => certs::cert(bench, rest),
-        "section" => sections::section(bench, rest),
-        "steps" => sections::steps(bench, rest),
-        "trim" => sections::trim(bench, rest),
+        "section" => sections::section(rt, bench, rest),
+        "pieces" => sections::pieces(rt, bench, rest),
+        "steps" => sections::steps(rt, bench, rest),
+        "trim" => sections::trim(rt, bench, rest),
 
         "run" => runs::running(rt, bench, rest),
         "meets" => runs::meeting(rt, bench, rest),

@@ -3,6 +3,7 @@
 //! | Line | Answer |
 //! |---|---|
 //! | `section BYTES; METHOD ..; METHOD ..` | for each section of the certificate whether it is accepted over the least graph of the roots of two methods, the first of each class, or the step for which it is rejected; or the verdict on the two where they don't both have a root, or the fault of the certificate |
+//! | `pieces WORKERS MEETINGS BYTES; METHOD ..; METHOD ..` | as `section`, by this many workers and a gate for this many meetings; then whether it `met`, and how often it was passed |
 //! | `steps BYTES; METHOD ..; METHOD ..` | for each step of the sections, in order, whether it is `right` or `wrong` over that graph; else as `section` |
 //! | `trim BYTES; METHOD ..; METHOD ..` | for each section what `section` answers; after `Accepted`, also the lines of the section without the steps that nothing needs, and what `section` answers of these; else as `section` |
 //!
@@ -14,18 +15,20 @@ ghost use Rattle.pv_report.specs.Judging.{IsRead};
 
 use cases_files::samples::class_of;
 use cases_words::answers::{Answer, List, NoAnswer, shown};
-use cases_words::bench::{Bench, words};
+use cases_words::bench::{Bench, number, words};
 use pv_alike::Least;
 use pv_axioms::Axioms;
-use pv_base::OpenGate;
+use pv_base::{Gate, MeetGate, OpenGate};
 use pv_cert::{Cert, CertFault, Section, read_cert, write_cert};
 use pv_check::{Checked, Checker};
 use pv_class::{ClassFault, ClassFile, read_class};
 use pv_list::Listed;
+use pv_pieces::Workers;
 use pv_report::{Verdict, least_roots};
 use pv_steps::Step;
 use pv_value::{Memory, Name};
 use std::alloc::Global;
+use std::thread::Threads;
 
 // What a line asks of sections: whether each is accepted, whether each step is right, or what is left of each.
 #[derive(Clone, Copy)]
@@ -36,22 +39,48 @@ enum Question {
 }
 
 /// `section BYTES; METHOD ..; METHOD ..`
-pub fn section(bench: &Bench, rest: &str) -> Answer {
-    asked(bench, Question::Accepted, rest)
+pub fn section<R: Threads + Sync>(rt: &R, bench: &Bench, rest: &str) -> Answer {
+    asked(&alone(rt), bench, Question::Accepted, rest)
+}
+
+/// `pieces WORKERS MEETINGS BYTES; METHOD ..; METHOD ..`
+pub fn pieces<R: Threads + Sync>(rt: &R, bench: &Bench, rest: &str) -> Answer {
+    let alloc = bench.alloc();
+    let (count, rest) = rest.split_once(' ').ok_or(NoAnswer::Unreadable)?;
+    let (meetings, rest) = rest.split_once(' ').ok_or(NoAnswer::Unreadable)?;
+    let count = number(count)?;
+    if count == 0 {
+        return Err(NoAnswer::Unreadable);
+    }
+    let gate = MeetGate::new(number(meetings)?);
+    let workers = Workers::new(rt, &gate, count);
+    let answer = asked(&workers, bench, Question::Accepted, rest)?;
+    let met = if gate.met() { "met" } else { "missed" };
+    Ok(format!(in alloc; "{answer}; {met}, {} calls", gate.calls())?)
 }
 
 /// `steps BYTES; METHOD ..; METHOD ..`
-pub fn steps(bench: &Bench, rest: &str) -> Answer {
-    asked(bench, Question::Right, rest)
+pub fn steps<R: Threads + Sync>(rt: &R, bench: &Bench, rest: &str) -> Answer {
+    asked(&alone(rt), bench, Question::Right, rest)
 }
 
 /// `trim BYTES; METHOD ..; METHOD ..`
-pub fn trim(bench: &Bench, rest: &str) -> Answer {
-    asked(bench, Question::Left, rest)
+pub fn trim<R: Threads + Sync>(rt: &R, bench: &Bench, rest: &str) -> Answer {
+    asked(&alone(rt), bench, Question::Left, rest)
+}
+
+// One worker, and a gate that is always open.
+fn alone<R>(rt: &R) -> Workers<'_, R, OpenGate> {
+    Workers::new(rt, &OpenGate, 1)
 }
 
 // `BYTES; METHOD ..; METHOD ..`
-fn asked(bench: &Bench, question: Question, rest: &str) -> Answer {
+fn asked<R: Threads + Sync, G: Gate>(
+    workers: &Workers<R, G>,
+    bench: &Bench,
+    question: Question,
+    rest: &str,
+) -> Answer {
     let alloc = bench.alloc();
     let (bytes, methods) = rest.split_once(';').ok_or(NoAnswer::Unreadable)?;
     let (first, second) = methods.split_once(';').ok_or(NoAnswer::Unreadable)?;
@@ -63,13 +92,19 @@ fn asked(bench: &Bench, question: Question, rest: &str) -> Answer {
     let first = with_method(bench, first)?;
     let second = with_method(bench, second)?;
     match first_roots(alloc, &first, &second)? {
-        Ok(roots) => answered(alloc, question, &roots, cert.sections.as_slice()),
+        Ok(roots) => answered(workers, alloc, question, &roots, cert.sections.as_slice()),
         Err(verdict) => shown(alloc, verdict),
     }
 }
 
 // What is answered on the sections over a least graph.
-fn answered(alloc: Global, question: Question, roots: &Least, sections: &[Section]) -> Answer
+fn answered<R: Threads + Sync, G: Gate>(
+    workers: &Workers<R, G>,
+    alloc: Global,
+    question: Question,
+    roots: &Least,
+    sections: &[Section],
+) -> Answer
     requires made { IsWellMade roots.now.graph }
     requires sealed { roots.now.graph.is_open ≡ false }
     requires first { roots.now.first < length roots.now.graph.nodes }
@@ -81,11 +116,11 @@ fn answered(alloc: Global, question: Question, roots: &Least, sections: &[Sectio
         let checker = Checker::new(&axioms, roots, section.steps.as_slice());
         match question {
             Question::Accepted => {
-                let answer = checker.check(alloc, &OpenGate)?;
+                let answer = checker.check(workers, alloc)?;
                 list.add(shown(alloc, answer)?.as_str())?;
             }
             Question::Right => add_steps(alloc, &checker, &mut list)?,
-            Question::Left => add_left(alloc, &axioms, roots, section, &mut list)?,
+            Question::Left => add_left(workers, alloc, &axioms, roots, section, &mut list)?,
         }
     }
     list.into_text()
@@ -103,7 +138,8 @@ fn add_steps(alloc: Global, checker: &Checker, list: &mut List) -> Result<(), No
 }
 
 // Puts the answer on a section; where it is accepted, also the lines of what is left of it, and the answer on that.
-fn add_left(
+fn add_left<R: Threads + Sync, G: Gate>(
+    workers: &Workers<R, G>,
     alloc: Global,
     axioms: &Axioms,
     roots: &Least,
@@ -116,11 +152,11 @@ fn add_left(
     requires second { roots.now.second < length roots.now.graph.nodes }
 {
     let checker = Checker::new(axioms, roots, section.steps.as_slice());
-    let answer = checker.check(alloc, &OpenGate)?;
+    let answer = checker.check(workers, alloc)?;
     list.add(shown(alloc, answer)?.as_str())?;
     if let Checked::Accepted = answer {
         let steps = pv_trim::trim(alloc, roots, &section.steps)?;
-        let again = Checker::new(axioms, roots, steps.as_slice()).check(alloc, &OpenGate)?;
+        let again = Checker::new(axioms, roots, steps.as_slice()).check(workers, alloc)?;
         add_lines(alloc, section, steps, list)?;
         list.add(shown(alloc, again)?.as_str())?;
     }

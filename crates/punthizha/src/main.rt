@@ -1,5 +1,5 @@
-//! The program: `punthizha validate [--rounds N] [--budget N] [--cert FILE] A B` and `punthizha check A B CERT` over real files and
-//! standard output.
+//! The program: `punthizha` with the words `validate`, `check`, `compose`, `check-chain` or `refute` and what follows each, as `pv_top`
+//! says, over real files and standard output.
 //!
 //! It hands the words of the command line after the program's name to `pv_top::run`, and exits with
 //! its status as a number.

@@ -17,9 +17,11 @@ use pv_cert::Section;
 use pv_check::{Checked, Checker};
 use pv_class::ClassFile;
 use pv_frame::Cause;
+use pv_pieces::Workers;
 use pv_report::{Side, partner_of};
 use pv_value::Memory;
 use std::alloc::Global;
+use std::thread::Threads;
 
 /// What is said of two sections on one name and descriptor: the first for a class and the middle one, the second for that and the last.
 #[derive(Clone, Copy, Debug, PartialEq, Eq)]
@@ -54,9 +56,9 @@ pub(crate) struct Places {
 }
 
 /// What is said of two sections for three classes.
-pub(crate) fn find<G: Gate>(
+pub(crate) fn find<R: Threads + Sync, G: Gate>(
+    workers: &Workers<R, G>,
     alloc: Global,
-    gate: &G,
     axioms: &Axioms,
     classes: &Classes,
     section: &Section,
@@ -80,7 +82,7 @@ pub(crate) fn find<G: Gate>(
         middle,
         last,
     };
-    find_on(alloc, gate, axioms, classes, at, section, other)
+    find_on(workers, alloc, axioms, classes, at, section, other)
 }
 
 // The place in a class of the partner of the method at a place of another class.
@@ -94,9 +96,9 @@ fn partner_in(first: &ClassFile, method: usize, second: &ClassFile) -> Result<Op
 }
 
 // What is said of two sections on three methods, each at its place in its class.
-fn find_on<G: Gate>(
+fn find_on<R: Threads + Sync, G: Gate>(
+    workers: &Workers<R, G>,
     alloc: Global,
-    gate: &G,
     axioms: &Axioms,
     classes: &Classes,
     at: Places,
@@ -118,10 +120,10 @@ fn find_on<G: Gate>(
         Ok(least) => least,
         Err(refused) => return Ok(refused_at(refused, Stage::Middle, Stage::Last)),
     };
-    if let Checked::Rejected(n) = check(alloc, gate, axioms, &one, section)? {
+    if let Checked::Rejected(n) = check(workers, alloc, axioms, &one, section)? {
         return Ok(LinkFinding::Rejected(Side::First, n));
     }
-    if let Checked::Rejected(n) = check(alloc, gate, axioms, &two, other)? {
+    if let Checked::Rejected(n) = check(workers, alloc, axioms, &two, other)? {
         return Ok(LinkFinding::Rejected(Side::Second, n));
     }
     Ok(LinkFinding::Equivalent)
@@ -163,9 +165,9 @@ fn refused_at(refused: RefusedSide, one: Stage, two: Stage) -> LinkFinding
 }
 
 // Whether the steps of a section derive that the roots of a least graph are equal.
-fn check<G: Gate>(
+fn check<R: Threads + Sync, G: Gate>(
+    workers: &Workers<R, G>,
     alloc: Global,
-    gate: &G,
     axioms: &Axioms,
     least: &Least,
     section: &Section,
@@ -174,5 +176,5 @@ fn check<G: Gate>(
     ensures { IfOk result (λ answer. IsChecked least.now section.now answer) }
 {
     let checker = Checker::new(axioms, least, section.steps.as_slice());
-    checker.check(alloc, gate)
+    checker.check(workers, alloc)
 }

@@ -9,7 +9,7 @@
 //!
 //! The layer above uses the clauses of `compose`: the text and the status are those of the bytes that were fetched
 //! (`ComposesFetched` of `specs/Reading`), and there is a chain, which is theirs (`ChainsFetched`), exactly where the status says so;
-//! that of `check_chain`: the text and the status are those of the bytes that were fetched (`ChainRulesFetched`), whatever the gate;
+//! that of `check_chain`: the text and the status are those of the bytes that were fetched (`ChainRulesFetched`), whatever the workers;
 //! and that a line `.. equivalent` is true of the first and the last class (`law_equivalent`, or `link_meaning` of `proofs/Cited`).
 //! `Made` is private to this crate.
 #![tactic(auto)]

@@ -21,18 +21,20 @@ use pv_axioms::Axioms;
 use pv_base::Gate;
 use pv_cert::Section;
 use pv_chain::Chain;
+use pv_pieces::Workers;
 use pv_report::{Answer, Fetched, Pair, Status, bad_class, read_pair};
 use pv_value::Memory;
 use std::alloc::Global;
+use std::thread::Threads;
 
 /// What is said of two files and a chain between them: a line for each section of its first certificate that has one of the same name
 /// and descriptor in the second, in the order of the first; or one line on the first of the two files that is no class file, or else
 /// on the chain where it has no reading or a certificate of it names other files. The limit of the first two fetches is `LONGEST_FILE`,
-/// that of the third `LONGEST_CHAIN`. The gate is passed before each step of a section, and changes no answer. Out of memory is the one
-/// error.
-pub fn check_chain<G: Gate>(
+/// that of the third `LONGEST_CHAIN`. The steps of a section are checked by pieces at once, and workers change no answer. Out of memory
+/// is the one error.
+pub fn check_chain<R: Threads + Sync, G: Gate>(
+    workers: &Workers<R, G>,
     alloc: Global,
-    gate: &G,
     first: &Fetched,
     last: &Fetched,
     chain: &Fetched,
@@ -50,11 +52,16 @@ pub fn check_chain<G: Gate>(
     if !is_between(&chain, bytes_of(first), bytes_of(last)) {
         return Ok(bad_chain(alloc, ChainFlaw::Digest)?);
     }
-    report_on(alloc, gate, pair, &chain)
+    report_on(workers, alloc, pair, &chain)
 }
 
 // What is said of the links of a chain between two classes.
-fn report_on<G: Gate>(alloc: Global, gate: &G, pair: Pair, chain: &Chain) -> Result<Answer, Memory>
+fn report_on<R: Threads + Sync, G: Gate>(
+    workers: &Workers<R, G>,
+    alloc: Global,
+    pair: Pair,
+    chain: &Chain,
+) -> Result<Answer, Memory>
     requires read { IsReadPair pair }
     requires fits { Fits chain.now }
     ensures { IfOk result (λ answer. IsSaidOf pair chain.now answer.text.items answer.status) }
@@ -68,7 +75,7 @@ fn report_on<G: Gate>(alloc: Global, gate: &G, pair: Pair, chain: &Chain) -> Res
         chain.first.sections.as_slice(),
         chain.second.sections.as_slice(),
     );
-    let said = said_of(alloc, gate, &classes, sections, others)?;
+    let said = said_of(workers, alloc, &classes, sections, others)?;
     let status = status_of(&said.findings);
     Ok(Answer {
         text: said.text,
@@ -84,9 +91,9 @@ struct Said {
 }
 
 // What is said of the sections that have one like them among the others, in their order.
-fn said_of<G: Gate>(
+fn said_of<R: Threads + Sync, G: Gate>(
+    workers: &Workers<R, G>,
     alloc: Global,
-    gate: &G,
     classes: &Classes,
     sections: &[Section],
     others: &[Section],
@@ -99,7 +106,7 @@ fn said_of<G: Gate>(
     let mut text = Vec::new(alloc);
     for section in sections {
         if let Some(other) = like_in(section, others) {
-            let finding = find(alloc, gate, &axioms, classes, section, other)?;
+            let finding = find(workers, alloc, &axioms, classes, section, other)?;
             push_link(alloc, &mut text, section, finding)?;
             findings.push(finding)?;
         }

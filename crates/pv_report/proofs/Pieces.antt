@@ -1,5 +1,5 @@
 -- What is found of the methods one after another, and in pieces.
-use Rattle.std.proofs.Common.{◌≡◌, ℕ, ◌<◌, List, [], ◌∷◌, ◌++◌, length, suc, Option, refl, sym, ap, subst, ◌∙◌, arith}
+use Rattle.std.proofs.Common.{◌≡◌, ℕ, ◌<◌, List, [], ◌∷◌, ◌++◌, length, suc, sym, ap, subst, ◌∙◌, arith}
 use Rattle.std.specs.Prelude.{Result, Ok, IfOk, slice_index_or}
 use Rattle.std.specs.List.{AllZip}
 use Rattle.std.proofs.Math.Seq.{get_or-append_seam}
@@ -11,7 +11,6 @@ use Rattle.pv_pieces.specs.Cut.{joined}
 use Rattle.pv_report.specs.declared.judged.Judgements.{Judgements}
 use Rattle.pv_report.specs.declared.pair.Pair.{Pair}
 use Rattle.pv_report.specs.declared.verdict.Detail.{Detail}
-use Rattle.pv_report.specs.declared.verdict.Detail.TheVariants as detail
 use Rattle.pv_report.specs.declared.verdict.Judgement.{Judgement}
 use Rattle.pv_report.specs.declared.verdict.Means.{Means}
 use Rattle.pv_report.specs.declared.verdict.Verdict.{Verdict}

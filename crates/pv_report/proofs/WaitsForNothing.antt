@@ -8,7 +8,7 @@ use Rattle.pv_graph.specs.declared.node.Op.{Op}
 use Rattle.pv_graph.specs.declared.node.Op.TheVariants as op
 use Rattle.pv_graph.specs.Forms.{Form, form}
 use Rattle.pv_graph.specs.Graphs.{Graph, form_at, form_of}
-use Rattle.pv_graph.specs.Ops.{Shape, eval, shape}
+use Rattle.pv_graph.specs.Ops.{eval, shape}
 use Rattle.pv_graph.specs.Walks.{Spine, token, left, right, count}
 use Rattle.pv_steps.specs.Right.{IsPassOrCallEnd}
 use Rattle.pv_endings.specs.Endings.{AreEndingsOf, IsEnding}

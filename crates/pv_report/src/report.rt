@@ -1,7 +1,7 @@
 //! What is said of two files.
 
-ghost use Rattle.std.specs.Prelude.{◌≡◌, ◌↔◌, ◌++◌, ◌∷◌, [], None, Some, length, IfOk, OnOk, IsTrue};
-ghost use Rattle.std.specs.List.{AllZip, flat_map};
+ghost use Rattle.std.specs.Prelude.{◌≡◌, ◌↔◌, None, Some, length, IfOk};
+ghost use Rattle.std.specs.List.{flat_map};
 ghost use Rattle.pv_report.specs.Lines.{bad_class, line_text};
 ghost use Rattle.pv_report.specs.declared.verdict.Graphs.{Graphs};
 ghost use Rattle.pv_report.specs.Report.{IsStatusOf, lines_of};

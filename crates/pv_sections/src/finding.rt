@@ -9,9 +9,11 @@ use pv_axioms::Axioms;
 use pv_base::Gate;
 use pv_cert::Section;
 use pv_check::{Checked, Checker};
+use pv_pieces::Workers;
 use pv_report::{Pair, Verdict, least_roots, partner_of};
 use pv_value::Memory;
 use std::alloc::Global;
+use std::thread::Threads;
 
 /// What is said of a section of a certificate.
 #[derive(Clone, Copy, Debug, PartialEq, Eq)]
@@ -25,9 +27,9 @@ pub enum Finding {
 }
 
 /// What is said of a section for two classes.
-pub(crate) fn find<G: Gate>(
+pub(crate) fn find<R: Threads + Sync, G: Gate>(
+    workers: &Workers<R, G>,
     alloc: Global,
-    gate: &G,
     axioms: &Axioms,
     pair: &Pair,
     section: &Section,
@@ -41,14 +43,14 @@ pub(crate) fn find<G: Gate>(
     };
     match partner_of(&methods.as_slice()[method], &pair.second.methods)? {
         None => Ok(Finding::Verdict(Verdict::Missing)),
-        Some(partner) => find_on(alloc, gate, axioms, pair, method, partner, section),
+        Some(partner) => find_on(workers, alloc, axioms, pair, method, partner, section),
     }
 }
 
 // What is said of a section for two methods at their places.
-fn find_on<G: Gate>(
+fn find_on<R: Threads + Sync, G: Gate>(
+    workers: &Workers<R, G>,
     alloc: Global,
-    gate: &G,
     axioms: &Axioms,
     pair: &Pair,
     method: usize,
@@ -65,7 +67,7 @@ fn find_on<G: Gate>(
         Err(verdict) => return Ok(Finding::Verdict(verdict)),
     };
     let checker = Checker::new(axioms, &least, section.steps.as_slice());
-    match checker.check(alloc, gate)? {
+    match checker.check(workers, alloc)? {
         Checked::Accepted => Ok(Finding::Verdict(Verdict::Equivalent)),
         Checked::Rejected(n) => Ok(Finding::Rejected(n)),
     }

@@ -17,17 +17,19 @@ use crate::line::{bad_certificate, push_section};
 use pv_axioms::Axioms;
 use pv_base::Gate;
 use pv_cert::Section;
+use pv_pieces::Workers;
 use pv_report::{Answer, Fetched, Pair, Status, Verdict, bad_class, read_pair};
 use pv_value::Memory;
 use std::alloc::{AllocError, Global};
+use std::thread::Threads;
 
 /// What is said of two files and a certificate: a line for each section of the certificate, in its order; or one line on
 /// the first of the two files that is no class file, or else on the certificate where it has no reading or names another
-/// file. The limit of the first two fetches is `LONGEST_FILE`, that of the third `LONGEST_CERT`. The gate is passed before
-/// each step of a section, and changes no answer. Out of memory is the one error.
-pub fn rule<G: Gate>(
+/// file. The limit of the first two fetches is `LONGEST_FILE`, that of the third `LONGEST_CERT`. The steps of a section are checked by
+/// pieces at once, and workers change no answer. Out of memory is the one error.
+pub fn rule<R: Threads + Sync, G: Gate>(
+    workers: &Workers<R, G>,
     alloc: Global,
-    gate: &G,
     first: &Fetched,
     second: &Fetched,
     cert: &Fetched,
@@ -46,16 +48,16 @@ pub fn rule<G: Gate>(
         return Ok(bad_certificate(alloc, flaw)?);
     }
     let sections = cert.sections.as_slice();
-    let findings = findings(alloc, gate, &pair, sections)?;
+    let findings = findings(workers, alloc, &pair, sections)?;
     let text = lines(alloc, sections, &findings)?;
     let status = status_of(&findings);
     Ok(Answer { text, status })
 }
 
 // What is said of the sections, in their order.
-fn findings<G: Gate>(
+fn findings<R: Threads + Sync, G: Gate>(
+    workers: &Workers<R, G>,
     alloc: Global,
-    gate: &G,
     pair: &Pair,
     sections: &[Section],
 ) -> Result<Vec<Finding>, Memory>
@@ -65,7 +67,7 @@ fn findings<G: Gate>(
     let axioms = Axioms::new(alloc)?;
     let mut findings = Vec::new(alloc);
     for section in sections {
-        let finding = find(alloc, gate, &axioms, pair, section)?;
+        let finding = find(workers, alloc, &axioms, pair, section)?;
         findings.push(finding)?;
     }
     Ok(findings)

@@ -11,9 +11,11 @@ use crate::digest::digest_of;
 use pv_base::Gate;
 use pv_cert::{Cert, Section, write_cert};
 use pv_list::Listed;
+use pv_pieces::Workers;
 use pv_report::{Answer, Detail, Fetched, Limits, Report, Status, judge};
 use pv_value::Memory;
 use std::alloc::Global;
+use std::thread::Threads;
 
 /// What is said of two files, and the text of the certificate that shows it, where both are class files.
 #[derive(Drop)]
@@ -25,9 +27,9 @@ pub struct Shown {
 /// What is said of two files, as `judge` says it by searches in least graphs alone, and the certificate that shows it: it names both by their digests (FIPS 180-4,
 /// SHA-256), and has one section for each line `.. equivalent`, in the order of the lines. There is none where one of the two is no
 /// class file. Out of memory is the one error.
-pub fn show<G: Gate>(
+pub fn show<R: Threads + Sync, G: Gate>(
+    workers: &Workers<R, G>,
     alloc: Global,
-    gate: &G,
     limits: Limits,
     first: &Fetched,
     second: &Fetched,
@@ -36,7 +38,7 @@ pub fn show<G: Gate>(
     ensures certificate { IfOk result (λ shown. CertifiesFetched limits first.now second.now shown.certificate) }
     ensures none { IfOk result (λ shown. (shown.certificate ≡ None) ↔ (shown.answer.status ≡ Status.BadClass)) }
 {
-    let Report { answer, sections } = judge(alloc, gate, limits, Detail::Steps, first, second)?;
+    let Report { answer, sections } = judge(workers, alloc, limits, Detail::Steps, first, second)?;
     let certificate = certificate_for(alloc, first, second, sections)?;
     Ok(Shown {
         answer,

@@ -1,8 +1,8 @@
 use Rattle.std.proofs.Common.{rules, ◌≡◌, ℕ, List, length, subst, ap, ◌∙◌, arith}
 use Rattle.std.specs.Prelude.{IfOk}
 use Rattle.pv_class.specs.declared.file.Method.{Method}
-use Rattle.pv_pieces.specs.Cut.{between, joined, nth_piece}
-use Rattle.pv_pieces.proofs.Cited.{between_all, joined_pieces}
+use Rattle.pv_pieces.specs.Cut.{joined, nth_piece}
+use Rattle.pv_pieces.proofs.Cited.{joined_pieces}
 use Rattle.pv_report.specs.Pieces.{AreJudged}
 use Rattle.pv_report.proofs.pairs.judge_all.Goals as goal
 

@@ -1,4 +1,4 @@
-use Rattle.std.proofs.Common.{◌≡◌, ◌<◌, ◌++◌, ◌∷◌, [], List, Some, length, subst, sym, arith}
+use Rattle.std.proofs.Common.{◌≡◌, ◌<◌, List, Some, length, subst, sym, arith}
 use Rattle.std.specs.Prelude.{slice_get}
 use Rattle.pv_class.specs.declared.file.Method.{Method}
 use Rattle.pv_pieces.specs.Cut.{between}

@@ -7,12 +7,10 @@ use Rattle.pv_sections.proofs.finding.find_on.Goals as goal
 pub returns-in-Err : goal.returns-in-Err
 returns-in-Err g c m p here there = lacking c.args.pair.now.first m c.args.pair.now.second p c.args.section.now c.in-Err.verdict (rw c.in-Err.is at (c.in_ok-least.ensures m p here there))
 
-pub check-requires : goal.check-requires
-check-requires g c = (
-  search,
-  subst (λ (l : Rooted). l.graph.is_open ≡ false) (sym c.new-checker.ensures.least)
-      (least_sealed c.args.pair.now.first c.args.pair.now.second c.args.method c.args.partner c.in-Ok.least c.requires.method c.requires.partner (rw c.in-Ok.is at c.in_ok-least.ensures)),
-)
+pub check-requires-clause-sealed : goal.check-requires-clause-sealed
+check-requires-clause-sealed g c κs within =
+    subst (λ (l : Rooted). l.graph.is_open ≡ false) (sym c.new-checker.ensures.least)
+    (least_sealed c.args.pair.now.first c.args.pair.now.second c.args.method c.args.partner c.in-Ok.least c.requires.method c.requires.partner (rw c.in-Ok.is at c.in_ok-least.ensures))
 
 pub returns-in-Accepted : goal.returns-in-Accepted
 returns-in-Accepted g c m p here there =

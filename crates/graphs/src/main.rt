@@ -52,7 +52,7 @@ fn run_words<R: AllocGlobal, F: Files, K: Sink>(
     out: &mut K,
 ) -> Status
     ensures answered { (r : Option Request) → IsRequest (after_name words.now) r → Answered (F.held files.old) r (K.sent out.old) (K.sent out.new) (Rose (F.failures files.old) (F.failures files.new)) (Rose (K.failures out.old) (K.failures out.new)) result }
-    ensures asked { (r : Option Request) → IsRequest (after_name words.now) r → CallsFor r (F.asked files.old) (F.asked files.new) result }
+    ensures asked { (r : Option Request) → IsRequest (after_name words.now) r → CallsFor (F.held files.old) r (F.asked files.old) (F.asked files.new) result }
     ensures held { F.held files.new ≡ F.held files.old }
 {
     let Ok(borrowed) = borrowed(rt.alloc(), words) else {

@@ -18,7 +18,7 @@ use Rattle.pv_draw.specs.declared.answer.Signature.{Signature}
 use Rattle.pv_draw.specs.declared.request.Form.{Form}
 use Rattle.pv_draw.specs.declared.top.Fault.{Fault}
 use Rattle.pv_draw.specs.Requests.{IsRequest, Request}
-use Rattle.pv_draw.specs.Drawn.{Drawn, IsLack, IsLeastOf, drawing, lack_line}
+use Rattle.pv_draw.specs.Drawn.{Drawn, IsLack, HasLeast, drawing, lack_line}
 use Rattle.pv_draw.specs.Run.{IsAnswer, IsDrawnFor, bad_words}
 use Rattle.pv_draw.specs.Reading.{AsksFor, DrawsFetched, IsCause, IsCauseFor}
 use Rattle.pv_draw.proofs.Asking.{one_request}
@@ -30,7 +30,7 @@ pub bad_file : (form : Form) (s : Signature) (first second : Fetched) (bad : Bad
 bad_file form s first second bad text x read e is a b p q = subst (λ (y : Status). Drawn form s a b text y) (sym is) (bad_pair a b bad.side bad.fault text (read a b p q) e)
 
 -- both have one, and this is the least graph
-pub draws : (form : Form) (s : Signature) (first second : Fetched) (pair : Pair) (l : Rooted) (text : List ℕ) → ReadsPair first second (Ok pair) → IsLeastOf pair.first pair.second s l → text ≡ drawing form l → DrawsFetched form s first second text status.AllEquivalent
+pub draws : (form : Form) (s : Signature) (first second : Fetched) (pair : Pair) (l : Rooted) (text : List ℕ) → ReadsPair first second (Ok pair) → HasLeast pair.first pair.second s l → text ≡ drawing form l → DrawsFetched form s first second text status.AllEquivalent
 draws form s first second pair l text read is e a b p q = let both = read a b p q in (pair.first, pair.second, both.0, both.1, (l, is, e))
 
 -- .. or this says why there is none
@@ -52,10 +52,10 @@ module _ (held : Option Stored) (words : List (List ℕ)) (old new : Option (Lis
       by (Ok a) e d = for_each (λ (q : Option Request). IsAnswer held q a.text.items a.status) words None none (e, d)
       by (Err f) e d = tt
 
-  pub nothing_asked : IsRequest words None → (q : Option Request) → IsRequest words q → AsksFor q old old r
-  nothing_asked none = for_each (λ (q : Option Request). AsksFor q old old r) words None none (by r)
+  pub nothing_asked : IsRequest words None → (q : Option Request) → IsRequest words q → AsksFor held q old old r
+  nothing_asked none = for_each (λ (q : Option Request). AsksFor held q old old r) words None none (by r)
     where
-      by : (x : Result Answer Fault) → AsksFor None old old x
+      by : (x : Result Answer Fault) → AsksFor held None old old x
       by (Ok a) = refl
       by (Err f) = refl
 
@@ -74,5 +74,5 @@ module _ (held : Option Stored) (words : List (List ℕ)) (old new : Option (Lis
       by (Ok a) h = tt
       by (Err f) h = for_each (λ (p : Option Request). IsCauseFor p f rose) words (Some q) is h
 
-  pub each_asked : (q : Request) → IsRequest words (Some q) → AsksFor (Some q) old new r → (p : Option Request) → IsRequest words p → AsksFor p old new r
-  each_asked q is asks = for_each (λ (p : Option Request). AsksFor p old new r) words (Some q) is asks
+  pub each_asked : (q : Request) → IsRequest words (Some q) → AsksFor held (Some q) old new r → (p : Option Request) → IsRequest words p → AsksFor held p old new r
+  each_asked q is asks = for_each (λ (p : Option Request). AsksFor held p old new r) words (Some q) is asks

@@ -27,7 +27,7 @@ use Rattle.pv_report.proofs.Cited.{all_at, bad_twice, by_index, classes_not_bad,
 use Rattle.pv_draw.specs.declared.answer.Signature.{Signature}
 use Rattle.pv_draw.specs.declared.request.Form.{Form}
 use Rattle.pv_draw.specs.declared.request.Form.TheVariants.{Listing, Dot}
-use Rattle.pv_draw.specs.Drawn.{AreOf, Drawn, IsLack, IsLeastOf, drawing, lack_line}
+use Rattle.pv_draw.specs.Drawn.{AreNamed, Drawn, IsLack, HasLeast, drawing, lack_line}
 use Rattle.pv_draw.specs.Laws.{DrawnOnce}
 
 -- ---- one drawing
@@ -45,7 +45,7 @@ same_drawing Dot l k same =
 -- ---- one reason why there is none
 
 -- there are no two such methods, or they don't both have a root
-lacking_by : (f g : ClassFile) (s : Signature) (v : Verdict) → IsLack f g s v → ((v ≡ verdict.Missing) × ((m p : Method) → AreOf f g s m p → ⊥)) ⊎ ((m p : Method) × AreOf f g s m p × LackRoots f m g p v)
+lacking_by : (f g : ClassFile) (s : Signature) (v : Verdict) → IsLack f g s v → ((v ≡ verdict.Missing) × ((m p : Method) → AreNamed f g s m p → ⊥)) ⊎ ((m p : Method) × AreNamed f g s m p × LackRoots f m g p v)
 lacking_by f g s verdict.Missing h = inl (refl, h)
 lacking_by f g s _ h = inr h
 
@@ -67,7 +67,7 @@ module _ (a b : List ℕ) (f g : ClassFile) (a_bytes : AreBytes a) (b_bytes : Ar
   g_bytes : AllByRecursion HasBytes g.methods
   g_bytes = class_bytes b g (by_index b b_bytes) second
 
-  one_method : (m n p q : Method) → AreOf f g s m p → AreOf f g s n q → m ≡ n
+  one_method : (m n p q : Method) → AreNamed f g s m p → AreNamed f g s n q → m ≡ n
   one_method m n p q h k =
       let here = place_of f.methods m h.named.among in
       let there = place_of f.methods n k.named.among in
@@ -75,19 +75,19 @@ module _ (a b : List ℕ) (f g : ClassFile) (a_bytes : AreBytes a) (b_bytes : Ar
       slice_once f.methods there.0 m n (subst (λ (i : ℕ). slice_get f.methods i ≡ Some m) same here.1) there.1
 
   -- what holds of one pair of methods holds of the other
-  on_pair : (P : Method → Method → Type 0) (m n p q : Method) → AreOf f g s m p → AreOf f g s n q → P n q → P m p
+  on_pair : (P : Method → Method → Type 0) (m n p q : Method) → AreNamed f g s m p → AreNamed f g s n q → P n q → P m p
   on_pair P m n p q h k is =
       let same = sym (one_method m n p q h k) in
       let other = partner_once m g.methods q p second.describes.distinct (subst (λ (x : Method). IsPartner x g.methods q) same k.partner) h.partner in
       subst (P m) other (subst (λ (x : Method). P x q) same is)
 
-  m_bytes : (m p : Method) → AreOf f g s m p → HasBytes m
+  m_bytes : (m p : Method) → AreNamed f g s m p → HasBytes m
   m_bytes m p are = all_at HasBytes f.methods m f_bytes are.named.among
 
-  p_bytes : (m p : Method) → AreOf f g s m p → HasBytes p
+  p_bytes : (m p : Method) → AreNamed f g s m p → HasBytes p
   p_bytes m p are = all_at HasBytes g.methods p g_bytes are.partner.among
 
-  least_once : (l k : Rooted) → IsLeastOf f g s l → IsLeastOf f g s k → IsSameRooted l k
+  least_once : (l k : Rooted) → HasLeast f g s l → HasLeast f g s k → IsSameRooted l k
   least_once l k h j =
       one_rooted f h.method g h.partner l k (m_bytes h.method h.partner h.are) (p_bytes h.method h.partner h.are) h.least
       (on_pair (λ (m p : Method). HaveLeast f m g p k) h.method j.method h.partner j.partner h.are j.are j.least)
@@ -110,7 +110,7 @@ module _ (a b : List ℕ) (f g : ClassFile) (a_bytes : AreBytes a) (b_bytes : Ar
             ]
       ]
 
-  not_both : (l : Rooted) (v : Verdict) → IsLeastOf f g s l → IsLack f g s v → ⊥
+  not_both : (l : Rooted) (v : Verdict) → HasLeast f g s l → IsLack f g s v → ⊥
   not_both l v h k =
       elim (lacking_by f g s v k) [
         | inl y ↦ y.1 h.method h.partner h.are
@@ -124,7 +124,7 @@ module _ (a b : List ℕ) (f g : ClassFile) (a_bytes : AreBytes a) (b_bytes : Ar
 -- what is said, by what was read
 data Saying (form : Form) (s : Signature) (a b t : List ℕ) (x : Status) : Type 0 where
   bad : x ≡ status.BadClass → IsBadPair a b t → Saying form s a b t x
-  drawn : x ≡ status.AllEquivalent → (f g : ClassFile) → IsClass a f → IsClass b g → (l : Rooted) → IsLeastOf f g s l → t ≡ drawing form l → Saying form s a b t x
+  drawn : x ≡ status.AllEquivalent → (f g : ClassFile) → IsClass a f → IsClass b g → (l : Rooted) → HasLeast f g s l → t ≡ drawing form l → Saying form s a b t x
   lacking : x ≡ status.Others → (f g : ClassFile) → IsClass a f → IsClass b g → (v : Verdict) → IsLack f g s v → t ≡ lack_line s v → Saying form s a b t x
 
 saying_of : (form : Form) (s : Signature) (a b t : List ℕ) (x : Status) → Drawn form s a b t x → Saying form s a b t x
@@ -148,10 +148,10 @@ module _ (form : Form) (s : Signature) (a b t u : List ℕ) (x y : Status) (a_by
   both (bad e h) (lacking d f g p q v is c) = absurd (not_bad t f g p q h)
   both (drawn e f g p q l is c) (bad d k) = absurd (not_bad u f g p q k)
   both (drawn e f g p q l is c) (drawn d h k i j m it o) =
-      (c ∙ same_drawing form l m (least_once a b f g a_bytes b_bytes p q s l m is (on_classes (λ v w. IsLeastOf v w s m) f g h k p q i j it)) ∙ sym o, e ∙ sym d)
+      (c ∙ same_drawing form l m (least_once a b f g a_bytes b_bytes p q s l m is (on_classes (λ v w. HasLeast v w s m) f g h k p q i j it)) ∙ sym o, e ∙ sym d)
   both (drawn e f g p q l is c) (lacking d h k i j v it o) = absurd (not_both a b f g a_bytes b_bytes p q s l v is (on_classes (λ c d. IsLack c d s v) f g h k p q i j it))
   both (lacking e f g p q v is c) (bad d k) = absurd (not_bad u f g p q k)
-  both (lacking e f g p q v is c) (drawn d h k i j l it o) = absurd (not_both a b f g a_bytes b_bytes p q s l v (on_classes (λ c d. IsLeastOf c d s l) f g h k p q i j it) is)
+  both (lacking e f g p q v is c) (drawn d h k i j l it o) = absurd (not_both a b f g a_bytes b_bytes p q s l v (on_classes (λ c d. HasLeast c d s l) f g h k p q i j it) is)
   both (lacking e f g p q v is c) (lacking d h k i j w it o) =
       (c ∙ ap (lack_line s) (lack_once a b f g a_bytes b_bytes p q s v w is (on_classes (λ c d. IsLack c d s w) f g h k p q i j it)) ∙ sym o, e ∙ sym d)
 

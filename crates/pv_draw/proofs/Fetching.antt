@@ -1,5 +1,6 @@
 -- What is fetched for a request, and what is said of it.
-use Rattle.std.proofs.Common.{◌≡◌, ◌⊎◌, ℕ, zero, suc, ◌<◌, ◌≤◌, List, [], ◌∷◌, length, Option, Some, None, Result, Err, inl, inr, sym, ap, subst, ◌∙◌, arith}
+use Rattle.std.proofs.Common.{◌≡◌, ◌⊎◌, ℕ, zero, suc, ◌<◌, ◌≤◌, List, [], ◌∷◌, length, Option, Some, None, Result, Err, inl, inr, refl, sym, ap, subst, ◌∙◌, arith}
+use Rattle.std.proofs.lemmas.List.{append-nil}
 use Rattle.std.specs.Global.{Vec}
 use Rattle.pv_base.specs.Stored.{Stored, AreBytes}
 use Rattle.pv_base.specs.Outside.{FetchGives, Rose, more, rose_earlier}
@@ -13,8 +14,8 @@ use Rattle.pv_report.specs.declared.status.Status.{Status}
 use Rattle.pv_draw.specs.declared.top.Fault.{Fault}
 use Rattle.pv_draw.specs.declared.top.Fault.TheVariants as fault
 use Rattle.pv_draw.specs.Requests.{Request}
-use Rattle.pv_draw.specs.Run.{AsksSome, Holds, IsDrawnFor, fetch_calls}
-use Rattle.pv_draw.specs.Reading.{AsksFor, DrawsFetched, HoldsFetched, IsCause}
+use Rattle.pv_draw.specs.Run.{AskedFor, Holds, IsDrawnFor, IsThere, fetch_calls}
+use Rattle.pv_draw.specs.Reading.{AsksFor, AsksOne, DrawsFetched, HoldsFetched, IsCause, status_of}
 
 -- ---- a file that is too long
 
@@ -29,18 +30,29 @@ too_long (Some m) name limit r e h = subst (λ (x : Result (Vec ℕ) FileFault).
 
 -- ---- two fetches
 
+more_nothing : {A : Type 0} (o : Option (List A)) → o ≡ more o []
+more_nothing None = refl
+more_nothing (Some xs) = ap Some (sym (append-nil xs))
+
 -- both are answered
 pub both_asked : (r : Request) (old mid new : Option (List Asked)) → mid ≡ more old (Fetch r.first ∷ []) → new ≡ more mid (Fetch r.second ∷ []) → new ≡ more old (fetch_calls r)
 both_asked r old mid new first second = second ∙ ap (λ (o : Option (List Asked)). more o (Fetch r.second ∷ [])) first ∙ more_more old (Fetch r.first ∷ []) (Fetch r.second ∷ [])
 
+-- the first isn't
+pub first_unanswered : (held : Option Stored) (r : Request) (old new : Option (List Asked)) (f : Fault) → AsksOne {T = Fetched} old new (Fetch r.first) (Err f) → AskedFor held r old new (status_of f)
+first_unanswered held r old new fault.Read asks = inl asks
+first_unanswered held r old new fault.Memory (inl same) = (0, same ∙ more_nothing old)
+first_unanswered held r old new fault.Memory (inr one) = (1, one)
+
 -- the second isn't
-pub second_unanswered : (r : Request) (old mid new : Option (List Asked)) → mid ≡ more old (Fetch r.first ∷ []) → (new ≡ mid) ⊎ (new ≡ more mid (Fetch r.second ∷ [])) → AsksSome (Some r) old new
-second_unanswered r old mid new first (inl same) = (1, same ∙ first)
-second_unanswered r old mid new first (inr one) = (2, both_asked r old mid new first one)
+pub second_unanswered : (held : Option Stored) (r : Request) (old mid new : Option (List Asked)) (f : Fault) → IsThere held r.first → mid ≡ more old (Fetch r.first ∷ []) → AsksOne {T = Fetched} mid new (Fetch r.second) (Err f) → AskedFor held r old new (status_of f)
+second_unanswered held r old mid new fault.Read there first asks = inr (there, both_asked r old mid new first asks)
+second_unanswered held r old mid new fault.Memory there first (inl same) = (1, same ∙ first)
+second_unanswered held r old mid new fault.Memory there first (inr one) = (2, both_asked r old mid new first one)
 
 -- where the answer is a fault, some fetches were asked for
-pub some_asked : {T : Type 0} (r : Request) (old new : Option (List Asked)) (answer : Result T Fault) (f : Fault) → answer ≡ Err f → AsksSome (Some r) old new → AsksFor (Some r) old new answer
-some_asked {T} r old new answer f e asks = subst (λ (x : Result T Fault). AsksFor (Some r) old new x) (sym e) asks
+pub some_asked : {T : Type 0} (held : Option Stored) (r : Request) (old new : Option (List Asked)) (answer : Result T Fault) (f cause : Fault) → answer ≡ Err f → f ≡ cause → AskedFor held r old new (status_of cause) → AsksFor held (Some r) old new answer
+some_asked {T} held r old new answer f cause is same asks = subst (λ (x : Result T Fault). AsksFor held (Some r) old new x) (sym is) (subst (λ (x : Fault). AskedFor held r old new (status_of x)) (sym same) asks)
 
 -- a count that rose since, rose since before
 pub cause_since : (f : Fault) (old mid new : ℕ) → old ≤ mid → IsCause f (Rose mid new) → IsCause f (Rose old new)

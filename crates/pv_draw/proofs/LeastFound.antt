@@ -13,7 +13,7 @@ use Rattle.pv_report.specs.Partners.{IsNamed, IsPartner}
 use Rattle.pv_report.specs.Verdicts.{LackRoots}
 use Rattle.pv_report.proofs.Cited.{contains_here, place_of, slice_once}
 use Rattle.pv_draw.specs.declared.answer.Signature.{Signature}
-use Rattle.pv_draw.specs.Drawn.{AreOf, IsLack}
+use Rattle.pv_draw.specs.Drawn.{AreNamed, IsLack}
 use Rattle.pv_draw.specs.Reading.{IsLeastFor}
 
 -- no method has them
@@ -39,11 +39,11 @@ module _ (f g : ClassFile) (s : Signature) (k : ℕ) (x : Method) (read : IsRead
   pub no_partner : ((p : Method) → IsPartner x g.methods p → ⊥) → IsLack f g s verdict.Missing
   no_partner none m p are = none p (subst (λ (n : Method). IsPartner n g.methods p) (named_once m are.named) are.partner)
 
-  lacking : (p : Method) (v : Verdict) → AreOf f g s x p → LackRoots f x g p v → IsLack f g s v
+  lacking : (p : Method) (v : Verdict) → AreNamed f g s x p → LackRoots f x g p v → IsLack f g s v
   lacking p verdict.Missing are lack = absurd lack
   lacking p _ are lack = (x, p, are, lack)
 
-  by_places : (p : Method) (r : Result Rooted Verdict) → AreOf f g s x p → (j : ℕ) → slice_get g.methods j ≡ Some p → IsLeastOnPlaces f k g j r → IsLeastFor f g s r
+  by_places : (p : Method) (r : Result Rooted Verdict) → AreNamed f g s x p → (j : ℕ) → slice_get g.methods j ≡ Some p → IsLeastOnPlaces f k g j r → IsLeastFor f g s r
   by_places p (Ok l) are j there h = record { method = x; partner = p; are = are; least = h x p at there }
   by_places p (Err v) are j there h = lacking p v are (h x p at there)
 

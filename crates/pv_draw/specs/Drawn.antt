@@ -20,21 +20,21 @@ use Rattle.pv_draw.specs.declared.request.Form.{Form}
 use Rattle.pv_draw.specs.declared.request.Form.TheVariants.{Listing, Dot}
 
 -- the method of the first class with this name and descriptor, and its partner in the second
-pub record AreOf (first second : ClassFile) (s : Signature) (m p : Method) : Type 0 where
+pub record AreNamed (first second : ClassFile) (s : Signature) (m p : Method) : Type 0 where
   pub named : IsNamed s.name s.desc first.methods m
   pub partner : IsPartner m second.methods p
 
 -- the least graph of their roots
-pub record IsLeastOf (first second : ClassFile) (s : Signature) (l : Rooted) : Type 0 where
+pub record HasLeast (first second : ClassFile) (s : Signature) (l : Rooted) : Type 0 where
   pub method : Method
   pub partner : Method
-  pub are : AreOf first second s method partner
+  pub are : AreNamed first second s method partner
   pub least : HaveLeast first method second partner l
 
 -- why there is none: there are no two such methods, or they don't both have a root
 abbrev pub IsLack : ClassFile → ClassFile → Signature → Verdict → Type 0
-IsLack first second s Missing = (m p : Method) → AreOf first second s m p → ⊥
-IsLack first second s v = (m p : Method) × AreOf first second s m p × LackRoots first m second p v
+IsLack first second s Missing = (m p : Method) → AreNamed first second s m p → ⊥
+IsLack first second s v = (m p : Method) × AreNamed first second s m p × LackRoots first m second p v
 
 -- a graph with two roots, in a form
 abbrev pub drawing : Form → Rooted → List ℕ
@@ -52,7 +52,7 @@ OfClasses a b Is = (first second : ClassFile) × IsClass a first × IsClass b se
 -- The text for the bytes of two files, and the status: the least graph; or why there is none; or the first of the two files that has
 -- no reading.
 abbrev pub Drawn : Form → Signature → List ℕ → List ℕ → List ℕ → Status → Type 0
-Drawn form s a b text AllEquivalent = OfClasses a b (λ first second. (l : Rooted) × IsLeastOf first second s l × (text ≡ drawing form l))
+Drawn form s a b text AllEquivalent = OfClasses a b (λ first second. (l : Rooted) × HasLeast first second s l × (text ≡ drawing form l))
 Drawn form s a b text Others = OfClasses a b (λ first second. (v : Verdict) × IsLack first second s v × (text ≡ lack_line s v))
 Drawn form s a b text BadClass = IsBadPair a b text
 Drawn form s a b text status = ⊥

@@ -7,6 +7,7 @@ use Rattle.pv_base.specs.declared.outside.Asked.{Asked}
 use Rattle.pv_class.specs.declared.file.ClassFile.{ClassFile}
 use Rattle.pv_report.specs.declared.pair.Fetched.{Fetched}
 use Rattle.pv_report.specs.declared.status.Status.{Status}
+use Rattle.pv_report.specs.declared.status.Status.TheVariants as status
 use Rattle.pv_report.specs.declared.verdict.Verdict.{Verdict}
 use Rattle.pv_report.specs.Judging.{IsFetched}
 use Rattle.pv_words.specs.Words.{Give}
@@ -16,8 +17,8 @@ use Rattle.pv_draw.specs.declared.request.Given.{Given}
 use Rattle.pv_draw.specs.declared.top.Fault.{Fault}
 use Rattle.pv_draw.specs.declared.top.Fault.TheVariants as fault
 use Rattle.pv_draw.specs.Requests.{Request, form_by, graphs_words, IsShown}
-use Rattle.pv_draw.specs.Drawn.{Drawn, IsLack, IsLeastOf}
-use Rattle.pv_draw.specs.Run.{AsksAll, AsksSome, Holds}
+use Rattle.pv_draw.specs.Drawn.{Drawn, IsLack, HasLeast}
+use Rattle.pv_draw.specs.Run.{AskedFor, Holds, fetch_calls}
 
 -- ---- words
 
@@ -46,10 +47,10 @@ abbrev pub IsCause : Fault → Type 0 → Type 0
 IsCause fault.Read rose = rose
 IsCause fault.Memory rose = Unit {0}
 
--- a call is in the record; one that isn't answered may not be
+-- a call is in the record; one for which memory runs out may not be
 abbrev pub AsksOne : {T : Type 0} → Option (List Asked) → Option (List Asked) → Asked → Result T Fault → Type 0
-AsksOne old new call (Ok x) = new ≡ more old (call ∷ [])
-AsksOne old new call (Err f) = (new ≡ old) ⊎ (new ≡ more old (call ∷ []))
+AsksOne old new call (Err fault.Memory) = (new ≡ old) ⊎ (new ≡ more old (call ∷ []))
+AsksOne old new call result = new ≡ more old (call ∷ [])
 
 -- ---- the answer
 
@@ -59,13 +60,19 @@ DrawsFetched form s first second text status = (a b : List ℕ) → IsFetched fi
 
 -- the least graph of the methods with this name and descriptor, or why there is none
 abbrev pub IsLeastFor : ClassFile → ClassFile → Signature → Result Rooted Verdict → Type 0
-IsLeastFor first second s (Ok l) = IsLeastOf first second s l
+IsLeastFor first second s (Ok l) = HasLeast first second s l
 IsLeastFor first second s (Err v) = IsLack first second s v
 
+-- the status that goes with a fault
+abbrev pub status_of : Fault → Status
+status_of fault.Read = status.ReadFault
+status_of fault.Memory = status.Memory
+
 -- all that is to be fetched for a request was asked for, or some of it
-abbrev pub AsksFor : {T : Type 0} → Option Request → Option (List Asked) → Option (List Asked) → Result T Fault → Type 0
-AsksFor r old new (Ok x) = AsksAll r old new
-AsksFor r old new (Err f) = AsksSome r old new
+abbrev pub AsksFor : {T : Type 0} → Option Stored → Option Request → Option (List Asked) → Option (List Asked) → Result T Fault → Type 0
+AsksFor held None old new result = new ≡ old
+AsksFor held (Some r) old new (Ok x) = new ≡ more old (fetch_calls r)
+AsksFor held (Some r) old new (Err f) = AskedFor held r old new (status_of f)
 
 -- words that ask for nothing fetch nothing, so that no fetch fails
 abbrev pub IsCauseFor : Option Request → Fault → Type 0 → Type 0

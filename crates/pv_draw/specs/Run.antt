@@ -57,17 +57,18 @@ Answered held r old new files_rose write_rose result = SaysAnswer held r old new
 abbrev pub fetch_calls : Request → List Asked
 fetch_calls r = Fetch r.first ∷ Fetch r.second ∷ []
 
--- all of them are in the record of calls
-abbrev pub AsksAll : Option Request → Option (List Asked) → Option (List Asked) → Type 0
-AsksAll None old new = new ≡ old
-AsksAll (Some r) old new = new ≡ more old (fetch_calls r)
+-- some bytes stand under the name
+abbrev pub IsThere : Option Stored → List ℕ → Type 0
+IsThere held name = (bytes : List ℕ) × Holds held name bytes
 
--- .. or the first n of them, for some n
-abbrev pub AsksSome : Option Request → Option (List Asked) → Option (List Asked) → Type 0
-AsksSome None old new = new ≡ old
-AsksSome (Some r) old new = (n : ℕ) × (new ≡ more old (take n (fetch_calls r)))
+-- The record of calls grows by both fetches. Where one of them fails, it grows by those up to this one, and the name before it is there;
+-- where memory runs out, by the first n, for some n.
+abbrev pub AskedFor : Option Stored → Request → Option (List Asked) → Option (List Asked) → Status → Type 0
+AskedFor held r old new status.ReadFault = (new ≡ more old (Fetch r.first ∷ [])) ⊎ (IsThere held r.first × (new ≡ more old (fetch_calls r)))
+AskedFor held r old new status.Memory = (n : ℕ) × (new ≡ more old (take n (fetch_calls r)))
+AskedFor held r old new s = new ≡ more old (fetch_calls r)
 
-abbrev pub CallsFor : Option Request → Option (List Asked) → Option (List Asked) → Status → Type 0
-CallsFor r old new status.ReadFault = AsksSome r old new
-CallsFor r old new status.Memory = AsksSome r old new
-CallsFor r old new s = AsksAll r old new
+-- words that ask for nothing fetch nothing
+abbrev pub CallsFor : Option Stored → Option Request → Option (List Asked) → Option (List Asked) → Status → Type 0
+CallsFor held None old new s = new ≡ old
+CallsFor held (Some r) old new s = AskedFor held r old new s

@@ -55,7 +55,7 @@ impl From<AllocError> for Fault {
 /// as a listing, or as Graphviz text. Where there is no such graph, it says why in one line.
 pub fn run<F: Files, K: Sink>(alloc: Global, words: &[&str], files: &mut F, out: &mut K) -> Status
     ensures answered { (r : Option Request) → IsRequest (texts words.now) r → Answered (F.held files.old) r (K.sent out.old) (K.sent out.new) (Rose (F.failures files.old) (F.failures files.new)) (Rose (K.failures out.old) (K.failures out.new)) result }
-    ensures asked { (r : Option Request) → IsRequest (texts words.now) r → CallsFor r (F.asked files.old) (F.asked files.new) result }
+    ensures asked { (r : Option Request) → IsRequest (texts words.now) r → CallsFor (F.held files.old) r (F.asked files.old) (F.asked files.new) result }
     ensures held { F.held files.new ≡ F.held files.old }
 {
     match answer_to(alloc, words, files) {
@@ -69,7 +69,7 @@ pub fn run<F: Files, K: Sink>(alloc: Global, words: &[&str], files: &mut F, out:
 fn answer_to<F: Files>(alloc: Global, words: &[&str], files: &mut F) -> Result<Answer, Fault>
     ensures answer { IfOk result (λ answer. (r : Option Request) → IsRequest (texts words.now) r → IsAnswer (F.held files.old) r answer.text.items answer.status) }
     ensures cause { IfErr result (λ fault. (r : Option Request) → IsRequest (texts words.now) r → IsCauseFor r fault (Rose (F.failures files.old) (F.failures files.new))) }
-    ensures asked { (r : Option Request) → IsRequest (texts words.now) r → AsksFor r (F.asked files.old) (F.asked files.new) result }
+    ensures asked { (r : Option Request) → IsRequest (texts words.now) r → AsksFor (F.held files.old) r (F.asked files.old) (F.asked files.new) result }
     ensures held { F.held files.new ≡ F.held files.old }
 {
     let Some(given) = given_by(alloc, words)? else {
@@ -102,7 +102,7 @@ fn answer_for<F: Files>(
 ) -> Result<Answer, Fault>
     ensures answer { IfOk result (λ answer. IsDrawnFor (F.held files.old) (request_of given.entry signature.now) answer.text.items answer.status) }
     ensures cause { IfErr result (λ fault. IsCause fault (Rose (F.failures files.old) (F.failures files.new))) }
-    ensures asked { AsksFor (Some (request_of given.entry signature.now)) (F.asked files.old) (F.asked files.new) result }
+    ensures asked { AsksFor (F.held files.old) (Some (request_of given.entry signature.now)) (F.asked files.old) (F.asked files.new) result }
     ensures held { F.held files.new ≡ F.held files.old }
 {
     let first = fetch(alloc, given.first, files)?;

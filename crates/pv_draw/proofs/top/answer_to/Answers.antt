@@ -16,7 +16,7 @@ pub returns-in_default-clause-asked : goal.returns-in_default-clause-asked
 returns-in_default-clause-asked g c =
     let words = texts c.args.words.now in
     let none : IsRequest words None = nothing_given words (rw c.in_default.is at c.in_ok-given.ensures) in
-    nothing_asked None words (g.F.Files.asked c.args.files.now) None c.bad_words.result none
+    nothing_asked (g.F.Files.held c.args.files.now) words (g.F.Files.asked c.args.files.now) None c.bad_words.result none
 
 pub returns-in_default-2-clause-answer : goal.returns-in_default-2-clause-answer
 returns-in_default-2-clause-answer g c =
@@ -30,7 +30,7 @@ returns-in_default-2-clause-asked g c =
     let words = texts c.args.words.now in
     let given : AreGiven words (Some c.in-Some.given) = rw c.in-Some.is at c.in_ok-given.ensures in
     let none : IsRequest words None = nothing_shown words c.in-Some.given given (rw c.in_default-2.is at c.in_ok-signature.ensures) in
-    nothing_asked None words (g.F.Files.asked c.args.files.now) None c.bad_words-in_default-2.result none
+    nothing_asked (g.F.Files.held c.args.files.now) words (g.F.Files.asked c.args.files.now) None c.bad_words-in_default-2.result none
 
 pub returns-clause-answer : goal.returns-clause-answer
 returns-clause-answer g c =
@@ -51,4 +51,4 @@ returns-clause-asked g c =
     let words = texts c.args.words.now in
     let given : AreGiven words (Some c.in-Some.given) = rw c.in-Some.is at c.in_ok-given.ensures in
     let is : IsRequest words (Some (request_of c.in-Some.given c.in-Some-2.signature)) = is_request words c.in-Some.given c.in-Some-2.signature given (rw c.in-Some-2.is at c.in_ok-signature.ensures) in
-    each_asked None words _ _ c.answer_for.result (request_of c.in-Some.given c.in-Some-2.signature) is c.answer_for.ensures.asked
+    each_asked (g.F.Files.held c.args.files.now) words _ _ c.answer_for.result (request_of c.in-Some.given c.in-Some-2.signature) is c.answer_for.ensures.asked

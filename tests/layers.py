@@ -14,7 +14,7 @@ import crates
 # The layers from the top, each with its crates from left to right.
 LAYERS = [
     ("programs", ["punthizha", "graphs"]),
-    ("commands", ["pv_top", "pv_words"]),
+    ("commands", ["pv_top", "pv_draw", "pv_words"]),
     ("reports", ["pv_links", "pv_sections", "pv_differences", "pv_report", "pv_drawings"]),
     ("certificates made", ["pv_certify", "pv_explain", "pv_writer", "pv_paths", "pv_trim"]),
     ("the search", ["pv_prove", "pv_grounds", "pv_rounds", "pv_saturate", "pv_closings"]),

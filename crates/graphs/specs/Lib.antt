@@ -1,0 +1,2 @@
+-- the vocabulary of private functions
+pub mod CommandLine

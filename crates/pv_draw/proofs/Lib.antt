@@ -1,0 +1,5 @@
+mod Asking
+mod Fetching
+mod LeastFound
+mod Answering
+mod DrawnOnce

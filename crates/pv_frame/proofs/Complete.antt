@@ -182,13 +182,13 @@ text_of_use pool o i j texts e =
     no_class None j e = cc
     no_class (Some c) j e = cc
 
-    no_other : (b : Bool) → (if b then use_of_class (class_name_under pool i) else use_of_member (member_under pool i)) ≡ used.Constant (constant.Text j) → ⊥
-    no_other true e = no_class (class_name_under pool i) j e
-    no_other false e = no_constant (member_under pool i) j e
-
     no_constant : (m : Option Member) (j : ℕ) → use_of_member m ≡ used.Constant (constant.Text j) → ⊥
     no_constant None j e = cc
     no_constant (Some m) j e = cc
+
+    no_other : (b : Bool) → (if b then use_of_class (class_name_under pool i) else use_of_member (member_under pool i)) ≡ used.Constant (constant.Text j) → ⊥
+    no_other true e = no_class (class_name_under pool i) j e
+    no_other false e = no_constant (member_under pool i) j e
 
 -- an instruction of a well-formed pool does something or has a cause
 pub acts_or_caused : (pool : List Entry) → HasTexts pool → (i : Insn) → IsFormed i → ((a : Action) → Acts pool i (use_of pool i) a → ⊥) → ((k : CauseKind) → IsCauseOf pool i k → ⊥) → ⊥

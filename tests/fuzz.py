@@ -43,7 +43,7 @@ BYTES = bytes((0, 1, 2, 0x7F, 0x80, 0xFE, 0xFF))
 
 SHOWN = r"(?:[!-$&-~]|%[0-9A-F]{2})+|%-"
 NAMED = rf"(?:{SHOWN}) (?:{SHOWN})"
-METHOD = r"(?:handler|monitor|long-code|slots|float|code|allocation|type-test|dynamic|ref-store|subroutine|constant|types|blocks|irreducible|depth) at \d+"
+METHOD = r"(?:handler|monitor|long-code|slots|float|code|allocation|dynamic|subroutine|constant|types|blocks|irreducible|depth) at \d+"
 FILE = r"(?:truncated|magic|version|pool-tag|pool-utf8|pool-reference|descriptor|code|duplicate|trailing|too-long) at \d+"
 TEXT = r"(?:truncated|header|line \d+|too-long"
 EQUAL = "equivalent"

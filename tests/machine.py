@@ -2,8 +2,9 @@
 """Runs methods by the machine of `pv_machine` and by a JVM, and compares how they end.
 
 It works on the program that `cd crates/cases && rt run < stdin` leaves, and on the `java` on the path. The
-methods are random ones of ints and longs, with arithmetic, branches, switches and loops that end, and the
-static methods of java.lang that take and give ints and longs and name nothing in the constant pool.
+methods are random ones of ints and longs, with arithmetic, branches, switches and loops that end, the
+static methods of java.lang that take and give ints and longs and name nothing in the constant pool, and random
+ones that cast and test an array and an object of classes of java.lang and store references into the array.
 
     tests/machine.py [SEED [METHODS [ARGUMENTS]]]      by default 1, 2000 methods, 50 lists of arguments each
 """
@@ -25,13 +26,29 @@ STEPS = 1000000
 PARAMS = "IIJ"
 INTS, LONGS, COUNTERS, LOCALS = [0, 1, 4, 5], [2, 6], [8, 9, 10], 11
 
+# Classes of objects, with those of java.lang, Object apart, that an object of them is of too.
+SUPERS = {"Object": [], "Integer": ["Number", "Comparable"], "String": ["CharSequence", "Comparable"], "Thread": ["Runnable"]}
+# The classes that casts and type tests name, by the descriptors of arrays and by names.
+TESTED = ["Object", "Number", "Integer", "String", "Comparable", "CharSequence", "Runnable", "Cloneable", "[Object", "[Number", "[Comparable"]
+OBJECTS_PARAMS = ["[Ljava/lang/Object;", "I", "Ljava/lang/Object;"]
+# The references of the array and of the object, and of the objects of the literals that a failed cast and a failed store throw.
+ARRAY, OBJECT, CAST, STORE = 3, 4, 8, 9
+
 JAVA = """
 import java.io.*; import java.lang.reflect.*; import java.nio.file.*; import java.util.*;
 public class Runs {
     static class Loader extends ClassLoader {
         Class<?> of(byte[] b) { return defineClass(null, b, 0, b.length); }
     }
-    static Object arg(Class<?> t, String s) {
+    static Class<?> named(String s) throws Exception { return Class.forName("java.lang." + s); }
+    static Object made(String s) throws Exception {
+        if (s.equals("null")) return null;
+        if (s.startsWith("[")) return Array.newInstance(named(s.substring(1)), 1);
+        return s.equals("Integer") ? (Object) 7 : s.equals("String") ? "s" : named(s).getConstructor().newInstance();
+    }
+    static Object arg(Class<?> t, String s) throws Exception {
+        if (t == Object.class) return made(s);
+        if (t == Object[].class) return s.equals("null") ? null : Array.newInstance(named(s.split(":")[0]), Integer.parseInt(s.split(":")[1]));
         long n = Long.parseLong(s);
         if (t == int.class) return (int) n;
         if (t == long.class) return n;
@@ -45,6 +62,14 @@ public class Runs {
         if (o instanceof Boolean) return "Returned(Some(Int(" + ((Boolean) o ? 1 : 0) + ")))";
         if (o instanceof Character) return "Returned(Some(Int(" + (int) (Character) o + ")))";
         return "Returned(Some(Int(" + o + ")))";
+    }
+    static String thrown(Throwable e) {
+        if (e instanceof ArithmeticException) return "Threw(Arith)";
+        if (e instanceof NullPointerException) return "Threw(Null)";
+        if (e instanceof ArrayIndexOutOfBoundsException) return "Threw(Index)";
+        if (e instanceof ClassCastException) return "Threw(Thrown(8))";
+        if (e instanceof ArrayStoreException) return "Threw(Thrown(9))";
+        return "Threw(" + e + ")";
     }
     static String desc(Method m) {
         return java.lang.invoke.MethodType.methodType(m.getReturnType(), m.getParameterTypes()).toMethodDescriptorString();
@@ -71,7 +96,7 @@ public class Runs {
             try {
                 out.println(shown(m.invoke(null, args)));
             } catch (InvocationTargetException e) {
-                out.println(e.getCause() instanceof ArithmeticException ? "Threw(Arith)" : "Threw(" + e.getCause() + ")");
+                out.println(thrown(e.getCause()));
             }
         }
         out.flush();
@@ -297,6 +322,58 @@ def random_code(seed):
     return result, c.bytes()
 
 
+def full_name(class_):
+    """The name of a class of java.lang, or of an array of such, as a Class of the constant pool has it."""
+    return f"[Ljava/lang/{class_[1:]};" if class_.startswith("[") else f"java/lang/{class_}"
+
+
+def supers(class_):
+    """All classes that an object of this class is of (JVMS 6.5, instanceof)."""
+    if class_.startswith("["):
+        return {"Object", "Cloneable"} | {"[" + name for name in supers(class_[1:])}
+    return {"Object", class_, *SUPERS[class_]}
+
+
+# The entries of the constant pool with these classes, for a line of `machine`.
+TESTED_POOL = f"pool={2 * len(TESTED)}," + "+".join(
+    f"01{len(full_name(name)):04X}+'{full_name(name).replace(';', '%3B')}+07{8 + 2 * k:04X}" for k, name in enumerate(TESTED)
+)
+
+
+def random_tests(r):
+    """A code with casts, type tests and stores: the array in local 0, an index in 1, the object in 2, and what the tests gave in 3."""
+    class_ = lambda: (0, 9 + 2 * r.randrange(len(TESTED)))
+    code = [3, 62]
+    for _ in range(r.randint(1, 6)):
+        kind = r.randrange(5)
+        value = r.choice([42, 44, 44, 44])
+        index = r.choice([27, 27, 3, 4])
+        if kind <= 1:
+            code += [value, 193, *class_(), 29, 4, 120, 96, 62]
+        elif kind == 2:
+            code += [value, 192, *class_(), 87]
+        elif kind == 3:
+            code += [42, index, r.choice([1, value, value, value]), 83]
+        else:
+            code += [42, index, 50, 77]
+    return bytes(code + [29, 172])
+
+
+def types_world(array, value):
+    """What the world tells of an array and an object of these classes, either of which may be None, for null."""
+    one = "Ljava/lang/Object%3B"
+    steps = [f"literal %FFcast {CAST}", f"literal %FFstore {STORE}"]
+    if array:
+        steps.append(f"length {ARRAY} {array[1]}")
+    objects = [(ARRAY, supers("[" + array[0]) if array[0] in SUPERS else {"Object", "Cloneable", "[Object", "[" + array[0]})] if array else []
+    objects += [(OBJECT, supers(value))] if value else []
+    for n, classes in objects:
+        steps += [f"returns {full_name(name).replace(';', '%3B')} %FFis ({one})Z 1 static:A:x:I 0 {n}R" for name in TESTED if name in classes]
+        if array and array[0] in classes:
+            steps.append(f"returns %FFarray %FFfits ({one}{one})Z 1 static:A:x:I 0 {ARRAY}R {n}R")
+    return "; ".join(steps)
+
+
 def class_file(methods):
     pool = []
 
@@ -310,6 +387,10 @@ def class_file(methods):
     this = entry(b"\x07" + struct.pack(">H", text("G")))
     top = entry(b"\x07" + struct.pack(">H", text("java/lang/Object")))
     code_name = text("Code")
+    # the classes that codes name stand from 9 on, as after the name and the descriptor of one method
+    text("-"), text("-")
+    for name in TESTED:
+        entry(b"\x07" + struct.pack(">H", text(full_name(name))))
     body = b""
     for name, desc, stack, local, code in methods:
         body += struct.pack(">HHHH", 9, text(name), text(desc), 1)
@@ -389,6 +470,8 @@ def main():
             result, code = random_code(seed * 1000003 + k)
             methods.append(("G", f"m{k}", PARAMS, result, 40, LOCALS, code))
         own = [(name, f"({params}){result}", stack, local, code) for _, name, params, result, stack, local, code in methods]
+        tests = [(f"t{k}", random_tests(r)) for k in range(count)]
+        own += [(name, f"({''.join(OBJECTS_PARAMS)})I", 5, 4, code) for name, code in tests]
         open(os.path.join(work, "G.class"), "wb").write(class_file(own))
         known = list(jdk_methods(work))
         machine, jvm = [], []
@@ -398,6 +481,14 @@ def main():
                 words = " ".join(f"{n}L" if t == "J" else str(n) for t, n in zip(params, args))
                 machine.append(f"machine {STEPS} {words}; f,({params}){result},0009,{stack},{local},{code.hex().upper()}")
                 jvm.append(f"{owner} {name} ({params}){result} " + " ".join(map(str, args)))
+        for name, code in tests:
+            for _ in range(lists):
+                array = r.choice([None] + [(element, r.randint(0, 3)) for element in ("Object", "Number", "Integer", "String", "Comparable")] * 4)
+                value = r.choice([None] + [*SUPERS, "[Integer", "[String"] * 4)
+                index = r.choice([0, 0, 0, 1, 2, -1])
+                words = f"{ARRAY if array else 0}R {index} {OBJECT if value else 0}R"
+                machine.append(f"machine {STEPS} {words}; {TESTED_POOL} f,({''.join(OBJECTS_PARAMS).replace(';', '%3B')})I,0009,5,4,{code.hex().upper()}; {types_world(array, value)}")
+                jvm.append(f"G {name} ({''.join(OBJECTS_PARAMS)})I {':'.join(map(str, array)) if array else 'null'} {index} {value or 'null'}")
         open(os.path.join(work, "Runs.java"), "w").write(JAVA)
         open(os.path.join(work, "lines"), "w").write("\n".join(jvm) + "\n")
         told = subprocess.run(
@@ -411,7 +502,7 @@ def main():
     for k in wrong[:10]:
         print(jvm[k], machine[k], ours[k] if k < len(ours) else "-", theirs[k] if k < len(theirs) else "-")
     threw = sum(line.startswith("Threw") for line in theirs)
-    print(f"{len(machine)} runs of {count} random methods and {len(known)} of java.lang, {threw} threw, {len(wrong)} differ")
+    print(f"{len(machine)} runs of {count} random methods and {len(known)} of java.lang, {count} with types, {threw} threw, {len(wrong)} differ")
     sys.exit(1 if wrong else 0)
 
 

@@ -2,9 +2,9 @@
 """Compares the values of roots with the machine's runs, on random methods.
 
 It works on the program that `cd crates/cases && rt run < stdin` leaves. A method is a few blocks of random actions
-on ints, longs, an array, a field, a static field and calls, static ones and on a receiver, each of which branches on
-to later blocks, or returns or throws. With --loops it has loops up to three deep, tested at the top, at the bottom, or entered at a test below,
-which are left from inside too; each iteration counts itself in the static field. For random arguments, heaps and
+on ints, longs, an array, a field, a static field, calls, static ones and on a receiver, casts, type tests and an array of references, each of which
+branches on to later blocks, or returns or throws. With --loops it has loops up to three deep, tested at the top, at the bottom, or entered at a test below,
+which are left from inside too; each iteration counts itself in the static field. For random arguments, heaps, facts about types and
 replies of one call the program says how the machine's run of the method ends (`machine`) and what the value of its
 root is (`root`): the two lines must be the same, and None where the call has no reply. With --cleared it is the root of the
 cleared graph, from which the tokens that end because of counted loops are gone (`cleared-root`): where the run ends, it must have that value too.
@@ -24,16 +24,18 @@ STEPS = 3000
 SECONDS = 5
 
 # Of the constant pool's entries: the field f of A, an int, as a static one and as one of an object, and the method
-# f of A, without parameters and result, of a class and of an interface.
-ENTRIES = "010001+'I+0C00050008+0900020009+010003+'()V+0C0005000B+0A0002000C+0B0002000C"
+# f of A, without parameters and result, of a class and of an interface; and the class B.
+ENTRIES = "010001+'I+0C00050008+0900020009+010003+'()V+0C0005000B+0A0002000C+0B0002000C+010001+'B+07000F"
 FIELD, CALL, INTERFACE_CALL = 0x0A, 0x0D, 0x0E
+# The classes A and B, by their indices.
+CLASSES = {"A": 0x02, "B": 0x10}
 
-# The parameters: two ints, a long, an array of ints and an object, then locals of the method's own.
-PARAMS = "IIJ[ILA%3B"
-INTS, LONGS, ARRAY, OBJECT = [0, 1, 6, 7], [2, 8], 4, 5
-LOCALS = 10
+# The parameters: two ints, a long, an array of ints, an object and an array of objects, then locals of the method's own.
+PARAMS = "IIJ[ILA%3B[LA%3B"
+INTS, LONGS, ARRAY, OBJECT, OBJECTS = [0, 1, 7, 8], [2, 9], 4, 5, 6
+LOCALS = 11
 # A loop's counter, by its depth, and how often a loop's body has begun.
-COUNTERS, COUNT = [10, 11, 12], 13
+COUNTERS, COUNT = [11, 12, 13], 14
 
 INT_OPS = [0x60, 0x64, 0x68, 0x78, 0x7A, 0x7C, 0x7E, 0x80, 0x82]
 LONG_OPS = [0x61, 0x65, 0x69, 0x7F, 0x81, 0x83]
@@ -62,7 +64,7 @@ class Block:
 
 def push_int(r, b, known, depth=0):
     """Puts the code of an int on the stack."""
-    kind = r.randrange(12) if depth < 3 else r.randrange(3)
+    kind = r.randrange(13) if depth < 3 else r.randrange(3)
     if kind == 0:
         n = r.randrange(-128, 128)
         b.put(0x10, n & 0xFF)
@@ -84,10 +86,31 @@ def push_int(r, b, known, depth=0):
         b.put(0x94)
     elif kind == 10:
         b.put(*r.choice([(0xB2, 0, FIELD), (0x19, OBJECT, 0xB4, 0, FIELD), (0x19, ARRAY, 0xBE)]))
+    elif kind == 11:
+        push_object(r, b, known, depth + 1)
+        b.put(0xC1, 0, r.choice(list(CLASSES.values())))
     else:
         b.put(0x19, ARRAY)
         push_index(r, b, known, depth + 1)
         b.put(0x2E)
+
+
+def push_object(r, b, known, depth):
+    """Puts the code of a reference on the stack: null, the object, the array of objects, one of its elements, or a cast of one of these."""
+    kind = r.randrange(8)
+    if kind == 0:
+        b.put(0x01)
+    elif kind <= 4:
+        b.put(0x19, OBJECT)
+    elif kind == 5:
+        b.put(0x19, OBJECTS)
+    elif kind == 6 or depth > 2:
+        b.put(0x19, OBJECTS)
+        push_index(r, b, known, depth + 1)
+        b.put(0x32)
+    else:
+        push_object(r, b, known, depth + 1)
+        b.put(0xC0, 0, r.choice(list(CLASSES.values())))
 
 
 def push_index(r, b, known, depth):
@@ -118,7 +141,7 @@ def push_long(r, b, known, depth=0):
 
 def act(r, b, known, counted=False):
     """Puts the code of one statement; where iterations are counted, it leaves the static field."""
-    kind = r.randrange(10)
+    kind = r.randrange(12)
     if counted and kind == 6:
         kind = 7
     if kind <= 3:
@@ -145,6 +168,14 @@ def act(r, b, known, counted=False):
         push_index(r, b, known, 1)
         push_int(r, b, known)
         b.put(0x4F)
+    elif kind == 9:
+        b.put(0x19, OBJECTS)
+        push_index(r, b, known, 1)
+        push_object(r, b, known, 1)
+        b.put(0x53)
+    elif kind == 10:
+        push_object(r, b, known, 1)
+        b.put(0xC0, 0, r.choice(list(CLASSES.values())), *r.choice([(0x57,), (0x3A, OBJECT)]))
     else:
         b.put(*r.choice([(0x00,), (0x15, 0, 0x59, 0x58), (0x15, 0, 0x15, 1, 0x5F, 0x57, 0x57)] + CALLS))
 
@@ -155,7 +186,7 @@ def method(r):
     blocks = [Block() for _ in range(count + 1)]
     # what each block may read: what all blocks that lead to it know
     known = [None] * (count + 1)
-    known[0] = {0, 1, 2, ARRAY, OBJECT}
+    known[0] = {0, 1, 2, ARRAY, OBJECT, OBJECTS}
 
     def leads(k, names):
         known[k] = set(names) if known[k] is None else known[k] & names
@@ -163,7 +194,7 @@ def method(r):
     for k, b in enumerate(blocks):
         names = known[k]
         if names is None:
-            names = {0, 1, 2, ARRAY, OBJECT}
+            names = {0, 1, 2, ARRAY, OBJECT, OBJECTS}
         for _ in range(r.randrange(4)):
             act(r, b, names)
         later = list(range(k + 1, count + 1))
@@ -293,7 +324,7 @@ def looped(r):
     """The bytes of a random method's code with loops."""
     m = Looped(r)
     b = m.last()
-    b.put(0x1A, 0x36, 6, 0x1B, 0x36, 7, 0x20, 0x37, 8, 0x03, 0x36, COUNT)
+    b.put(0x1A, 0x36, INTS[2], 0x1B, 0x36, INTS[3], 0x20, 0x37, LONGS[1], 0x03, 0x36, COUNT)
     m.statements(0, [])
     m.loop(0, [])
     m.statements(0, [])
@@ -333,22 +364,38 @@ def assembled(blocks):
     return bytes(code)
 
 
+def facts(r):
+    """What is known of types at the start: of most objects of which class they are, and whether they fit the array of objects."""
+    told = lambda symbol, objects, args: f"returns {symbol} ({objects})Z {r.choice([0, 1, 1, 1, 1, 2])} static:A:x:I 0 {args}"
+    one = "Ljava/lang/Object%3B"
+    found = []
+    for n in (4, 5, 7):
+        found += [told(f"{name} %FFis", one, f"{n}R") for name in CLASSES if r.random() < 0.7]
+        if r.random() < 0.8:
+            found.append(told("%FFarray %FFfits", one + one, f"5R {n}R"))
+    return found
+
+
 def setting(r):
     """Arguments, and what is so of the world and of the heap."""
     ints = [r.choice([0, 1, -1, 5, 2**31 - 1, -(2**31), r.randrange(-(2**31), 2**31)]) for _ in range(2)]
     long = r.choice([0, 1, -1, 2**63 - 1, -(2**63), r.randrange(-(2**63), 2**63)])
-    array, thing = (0 if r.random() < 0.05 else n for n in (3, 4))
-    args = f"{ints[0]} {ints[1]} {long}L {array}R {thing}R"
-    steps = [f"length 3 {r.choice([0, 2, 3, 3, 3, 3, 3, 3])}"]
+    array, thing, things = (0 if r.random() < 0.05 else n for n in (3, 4, 5))
+    args = f"{ints[0]} {ints[1]} {long}L {array}R {thing}R {things}R"
+    steps = [f"length {n} {r.choice([0, 2, 3, 3, 3, 3, 3, 3])}" for n in (3, 5)] + ["literal %FFcast 8", "literal %FFstore 9"]
     for place in ("static:A:f:I", "field:4:A:f:I", "int:3:0", "int:3:1"):
         if r.random() < 0.5:
             steps.append(f"put {place} {r.randrange(-9, 10)}")
+    for place in ("ref:5:0", "ref:5:1"):
+        if r.random() < 0.5:
+            steps.append(f"put {place} {r.choice([4, 5, 7])}")
+    steps += facts(r)
     if r.random() < 0.8:
         form = r.choice(["", "%FFv", "%FFs", "%FFi"])
         callee, given = (f"A f{form} (Ljava/lang/Object%3B)V", f" {thing}R") if form else ("A f ()V", "")
         left = f"static:A:f:I {r.randrange(-9, 10)}"
         steps.append(r.choice([f"throws {callee} {r.randrange(1, 9)}{given}", f"returns {callee} - {left}{given}"]))
-    steps += [f"get {place}" for place in ("static:A:f:I", "field:4:A:f:I", "int:3:0", "int:3:1", "int:3:2")]
+    steps += [f"get {place}" for place in ("static:A:f:I", "field:4:A:f:I", "int:3:0", "int:3:1", "int:3:2", "ref:5:0", "ref:5:1")]
     return args, "; ".join(steps)
 
 
@@ -375,7 +422,7 @@ def main():
     lines = []
     for _ in range(count):
         code = looped(r) if loops else method(r)
-        text = f"pool=7,{ENTRIES} f,({PARAMS})I,0009,40,{LOCALS + 4 * loops},{code.hex().upper()}"
+        text = f"pool=9,{ENTRIES} f,({PARAMS})I,0009,40,{LOCALS + 4 * loops},{code.hex().upper()}"
         for _ in range(lists):
             args, steps = setting(r)
             lines.append(f"{STEPS} {args}; {text}; {steps}")

@@ -22,7 +22,7 @@ use Rattle.pv_block.specs.declared.ran.Leaving.{Leaving}
 use Rattle.pv_block.specs.declared.ran.Leaving.TheVariants.{Goes}
 use Rattle.pv_block.specs.declared.ran.Ran.{Ran}
 use Rattle.pv_block.specs.Standing.{Entry, StandsFor, HoldsFor, StandsOver}
-use Rattle.pv_block.specs.Leaving.{state_of, ended, EndsFor, LeavesBy, HasExits, Branches, Switches, LeavesOnNull, LeavesOutside, LeavesOnZero, LeavesOnFault, LeavesOnReceiver, LeavesOn}
+use Rattle.pv_block.specs.Leaving.{state_of, ended, EndsFor, LeavesBy, HasExits, Branches, Switches, LeavesOnNull, LeavesOutside, LeavesOnZero, LeavesOnFault, LeavesOnReceiver, LeavesOnOther, LeavesOnStore, GoesOnAlike, LeavesOn}
 use Rattle.pv_block.proofs.Standing.{grown, stands_on}
 use Rattle.pv_block.proofs.Holding.{holds_on}
 use Rattle.pv_block.proofs.Asked.{first_stands, second_stands}
@@ -100,6 +100,22 @@ module _ (next : ℕ) (old new : Graph) (ends : Ending) (kids : List ℕ) (c : H
       subst (LeavesBy at new.nodes (Some g) ran) (some_of _ _ is) (z at y.part w.part h (Some g) (to next g) (first_stands at old.nodes kids _ _ s) (second_stands at old.nodes kids _ _ _ s) e (goes_exit at old.nodes next c g hold))
   on_store k z result at h g (y ∷ w ∷ v ∷ u ∷ cells) x e s hold acts is = no_some x is
 
+  pub on_store_ref : LeavesOnStore old.nodes kids ends there there new.nodes ran → On act.StoreRef
+  on_store_ref z result at h g [] x e s hold acts is = no_some x is
+  on_store_ref z result at h g (y ∷ []) x e s hold acts is = no_some x is
+  on_store_ref z result at h g (y ∷ w ∷ []) x e s hold acts is = no_some x is
+  on_store_ref z result at h g (y ∷ w ∷ v ∷ []) x e s hold acts is =
+      let exit = goes_exit at old.nodes next c g hold in
+      subst (LeavesBy at new.nodes (Some g) ran) (some_of _ _ is) (z at y.part w.part v.part h (Some g) (to next g) s e exit exit)
+  on_store_ref z result at h g (y ∷ w ∷ v ∷ u ∷ cells) x e s hold acts is = no_some x is
+
+  pub on_cast : (class : List ℕ) → LeavesOnOther class old.nodes (get_or kids 0 0) ends there there new.nodes ran → On (act.Cast class)
+  on_cast class z result at h g [] x e s hold acts is = no_some x is
+  on_cast class z result at h g (y ∷ []) x e s hold acts is =
+      let exit = goes_exit at old.nodes next c g hold in
+      subst (LeavesBy at new.nodes (Some g) ran) (some_of _ _ is) (z at y.part h (Some g) (to next g) (first_stands at old.nodes kids _ _ s) e exit exit)
+  on_cast class z result at h g (y ∷ w ∷ cells) x e s hold acts is = no_some x is
+
   -- what is held after a call has the heap and the token of that, with its value or without
   after_ends : (at : Entry) (h g : parts.Held) (f : Sym) (cells : List parts.Cell) (r : Option JType) → Some (with_result h f cells r) ≡ Some g → HoldsFor at old.nodes c g → EndsFor at old.nodes (ended c) (after_call h f cells)
   after_ends at h g f cells None e x = let y = subst (HoldsFor at old.nodes c) (sym (some_of _ _ e)) x in record { token = y.token; fault = y.clear; result_ = y.unit; heap = y.heap }
@@ -138,6 +154,9 @@ pub record IsOther (a : Action) : Type 0 where
   pub length_ : a ≡ act.Length → ⊥
   pub load : (k : _) → a ≡ act.LoadElement k → ⊥
   pub store : (k : _) → a ≡ act.StoreElement k → ⊥
+  pub store_ref : a ≡ act.StoreRef → ⊥
+  pub cast : (class : _) → a ≡ act.Cast class → ⊥
+  pub one : GoesOnAlike a
   pub call : (d : _) (f : Sym) → a ≡ act.Call d f → ⊥
   pub call_on : (d : _) (f : Sym) → a ≡ act.CallOn d f → ⊥
 
@@ -151,6 +170,9 @@ other_chain result (act.PutField t f) h cells n x o is = absurd (o.put t f refl)
 other_chain result act.Length h cells n x o is = absurd (o.length_ refl)
 other_chain result (act.LoadElement k) h cells n x o is = absurd (o.load k refl)
 other_chain result (act.StoreElement k) h cells n x o is = absurd (o.store k refl)
+other_chain result act.StoreRef h cells n x o is = absurd (o.store_ref refl)
+other_chain result (act.Cast class) h cells n x o is = absurd (o.cast class refl)
+other_chain result (act.InstanceOf class) h cells n x o is = absurd o.one
 other_chain result (act.Call d f) h cells n x o is = absurd (o.call d f refl)
 other_chain result (act.CallOn d f) h cells n x o is = absurd (o.call_on d f refl)
 other_chain result (act.Give s) h cells n x o is = no_some x is

@@ -12,7 +12,7 @@ use Rattle.pv_graph.specs.declared.node.Node.{Node}
 use Rattle.pv_graph.specs.declared.node.OpSort.{OpSort}
 use Rattle.pv_graph.specs.Ops.{word_sort, HaveSorts}
 use Rattle.pv_graph.specs.Graphs.{Graph}
-use Rattle.pv_equations.specs.Flow.{Part, Parts, More}
+use Rattle.pv_equations.specs.Flow.{Part, Parts, NoPart, More}
 use Rattle.pv_terms.specs.Terms.{IsOfSort}
 use Rattle.pv_block.specs.Standing.{Entry, StandsFor, AllStand}
 use Rattle.pv_block.specs.Sorted.{op_sort}
@@ -50,6 +50,18 @@ pub second_stands : (at : Entry) (nodes : List Node) (kids : List ℕ) (p q : Pa
 second_stands at nodes [] p q ps h = absurd h
 second_stands at nodes (k ∷ []) p q ps h = absurd h.1
 second_stands at nodes (k ∷ l ∷ kids) p q ps h = h.1.0
+
+pub third_stands : (at : Entry) (nodes : List Node) (kids : List ℕ) (p q r : Part) → AllStand at nodes kids (More p (More q (More r NoPart))) → StandsFor at nodes (get_or kids 2 0) r
+third_stands at nodes [] p q r h = absurd h
+third_stands at nodes (k ∷ []) p q r h = absurd h.1
+third_stands at nodes (k ∷ l ∷ []) p q r h = absurd h.1.1
+third_stands at nodes (k ∷ l ∷ m ∷ kids) p q r h = h.1.1.0
+
+pub third_sort : (g : Graph) (kids : List ℕ) (s t u : OpSort) (ss : List OpSort) → HaveSorts g.sorts kids (s ∷ t ∷ u ∷ ss) → (2 < length kids) × IsOfSort g (get_or kids 2 0) u
+third_sort g [] s t u ss h = absurd h
+third_sort g (k ∷ []) s t u ss h = absurd h.1
+third_sort g (k ∷ l ∷ []) s t u ss h = absurd h.1.1
+third_sort g (k ∷ l ∷ m ∷ kids) s t u ss h = (omega arith, h.1.1.0)
 
 pub first_sort : (g : Graph) (kids : List ℕ) (s : OpSort) (ss : List OpSort) → HaveSorts g.sorts kids (s ∷ ss) → (0 < length kids) × IsOfSort g (get_or kids 0 0) s
 first_sort g [] s ss h = absurd h

@@ -93,7 +93,7 @@ pub give_exit : (at : Entry) (nodes : List Node) (ends : Ending) (h : parts.Held
 give_exit at nodes ends h value p x v = record { dest = refl; slots_ = ending_slots at nodes (record ends { result = value }) h.token clear_part p h.heap x.token x.fault v x.heap }
 
 pub goes_exit : (at : Entry) (nodes : List Node) (place : ℕ) (c : Held) (g : parts.Held) → HoldsFor at nodes c g → IsExit at nodes (Some g) (Goes place (state_of c)) (to place g)
-goes_exit at nodes place c g x = (g, refl, refl, record { stack = x.stack; locals = x.locals; heap = x.heap; token = x.token })
+goes_exit at nodes place c g x = (g, record { held = g; is = refl; stack = refl; locals = refl }, refl, record { stack = x.stack; locals = x.locals; heap = x.heap; token = x.token })
 
 pub ended_for : (at : Entry) (nodes : List Node) (c : Held) (h : parts.Held) → HoldsFor at nodes c h → EndsFor at nodes (ended c) h
 ended_for at nodes c h x = record { token = x.token; fault = x.clear; result_ = x.unit; heap = x.heap }

@@ -157,6 +157,8 @@ module _ (at : Entry) (nodes : List Node) where
   rearranged_holds (act.Give s) c h g cells ds i n x z e = no_some g e
   rearranged_holds act.Throw c h g cells ds i n x z e = no_some g e
   rearranged_holds (act.Increase k by) c h g cells ds i n x z e = absurd i
+  rearranged_holds (act.Cast class) c h g cells ds i n x z e = absurd i
+  rearranged_holds (act.InstanceOf class) c h g cells ds i n x z e = absurd i
   rearranged_holds (act.Call d f) c h g cells ds i n x z e = absurd i
   rearranged_holds (act.CallOn d f) c h g cells ds i n x z e = absurd i
   rearranged_holds a c h g cells ds i n x z e = absurd (let y = n in cc)

@@ -8,10 +8,12 @@ mod Called
 mod Popped
 mod Reaching
 mod Nodes
+mod Types
 mod Asked
 mod Exits
 mod Ways
 mod Actions
 mod Operands
+mod Casts
 mod Faults
 mod Whole

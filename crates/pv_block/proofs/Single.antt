@@ -51,7 +51,7 @@ int_known e = absurd (cc)
 long_known : IsKnown sort.Long
 long_known e = absurd (cc)
 
-ref_known : IsKnown sort.Ref
+pub ref_known : IsKnown sort.Ref
 ref_known e = absurd (cc)
 
 words_known : (ws : List operation.Word) → AllByRecursion IsKnown (map sort_of_word ws)
@@ -94,6 +94,7 @@ computing_known (act.GetField t f) c e p = (ref_known, tt)
 computing_known (act.PutField t f) c e p = (ref_known, (type_known t p.0.0, tt))
 computing_known (act.LoadElement k) c e p = (ref_known, (int_known, tt))
 computing_known (act.StoreElement k) c e p = (ref_known, (int_known, (kind_known k, tt)))
+computing_known act.StoreRef c e p = (ref_known, (int_known, (ref_known, tt)))
 computing_known act.Length c e p = (ref_known, tt)
 computing_known a c e p = no_some c e
 
@@ -133,6 +134,7 @@ computing_makes (act.GetField t f) c h cells g m e i = makes _ c h cells g refl 
 computing_makes (act.PutField t f) c h cells g m e i = makes _ c h cells g refl e i
 computing_makes (act.LoadElement k) c h cells g m e i = makes _ c h cells g refl e i
 computing_makes (act.StoreElement k) c h cells g m e i = makes _ c h cells g refl e i
+computing_makes act.StoreRef c h cells g m e i = makes _ c h cells g refl e i
 computing_makes act.Length c h cells g m e i = makes _ c h cells g refl e i
 computing_makes a c h cells g m e i = no_some c e
 
@@ -262,6 +264,7 @@ computing_fits (act.LoadElement k) c e p = fits _ _ c e refl (ap Some (kind_sort
 computing_fits (act.StoreElement k) c e p =
     let s = op_sort (sort_of_kind k) in
     fits _ _ c e refl (ap (λ (u : OpSort). exactly (H ∷ A ∷ I ∷ u ∷ []) H (H ∷ A ∷ I ∷ s ∷ [])) (kind_sorts k) ∙ exactly_same (H ∷ A ∷ I ∷ s ∷ []) H)
+computing_fits act.StoreRef c e p = fits _ _ c e refl refl
 computing_fits act.Length c e p = fits _ _ c e refl refl
 computing_fits a c e p = no_some c e
 

@@ -205,8 +205,9 @@ module _ (p : Program) (frames : List (Option Frame)) (well_typed : AreFrames p 
   module _ (g : Graph) (at : Entry) (k : ℕ) (a : Action) (h : parts.Held) (there : IsAt p k a) (typed : HeldAt p frames well_typed clean k h) where
     exit_sorted : (e : Leaving) (x : Exit) → IsExit at g.nodes (acted a h) e x → IsSortedLeaving g (result_sort p.desc.result) e → ((j : ℕ) → x.dest ≡ To j → Contains (successors k a) j) → IsSortedExit g p frames e
     exit_sorted (Goes place c) x (after, is, same, stands) s leads =
-        let t = leads_typed p frames well_typed clean k place a h after there typed is (leads place (sym (ap (λ (e : Exit). e.dest) same))) in
-        (t.frame, t.there, fits_frame g at c after t.frame stands s t.flows)
+        let t = leads_typed p frames well_typed clean k place a h is.held there typed is.is (leads place (sym (ap (λ (e : Exit). e.dest) same))) in
+        let sorts : sorts_held is.held ≡ sorts_held after = cc (is.stack, is.locals) in
+        (t.frame, t.there, fits_frame g at c after t.frame stands s (subst (λ (f : Frame). Flows f t.frame) sorts t.flows))
     exit_sorted (Returns e) x is s leads = s
     exit_sorted (Throws e) x is s leads = s
 

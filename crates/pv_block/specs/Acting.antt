@@ -4,6 +4,7 @@ use Rattle.pv_value.specs.declared.name.Sym.{Sym}
 use Rattle.pv_value.specs.declared.descriptor.Descriptor.{Descriptor}
 use Rattle.pv_value.specs.declared.number.Num.{Num}
 use Rattle.pv_value.specs.declared.number.Num.TheVariants as num
+use Rattle.pv_value.specs.declared.heap.Kind.TheVariants as kind
 use Rattle.pv_value.specs.declared.operation.ScalarOp.TheVariants.{Iadd}
 use Rattle.pv_value.specs.Operations as operation
 use Rattle.pv_frame.specs.declared.sort.Sort.{Sort}
@@ -86,6 +87,7 @@ computing (act.GetField t f) = Some (pushing (op.GetField f) true (sort_of_type 
 computing (act.PutField t f) = Some (writing (op.PutField f))
 computing (act.LoadElement k) = Some (pushing (op.Load k) true (sort_of_kind k))
 computing (act.StoreElement k) = Some (writing (op.Store k))
+computing act.StoreRef = Some (writing (op.Store kind.Ref))
 computing act.Length = Some (pushing op.Length false sort.Int)
 computing a = None
 
@@ -146,11 +148,24 @@ pub record EndsCall (old : Graph) (c : Held) (f : Sym) (kids : List ℕ) (new : 
 abbrev pub Calls : Descriptor → Sym → List Node → Held → List Cell → List Node → Held → Type 0
 Calls d f old before cells new after = (at : Entry) (h : parts.Held) (arguments : List parts.Cell) → HoldsFor at old before h → AllZip (CellStands at old) cells arguments → HoldsFor at new after (with_result h f arguments d.result)
 
+-- ---- casts and type tests
+
+-- a cast leaves its operand
+abbrev pub cast_in : Held → List Cell → Option Held
+cast_in c (cell ∷ []) = Some (push_in (record { sort = sort.Ref; node = cell.node }) c)
+cast_in c cells = None
+
+-- whatever is held in parts, what is held in nodes stands for that with this int on the stack
+abbrev pub PushesInt : ℤ → List Node → Held → List Node → Held → Type 0
+PushesInt n old before new after = (at : Entry) (h : parts.Held) → HoldsFor at old before h → HoldsFor at new after (parts.push h sort.Int (int_part n))
+
 -- ---- several operations
 
--- neither an increase nor a call, which take several operations
+-- neither an increase nor a call, which take several operations, nor a cast or a type test, which choose what they leave by tests
 abbrev pub IsSingle : Action → Type 0
 IsSingle (act.Increase k by) = ⊥
+IsSingle (act.Cast class) = ⊥
+IsSingle (act.InstanceOf class) = ⊥
 IsSingle (act.Call d f) = ⊥
 IsSingle (act.CallOn d f) = ⊥
 IsSingle a = Unit {0}

@@ -18,12 +18,12 @@ use Rattle.pv_graph.specs.declared.node.Node.{Node}
 use Rattle.pv_graph.specs.declared.node.OpSort.TheVariants.{H, T}
 use Rattle.pv_graph.specs.Graphs.{Graph}
 use Rattle.pv_equations.specs.Flow as flow
-use Rattle.pv_equations.specs.Flow.{Part, Exit, Chain, Leave}
+use Rattle.pv_equations.specs.Flow.{Part, Parts, Exit, Chain, Leave}
 use Rattle.pv_terms.specs.Terms.{IsOfSort}
-use Rattle.pv_runs.specs.Held.{parts_of, unit_part, clear_part, null_part, int_part, held_at, acted_on, acted}
+use Rattle.pv_runs.specs.Held.{cell_sort, parts_of, unit_part, clear_part, null_part, int_part, held_at, acted_on, acted}
 use Rattle.pv_runs.specs.Held as parts
 use Rattle.pv_runs.specs.Chains as chains
-use Rattle.pv_runs.specs.Chains.{to, ieq, aeq, compared, test_part, branch, switch, is_zero, narrowed_part, given_chain, unless_null, within, chain_with, last_chain, chain_of}
+use Rattle.pv_runs.specs.Chains.{to, ieq, ilt, aeq, compared, test_part, branch, switch, is_zero, narrowed_part, given_chain, unless_null, within, fits_part, unless_other, asks_class, stores_ref, chain_with, last_chain, chain_of}
 use Rattle.pv_block.specs.declared.held.Cell.{Cell}
 use Rattle.pv_block.specs.declared.held.Held.{Held}
 use Rattle.pv_block.specs.declared.ran.State.{State}
@@ -112,9 +112,16 @@ pub record StateStands (at : Entry) (nodes : List Node) (c : State) (h : parts.H
   pub heap : StandsFor at nodes c.heap h.heap
   pub token : StandsFor at nodes c.token h.token
 
--- the exit goes on with what is held after the action, if it goes on
+-- something is held after the action, and g has the sorts of that: a type test holds one of two numbers
+pub record HasSortsAfter (after : Option parts.Held) (g : parts.Held) : Type 0 where
+  pub held : parts.Held
+  pub is : after ≡ Some held
+  pub stack : map cell_sort held.stack ≡ map cell_sort g.stack
+  pub locals : map cell_sort held.locals ≡ map cell_sort g.locals
+
+-- the exit goes on with what is held after the action, or with other values of the same sorts
 abbrev pub IsExit : Entry → List Node → Option parts.Held → Leaving → Exit → Type 0
-IsExit at nodes after (Goes place c) x = (g : parts.Held) × (after ≡ Some g) × (to place g ≡ x) × StateStands at nodes c g
+IsExit at nodes after (Goes place c) x = (g : parts.Held) × HasSortsAfter after g × (to place g ≡ x) × StateStands at nodes c g
 IsExit at nodes after e x = ExitStands at nodes e x
 
 -- test by test and exit by exit
@@ -159,6 +166,10 @@ pub record AreSortedExits (g : Graph) (s : Sort) (ran : Ran) : Type 0 where
 abbrev pub KeepsSorts : Graph → Leaving → Graph → Ran → Type 0
 KeepsSorts old next new ran = (s : Sort) → IsSortedLeaving old s next → AreSortedExits new s ran
 
+-- .. if these two exits have theirs
+abbrev pub KeepsBothSorts : Graph → Leaving → Leaving → Graph → Ran → Type 0
+KeepsBothSorts old next again new ran = (s : Sort) → IsSortedLeaving old s next → IsSortedLeaving old s again → AreSortedExits new s ran
+
 -- ---- the tests and exits of actions
 
 abbrev pub Branches : Test → ℕ → List Node → List ℕ → Held → Leaving → List Node → Ran → Type 0
@@ -195,6 +206,35 @@ LeavesOnReceiver old o fault before after next new ran = (at : Entry) (p q : Par
     (flow.Test (aeq p null_part) (chains.throw (flow.Of op.FNull refl flow.NoPart) h)
     (flow.Test (flow.Of op.IsClear refl (flow.More q flow.NoPart)) x (Leave (chains.throw q k))))
 
+-- a cast: null goes on, and an object of the class; `next` and `again` are the same exit
+abbrev pub LeavesOnOther : List ℕ → List Node → ℕ → Ending → Leaving → Leaving → List Node → Ran → Type 0
+LeavesOnOther class old o ends next again new ran = (at : Entry) (p : Part) (h : parts.Held) (after : Option parts.Held) (x : Exit)
+    → StandsFor at old o p → EndsFor at old ends h → IsExit at old after next x → IsExit at old after again x → LeavesBy at new after ran (unless_other class p h x)
+
+-- the tests of a store of a reference into an array
+abbrev pub store_tests : Part → Part → Part → Parts
+store_tests a i v =
+    flow.More (aeq a null_part) (flow.More (ilt i (int_part (pos 0))) (flow.More (ieq (ilt i (length_part a)) (int_part (pos 0))) (flow.More (aeq v null_part) (flow.More (fits_part a v) flow.NoPart))))
+
+abbrev pub TestsStore : List Node → ℕ → ℕ → ℕ → List Node → List ℕ → Type 0
+TestsStore old a i v new tests = (at : Entry) (p q r : Part) → StandsFor at old a p → StandsFor at old i q → StandsFor at old v r → AllStand at new tests (store_tests p q r)
+
+-- a store of a reference into an array; `next` and `again` are the same exit
+abbrev pub LeavesOnStore : List Node → List ℕ → Ending → Leaving → Leaving → List Node → Ran → Type 0
+LeavesOnStore old kids ends next again new ran = (at : Entry) (p q r : Part) (h : parts.Held) (after : Option parts.Held) (x : Exit)
+    → AllStand at old kids (flow.More p (flow.More q (flow.More r flow.NoPart))) → EndsFor at old ends h → IsExit at old after next x → IsExit at old after again x → LeavesBy at new after ran (stores_ref p q r h x)
+
+abbrev pub store_exits : Ending → ℕ → ℕ → ℕ → Leaving → Leaving → List Leaving
+store_exits ends null index unfit next again = faulted ends null ∷ faulted ends index ∷ faulted ends index ∷ next ∷ again ∷ faulted ends unfit ∷ []
+
+-- what is held after a type test that finds no object of the class
+abbrev pub not_of : parts.Held → parts.Held
+not_of h = parts.push h sort.Int (int_part (pos 0))
+
+-- a type test: each of its exits has its number
+abbrev pub AsksClass : ℕ → List ℕ → List Node → Held → List ℕ → List Node → Ran → Type 0
+AsksClass next class old held kids new ran = (at : Entry) (p : Part) (h : parts.Held) → HoldsFor at old held h → AllStand at old kids (flow.More p flow.NoPart) → LeavesBy at new (Some (not_of h)) ran (asks_class class p h (to next (not_of h)))
+
 -- the value is that of a method with this result
 abbrev pub Returning : Option JType → List Node → List ℕ → Ending → List Node → Ran → Type 0
 Returning result old kids ends new ran = (at : Entry) (cells : List parts.Cell) (h : parts.Held) (after : Option parts.Held) (c : Chain)
@@ -205,6 +245,11 @@ Throwing old kids ends new ran = (result : Option JType) (at : Entry) (cells : L
     → AllStand at old kids (parts_of cells) → EndsFor at old ends h → last_chain result act.Throw h cells ≡ Some c → LeavesBy at new after ran c
 
 -- ---- the last action
+
+-- each exit that goes on holds the same: a type test has two numbers
+abbrev pub GoesOnAlike : Action → Type 0
+GoesOnAlike (act.InstanceOf class) = ⊥
+GoesOnAlike a = Unit {0}
 
 -- an action that goes on to the place `next`: c is what is held after it, and `ends` what is held without its operands
 abbrev pub LeavesOn : ℕ → Action → List Node → Ending → List ℕ → Held → List Node → Ran → Type 0

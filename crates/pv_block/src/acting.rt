@@ -13,6 +13,7 @@ ghost use Rattle.pv_block.specs.Plain.{IsPlain};
 ghost use Rattle.pv_block.specs.Acting.{popped_in, loaded, shifted, rearranged, kids_of, IsSingle, Computes, ActsOn, Acts};
 
 use crate::calling::called;
+use crate::casting::{cast, with_int};
 use crate::computing::{Operation, computing};
 use crate::held::{Cell, Held};
 use crate::increasing::increased;
@@ -155,7 +156,7 @@ fn compute(
     })
 }
 
-// What is held after an action that is no increase and no call.
+// What is held after an action that is no increase, no call, no cast and no type test.
 fn simply(
     alloc: Global,
     g: &mut Graph,
@@ -200,6 +201,8 @@ pub(crate) fn act_on(
         Action::Call(desc, f) | Action::CallOn(desc, f) => {
             Ok(Some(called(alloc, g, held, desc, f, operands)?))
         }
+        Action::Cast(_) => cast(alloc, held, operands),
+        Action::InstanceOf(_) => Ok(Some(with_int(alloc, g, &held, 0)?)),
         _ => simply(alloc, g, held, action, operands),
     }
 }

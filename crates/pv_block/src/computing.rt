@@ -135,6 +135,7 @@ pub(crate) fn computing(alloc: Global, action: &Action) -> Result<Option<Operati
         Action::PutField(_, f) => Some(writing(Op::PutField(copy_sym(alloc, f)?))),
         Action::LoadElement(kind) => Some(pushing(Op::Load(*kind), true, sort_of_kind(*kind))),
         Action::StoreElement(kind) => Some(writing(Op::Store(*kind))),
+        Action::StoreRef => Some(writing(Op::Store(Kind::Ref))),
         Action::Length => Some(pushing(Op::Length, false, Sort::Int)),
         _ => None,
     })

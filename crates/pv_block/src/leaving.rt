@@ -17,19 +17,22 @@ ghost use Rattle.pv_block.specs.Standing.{StandsOver};
 ghost use Rattle.pv_block.specs.Sorted.{op_sort, IsSorted, AreSorted};
 ghost use Rattle.pv_block.specs.Plain.{IsPlain};
 ghost use Rattle.pv_block.specs.Ran.{result_sort, IsSortedEnding};
-ghost use Rattle.pv_block.specs.Leaving.{state_of, ended, faulted, HasExits, case_exits, AreCaseTests, AreTests, AreSortedExits, KeepsSorts, Branches, Switches, LeavesOnNull, LeavesOutside, LeavesOnZero, LeavesOnFault, LeavesOnReceiver, Returning, Throwing, LeavesOn, GoesOnAs, LeavesAs, GivesResult, AreKnown};
+ghost use Rattle.pv_block.specs.Leaving.{state_of, ended, faulted, HasExits, case_exits, AreCaseTests, AreTests, AreSortedExits, KeepsSorts, Branches, Switches, LeavesOnNull, LeavesOutside, LeavesOnZero, LeavesOnFault, LeavesOnReceiver, LeavesOnOther, TestsStore, LeavesOnStore, store_exits, AsksClass, KeepsBothSorts, GoesOnAlike, Returning, Throwing, LeavesOn, GoesOnAs, LeavesAs, GivesResult, AreKnown};
 
 use crate::acting::{act_on, pop};
+use crate::casting::with_int;
 use crate::computing::copy_sym;
 use crate::held::{Cell, Held};
 use crate::kids::nodes_of;
 use crate::ran::{Ending, Leaving, Ran, State};
 use crate::testing::{ask, equals_int, is_negative, is_null, is_within, is_zero, narrow};
+use crate::typing::{fits, is_of, is_outside, thrown};
 use pv_frame::{Action, Test};
 use pv_graph::{Graph, NodeId, Op};
 use pv_insn::Case;
 use pv_terms::over;
-use pv_value::{JType, Memory, ScalarOp, Sym};
+use pv_types::{cast_text, store_text};
+use pv_value::{JType, Memory, Name, ScalarOp, Sym};
 use std::alloc::Global;
 
 // ---- exits
@@ -312,6 +315,148 @@ fn unless_null_or_thrown(
     Ok(Ran { tests, exits })
 }
 
+// The three exits of two tests.
+fn either(
+    alloc: Global,
+    first: NodeId,
+    second: NodeId,
+    yes: Leaving,
+    also: Leaving,
+    no: Leaving,
+) -> Result<Ran, Memory>
+    ensures { IfOk result (λ ran. HasExits ran (first ∷ second ∷ []) (yes ∷ also ∷ no ∷ [])) }
+{
+    let tests = vec![in alloc; first, second]?;
+    let mut exits = Vec::new(alloc);
+    exits.push(yes)?;
+    exits.push(also)?;
+    exits.push(no)?;
+    Ok(Ran { tests, exits })
+}
+
+// A cast: null goes on, and an object of the class; else it throws. Both exits that go on are the same.
+fn unless_other(
+    alloc: Global,
+    g: &mut Graph,
+    class: &Name,
+    o: NodeId,
+    ends: Ending,
+    next: Leaving,
+    again: Leaving,
+) -> Result<Ran, Memory>
+    requires graph { IsGraph g.old }
+    requires reference { IsOfSort g.old o A }
+    requires ends { IsSortedEnding g.old sort.Unknown ends }
+    ensures stands { IfOk result (λ ran. LeavesOnOther class.now g.old.nodes o ends next again g.new.nodes ran) }
+    ensures sorted { IfOk result (λ ran. KeepsBothSorts g.old next again g.new ran) }
+    ensures grows { Grows g.old g.new }
+{
+    let null = is_null(alloc, g, o)?;
+    let of_class = is_of(alloc, g, class, o)?;
+    let text = cast_text(alloc)?;
+    let fault = thrown(alloc, g, text)?;
+    either(alloc, null, of_class, next, again, faulted(ends, fault))
+}
+
+// The tests of a store of a reference into an array.
+fn store_tests(
+    alloc: Global,
+    g: &mut Graph,
+    a: NodeId,
+    i: NodeId,
+    v: NodeId,
+) -> Result<Vec<NodeId>, Memory>
+    requires graph { IsGraph g.old }
+    requires array { IsOfSort g.old a A }
+    requires index { IsOfSort g.old i I }
+    requires value { IsOfSort g.old v A }
+    ensures stands { IfOk result (λ tests. TestsStore g.old.nodes a i v g.new.nodes tests.items) }
+    ensures sorted { IfOk result (λ tests. AreTests g.new tests.items) }
+    ensures grows { Grows g.old g.new }
+{
+    let no_array = is_null(alloc, g, a)?;
+    let negative = is_negative(alloc, g, i)?;
+    let outside = is_outside(alloc, g, a, i)?;
+    let null = is_null(alloc, g, v)?;
+    let fits = fits(alloc, g, a, v)?;
+    let tests = vec![in alloc; no_array, negative, outside, null, fits]?;
+    Ok(tests)
+}
+
+// The exits of a store of a reference into an array, with the faults of null, of an index out of range, and of a
+// reference that doesn't fit.
+fn store_exits(
+    alloc: Global,
+    ends: Ending,
+    null: NodeId,
+    index: NodeId,
+    unfit: NodeId,
+    next: Leaving,
+    again: Leaving,
+) -> Result<Vec<Leaving>, Memory>
+    ensures { IfOk result (λ exits. exits.items ≡ store_exits ends null index unfit next again) }
+{
+    let mut exits = Vec::new(alloc);
+    exits.push(faulted(ends, null))?;
+    exits.push(faulted(ends, index))?;
+    exits.push(faulted(ends, index))?;
+    exits.push(next)?;
+    exits.push(again)?;
+    exits.push(faulted(ends, unfit))?;
+    Ok(exits)
+}
+
+// A store of a reference into an array: null throws, an index out of range, and a reference that doesn't fit. Both exits
+// that go on are the same.
+fn stores_ref(
+    alloc: Global,
+    g: &mut Graph,
+    kids: &[NodeId],
+    ends: Ending,
+    next: Leaving,
+    again: Leaving,
+) -> Result<Ran, Memory>
+    requires graph { IsGraph g.old }
+    requires sorts { HaveSorts g.old.sorts kids.now (A ∷ I ∷ A ∷ []) }
+    requires ends { IsSortedEnding g.old sort.Unknown ends }
+    ensures stands { IfOk result (λ ran. LeavesOnStore g.old.nodes kids.now ends next again g.new.nodes ran) }
+    ensures sorted { IfOk result (λ ran. KeepsBothSorts g.old next again g.new ran) }
+    ensures grows { Grows g.old g.new }
+{
+    let tests = store_tests(alloc, g, kids[0], kids[1], kids[2])?;
+    let null = over(alloc, g, Op::FNull, &[])?;
+    let index = over(alloc, g, Op::FIndex, &[])?;
+    let text = store_text(alloc)?;
+    let unfit = thrown(alloc, g, text)?;
+    let exits = store_exits(alloc, ends, null, index, unfit, next, again)?;
+    Ok(Ran { tests, exits })
+}
+
+// A type test of an object: it goes on with 0 for null, with 1 for an object of the class, and else with 0.
+fn asks_class(
+    alloc: Global,
+    g: &mut Graph,
+    next: u32,
+    class: &Name,
+    held: &Held,
+    kids: &[NodeId],
+) -> Result<Ran, Memory>
+    requires sorted { IsSorted g.old held.now }
+    requires sorts { HaveSorts g.old.sorts kids.now (A ∷ []) }
+    ensures stands { IfOk result (λ ran. AsksClass next class.now g.old.nodes held.now kids.now g.new.nodes ran) }
+    ensures sorted { IfOk result (λ ran. (s : Sort) → AreSortedExits g.new s ran) }
+    ensures grows { Grows g.old g.new }
+{
+    let no = with_int(alloc, g, held, 0)?;
+    let yes = with_int(alloc, g, held, 1)?;
+    let null = is_null(alloc, g, kids[0])?;
+    let of_class = is_of(alloc, g, class, kids[0])?;
+    let first = going(alloc, next, &no)?;
+    let second = going(alloc, next, &yes)?;
+    let last = going(alloc, next, &no)?;
+    either(alloc, null, of_class, first, second, last)
+}
+
 // ---- actions that end the method
 
 // A return, of a value of the method's type or of none.
@@ -374,32 +519,41 @@ fn exits(
     requires sorts { HaveSorts g.old.sorts kids.now (map op_sort (takes action.now)) }
     requires ends { IsSortedEnding g.old sort.Unknown ends }
     requires after { IsSorted g.old after.now }
+    requires one { GoesOnAlike action.now }
     ensures stands { IfOk result (λ ran. LeavesOn next action.now g.old.nodes ends kids.now after.now g.new.nodes ran) }
     ensures sorted { IfOk result (λ ran. (s : Sort) → AreSortedExits g.new s ran) }
     ensures grows { Grows g.old g.new }
 {
-    let next = going(alloc, next, after)?;
+    let on = going(alloc, next, after)?;
     match action {
-        Action::Branch(test, target) => branch(alloc, g, *test, *target, kids, after, next),
+        Action::Branch(test, target) => branch(alloc, g, *test, *target, kids, after, on),
         Action::Jump(target) => only(alloc, going(alloc, *target, after)?),
         Action::Switch(default, cases) => {
             switch(alloc, g, kids[0], *default, cases.as_slice(), after)
         }
-        Action::Divide(op) => unless_zero(alloc, g, *op, kids[1], ends, next),
-        Action::GetField(_, _) => unless_null(alloc, g, kids[0], ends, next),
-        Action::PutField(_, _) => unless_null(alloc, g, kids[0], ends, next),
-        Action::Length => unless_null(alloc, g, kids[0], ends, next),
-        Action::LoadElement(_) => within(alloc, g, kids[0], kids[1], ends, next),
-        Action::StoreElement(_) => within(alloc, g, kids[0], kids[1], ends, next),
+        Action::Divide(op) => unless_zero(alloc, g, *op, kids[1], ends, on),
+        Action::GetField(_, _) => unless_null(alloc, g, kids[0], ends, on),
+        Action::PutField(_, _) => unless_null(alloc, g, kids[0], ends, on),
+        Action::Length => unless_null(alloc, g, kids[0], ends, on),
+        Action::LoadElement(_) => within(alloc, g, kids[0], kids[1], ends, on),
+        Action::StoreElement(_) => within(alloc, g, kids[0], kids[1], ends, on),
+        Action::StoreRef => {
+            let again = going(alloc, next, after)?;
+            stores_ref(alloc, g, kids, ends, on, again)
+        }
+        Action::Cast(class) => {
+            let again = going(alloc, next, after)?;
+            unless_other(alloc, g, class, kids[0], ends, on, again)
+        }
         Action::Call(_, f) => {
             let fault = call_fault(alloc, g, f, ends.heap, kids)?;
-            unless_thrown(alloc, g, fault, ended(after), next)
+            unless_thrown(alloc, g, fault, ended(after), on)
         }
         Action::CallOn(_, f) => {
             let fault = call_fault(alloc, g, f, ends.heap, kids)?;
-            unless_null_or_thrown(alloc, g, kids[0], fault, ends, ended(after), next)
+            unless_null_or_thrown(alloc, g, kids[0], fault, ends, ended(after), on)
         }
-        _ => only(alloc, next),
+        _ => only(alloc, on),
     }
 }
 
@@ -422,6 +576,9 @@ fn go_on(
     ensures grows { Grows g.old g.new }
 {
     let kids = nodes_of(alloc, operands)?;
+    if let Action::InstanceOf(class) = action {
+        return Ok(Some(asks_class(alloc, g, next, class, &held, &kids)?));
+    }
     let ends = ended(&held);
     let Some(after) = act_on(alloc, g, held, action, operands)? else {
         return Ok(None);

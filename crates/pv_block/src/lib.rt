@@ -9,8 +9,9 @@
 //!
 //! `stack`, `locals` and `takes` are the text of `pv_frame` on cells. `acting` does what an action does
 //! (`ActsOn` in `specs/Acting`): it is one operation, or moves values alone, or an increase of a local
-//! (`increasing`) or a call (`calling`). `along` does one action after the other (`ActsAlong`). `leaving`
-//! has the tests and exits of the last action (`specs/Leaving`), with the tests of `testing`.
+//! (`increasing`), a call (`calling`), or a cast or a type test, which choose by tests what they leave (`casting`). `along` does one action after the other (`ActsAlong`). `leaving`
+//! has the tests and exits of the last action (`specs/Leaving`), with the tests of `testing` and, of what the world tells of types,
+//! of `typing`.
 //!
 //! The layer above uses `run`, for a whole block: its tests, and the slots at its exits as far as their
 //! sorts are known, stand for those of the block's chain, whatever the slots stand for where it begins
@@ -20,6 +21,7 @@
 mod acting;
 mod along;
 mod calling;
+mod casting;
 mod computing;
 mod held;
 mod increasing;
@@ -31,6 +33,7 @@ mod running;
 mod stack;
 mod takes;
 mod testing;
+mod typing;
 
 pub use held::Cell;
 pub use ran::{Ending, Leaving, Ran, State};

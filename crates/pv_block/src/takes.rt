@@ -68,10 +68,12 @@ pub(crate) fn takes(alloc: Global, action: &Action) -> Result<Vec<Sort>, AllocEr
         Action::Switch(_, _) => [Sort::Int].to_vec(alloc),
         Action::Give(Some(sort)) => [*sort].to_vec(alloc),
         Action::Throw | Action::GetField(_, _) | Action::Length => [Sort::Ref].to_vec(alloc),
+        Action::Cast(_) | Action::InstanceOf(_) => [Sort::Ref].to_vec(alloc),
         Action::PutStatic(field, _) => [sort_of_type(*field)].to_vec(alloc),
         Action::PutField(field, _) => [Sort::Ref, sort_of_type(*field)].to_vec(alloc),
         Action::LoadElement(_) => [Sort::Ref, Sort::Int].to_vec(alloc),
         Action::StoreElement(kind) => { [Sort::Ref, Sort::Int, sort_of_kind(*kind)].to_vec(alloc) }
+        Action::StoreRef => [Sort::Ref, Sort::Int, Sort::Ref].to_vec(alloc),
         Action::Call(desc, _) | Action::CallOn(desc, _) => parameter_sorts(alloc, &desc.params),
         Action::Nop
         | Action::Push(_)

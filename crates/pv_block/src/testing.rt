@@ -19,8 +19,8 @@ use pv_terms::over;
 use pv_value::{JType, Memory, ScalarOp};
 use std::alloc::Global;
 
-// A constant int.
-fn int(alloc: Global, g: &mut Graph, n: i32) -> Result<NodeId, Memory>
+/// A constant int.
+pub(crate) fn int(alloc: Global, g: &mut Graph, n: i32) -> Result<NodeId, Memory>
     requires graph { IsGraph g.old }
     ensures stands { IfOk result (λ k. Makes g.new.nodes k (int_part n)) }
     ensures sorted { IfOk result (λ k. IsOfSort g.new k I) }

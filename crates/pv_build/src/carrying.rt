@@ -72,6 +72,7 @@ fn writes_heap(action: &Action) -> bool
         Action::PutStatic(_, _)
         | Action::PutField(_, _)
         | Action::StoreElement(_)
+        | Action::StoreRef
         | Action::Call(_, _)
         | Action::CallOn(_, _) => true,
         _ => false,

@@ -80,10 +80,23 @@ unfolding places_of
 branch_places false t n = same_list (t ∷ n ∷ [])
 branch_places true t n = λ j. (two_turned n t j, two_turned t n j)
 
+-- a place that several exits go to is one member
+once_or_twice : (n : ℕ) → SameMembers (n ∷ n ∷ []) (n ∷ [])
+once_or_twice n j = (λ among. elim (contains_cases n j (n ∷ []) among) [ inl e ↦ (0, omega arith, e) | inr more ↦ more ], λ among. contains_more n j (n ∷ []) among)
+
+once_or_thrice : (n : ℕ) → SameMembers (n ∷ n ∷ n ∷ []) (n ∷ [])
+once_or_thrice n j = (
+  λ among. elim (contains_cases n j (n ∷ n ∷ []) among) [ inl e ↦ (0, omega arith, e) | inr more ↦ (once_or_twice n j).0 more ],
+  λ among. contains_more n j (n ∷ n ∷ []) ((once_or_twice n j).1 among),
+)
+
 same_places : (k : ℕ) (a : Action) → SameMembers (places_of (departures k a)) (successors k a)
 unfolding places_of
 same_places k (act.Branch t target) = branch_places (branches_on_no t) target (suc k)
 same_places k (act.Switch default cases) = subst (λ (places : List ℕ). SameMembers places (default ∷ map (λ c. c.target) cases)) (sym (places_of-switch cases default)) (last_first (map (λ c. c.target) cases) default)
+same_places k act.StoreRef = once_or_twice (suc k)
+same_places k (act.Cast class) = once_or_twice (suc k)
+same_places k (act.InstanceOf class) = once_or_thrice (suc k)
 same_places k a = same_list (successors k a)
 
 -- the places to which the exits of an instruction go are those to which it may lead

@@ -38,8 +38,11 @@ branched true target next = Goes next ∷ Goes target ∷ []
 
 -- The exits of the instruction at place k. Each but the last is that of yes of a test, and the last is that of no of the last test:
 -- a switch asks for each key in turn; a division whether the divisor is 0; an access whether the reference is null, then, to an
--- element, whether the index is negative, and whether it is less than the length; a call whether it threw nothing; a call on a
--- receiver whether that is null, and then whether the callee threw nothing; a throw whether the reference is null (JVMS 6.5).
+-- element, whether the index is negative, and whether it is less than the length; a store of a reference into an array whether the
+-- array is null, whether the index is negative, whether it isn't less than the length, whether the reference is null, and whether it fits;
+-- a cast and a type test whether the reference is null, and whether the object is of the class, and a type test goes on from each with
+-- the number that it gives; a call whether it threw nothing; a call on a receiver whether that is null, and then whether the callee threw
+-- nothing; a throw whether the reference is null (JVMS 6.5).
 abbrev pub departures : ℕ → Action → List Departure
 departures k (act.Branch t target) = branched (branches_on_no t) target (suc k)
 departures k (act.Jump target) = Goes target ∷ []
@@ -52,11 +55,14 @@ departures k (act.PutField t s) = Throws ∷ Goes (suc k) ∷ []
 departures k act.Length = Throws ∷ Goes (suc k) ∷ []
 departures k (act.LoadElement e) = Throws ∷ Throws ∷ Goes (suc k) ∷ Throws ∷ []
 departures k (act.StoreElement e) = Throws ∷ Throws ∷ Goes (suc k) ∷ Throws ∷ []
+departures k act.StoreRef = Throws ∷ Throws ∷ Throws ∷ Goes (suc k) ∷ Goes (suc k) ∷ Throws ∷ []
+departures k (act.Cast class) = Goes (suc k) ∷ Goes (suc k) ∷ Throws ∷ []
+departures k (act.InstanceOf class) = Goes (suc k) ∷ Goes (suc k) ∷ Goes (suc k) ∷ []
 departures k (act.Call d s) = Goes (suc k) ∷ Throws ∷ []
 departures k (act.CallOn d s) = Throws ∷ Goes (suc k) ∷ Throws ∷ []
 departures k _ = Goes (suc k) ∷ []
 
--- the instruction branches, ends the method or can throw
+-- the instruction branches, ends the method, can throw or has a value that tests choose
 abbrev pub ends_block : Action → Bool
 ends_block (act.Branch t target) = true
 ends_block (act.Jump target) = true
@@ -69,6 +75,9 @@ ends_block (act.PutField t s) = true
 ends_block act.Length = true
 ends_block (act.LoadElement e) = true
 ends_block (act.StoreElement e) = true
+ends_block act.StoreRef = true
+ends_block (act.Cast class) = true
+ends_block (act.InstanceOf class) = true
 ends_block (act.Call d s) = true
 ends_block (act.CallOn d s) = true
 ends_block _ = false

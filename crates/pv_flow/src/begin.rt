@@ -8,7 +8,7 @@ use pv_frame::{Action, Typed};
 use pv_insn::Case;
 use std::alloc::{AllocError, Global};
 
-/// Whether an instruction branches, ends the method or can throw.
+/// Whether an instruction branches, ends the method, can throw or has a value that tests choose.
 fn ends_block(action: &Action) -> bool
     ensures { result ≡ ends_block action.now }
 {
@@ -24,6 +24,9 @@ fn ends_block(action: &Action) -> bool
         | Action::Length
         | Action::LoadElement(_)
         | Action::StoreElement(_)
+        | Action::StoreRef
+        | Action::Cast(_)
+        | Action::InstanceOf(_)
         | Action::Call(_, _)
         | Action::CallOn(_, _) => true,
         Action::Nop

@@ -98,6 +98,26 @@ pub(crate) fn exits(
             let next = to(numbers, place + 1);
             [Exit::Throw, Exit::Throw, next, Exit::Throw].to_vec(alloc)
         }
+        Action::StoreRef => {
+            let next = to(numbers, place + 1);
+            [
+                Exit::Throw,
+                Exit::Throw,
+                Exit::Throw,
+                next,
+                next,
+                Exit::Throw,
+            ]
+            .to_vec(alloc)
+        }
+        Action::Cast(_) => {
+            let next = to(numbers, place + 1);
+            [next, next, Exit::Throw].to_vec(alloc)
+        }
+        Action::InstanceOf(_) => {
+            let next = to(numbers, place + 1);
+            [next, next, next].to_vec(alloc)
+        }
         Action::Call(_, _) => [to(numbers, place + 1), Exit::Throw].to_vec(alloc),
         Action::CallOn(_, _) => { [Exit::Throw, to(numbers, place + 1), Exit::Throw].to_vec(alloc) }
         Action::Nop

@@ -1,6 +1,6 @@
 -- An instruction with a use does one thing, and has then no cause; a method has one program.
 use Rattle.std.proofs.Common.{◌≡◌, ℕ, ◌≤◌, true, false, refl, List, [], ◌∷◌, Some, ◌∙◌, ap, sym, subst, inl, inr, arith, lit≤}
-use Rattle.std.specs.Prelude.{◌==◌, if◌then◌else◌}
+use Rattle.std.specs.Prelude.{◌==◌, ◌||◌, if◌then◌else◌, option_map, IsTrue, Bool, None}
 use Rattle.std.specs.List.{AllZip, AllByRecursion}
 use Rattle.std.proofs.lemmas.Bool.{eqb-true}
 use Rattle.pv_value.specs.declared.name.Sym.{Sym}
@@ -25,7 +25,7 @@ use Rattle.pv_frame.specs.declared.cause.CauseKind.{CauseKind}
 use Rattle.pv_frame.specs.declared.cause.CauseKind.TheVariants as kind
 use Rattle.pv_frame.specs.declared.action.Action.{Action}
 use Rattle.pv_frame.specs.declared.action.Action.TheVariants as act
-use Rattle.pv_frame.specs.Actions.{field_rows, form_rows, row_of, IsUse, IsFloatless, IsFloatlessMethod, LoadsConstant, MayName, AccessesField, CallsStatic, CallsOn, UsesMember, ActsWith, Acts}
+use Rattle.pv_frame.specs.Actions.{field_rows, form_rows, class_rows, row_of, names_class, IsUse, IsFloatless, IsFloatlessMethod, LoadsConstant, MayName, AccessesField, CallsStatic, CallsOn, UsesMember, ActsWith, Acts}
 use Rattle.pv_frame.specs.Programs.{Does}
 use Rattle.pv_frame.specs.Causes.{HasFloatType, AccessesFields, IsCauseWith, IsCauseOf}
 use Rattle.pv_frame.proofs.FrameLaws.{some_of, no_some}
@@ -87,6 +87,7 @@ one_member opcode m a b (inr (inr p)) (inr (inr q)) = one_call_on opcode m a b p
 one_with : (pool : List Entry) (opcode : ℕ) (u : Use) (a b : Action) → ActsWith pool opcode u a → ActsWith pool opcode u b → a ≡ b
 one_with pool opcode (used.Constant c) a b p q = one_constant pool opcode c a b p q
 one_with pool opcode (used.Member m) a b p q = one_member opcode m a b p q
+one_with pool opcode (used.Class name) a b p q = some_of _ _ (sym p ∙ q)
 one_with pool opcode used.None a b p q = elim p [ ]
 
 -- an instruction with a use does one thing
@@ -189,9 +190,34 @@ clean_constant pool opcode constant.Double a k p h = elim p [ ]
 clean_constant pool opcode (constant.Other tag) a k p h = elim p [ ]
 clean_constant pool opcode c a k p h = elim h [ ]
 
+-- checkcast and instanceof have a row, and no other opcode
+pub class_row : (opcode : ℕ) → IsTrue (names_class opcode) → (make : List ℕ → Action) × (row_of class_rows opcode ≡ Some make)
+class_row opcode is =
+    elim (opcode == 192) as (λ b. (opcode == 192) ≡ b → IsTrue (b || (opcode == 193)) → (make : List ℕ → Action) × (row_of class_rows opcode ≡ Some make)) [
+      | true ↦ λ e _. (act.Cast, subst (λ (o : ℕ). row_of class_rows o ≡ Some act.Cast) (sym (eqb-true opcode 192 e)) refl)
+      | false ↦ λ _ e. (act.InstanceOf, subst (λ (o : ℕ). row_of class_rows o ≡ Some act.InstanceOf) (sym (eqb-true opcode 193 e)) refl)
+    ] refl is
+
+class_of_row : (opcode : ℕ) (name : List ℕ) (a : Action) → option_map (λ make. make name) (row_of class_rows opcode) ≡ Some a → IsTrue (names_class opcode)
+class_of_row opcode name a e =
+    elim (192 == opcode) as (λ b. (192 == opcode) ≡ b → IsTrue (names_class opcode)) [
+      | true ↦ λ is. subst (λ (o : ℕ). IsTrue (names_class o)) (eqb-true 192 opcode is) refl
+      | false ↦ λ first. elim (193 == opcode) as (λ b. (193 == opcode) ≡ b → IsTrue (names_class opcode)) [
+        | true ↦ λ is. subst (λ (o : ℕ). IsTrue (names_class o)) (eqb-true 193 opcode is) refl
+        | false ↦ λ second. no_some a (sym (ap (λ (b : Bool). option_map (λ make. make name) (if b then Some act.Cast else if 193 == opcode then Some act.InstanceOf else None)) first ∙ ap (λ (b : Bool). option_map (λ make. make name) (if b then Some act.InstanceOf else None)) second) ∙ e)
+      ] refl
+    ] refl
+
+clean_class : (opcode : ℕ) (name : List ℕ) (a : Action) (k : CauseKind) → option_map (λ make. make name) (row_of class_rows opcode) ≡ Some a → IsCauseWith opcode (used.Class name) k → ⊥
+clean_class opcode name a kind.Code p h = h (class_of_row opcode name a p)
+clean_class opcode name a kind.Float p h = h.1
+clean_class opcode name a kind.Constant p h = h.1
+clean_class opcode name a k p h = elim h [ ]
+
 clean_with : (pool : List Entry) (opcode : ℕ) (u : Use) (a : Action) (k : CauseKind) → ActsWith pool opcode u a → IsCauseWith opcode u k → ⊥
 clean_with pool opcode (used.Constant c) a k p h = clean_constant pool opcode c a k p h
 clean_with pool opcode (used.Member m) a k p h = clean_member opcode m a k p h
+clean_with pool opcode (used.Class name) a k p h = clean_class opcode name a k p h
 clean_with pool opcode used.None a k p h = elim p [ ]
 
 -- an instruction that does something has no cause

@@ -99,6 +99,7 @@ other_or_float (used.Constant (constant.Int n)) p q = p
 other_or_float (used.Constant (constant.Long n)) p q = p
 other_or_float (used.Constant (constant.Text i)) p q = p
 other_or_float (used.Member m) p q = p
+other_or_float (used.Class name) p q = p
 other_or_float used.None p q = p
 
 -- an instruction has one cause

@@ -13,7 +13,7 @@ use Rattle.pv_pool.specs.declared.entry.Entry.{Entry}
 use Rattle.pv_pool.specs.declared.constant.Constant.{Constant}
 use Rattle.pv_pool.specs.declared.constant.Constant.TheVariants as constant
 use Rattle.pv_pool.specs.declared.constant.Member.{Member}
-use Rattle.pv_pool.specs.Readers.{text_under, constant_under, member_under}
+use Rattle.pv_pool.specs.Readers.{text_under, constant_under, class_name_under, member_under}
 use Rattle.pv_insn.specs.declared.form.Form.TheVariants as form
 use Rattle.pv_insn.specs.declared.insn.Insn.{Insn}
 use Rattle.pv_insn.specs.declared.insn.Insn.TheVariants as insn
@@ -26,9 +26,10 @@ use Rattle.pv_frame.specs.declared.cause.CauseKind.{CauseKind}
 use Rattle.pv_frame.specs.declared.cause.CauseKind.TheVariants as kind
 use Rattle.pv_frame.specs.declared.action.Action.{Action}
 use Rattle.pv_frame.specs.declared.action.Action.TheVariants as act
-use Rattle.pv_frame.specs.Actions.{plain_rows, local_rows, branch_rows, field_rows, row_of, use_of, use_of_constant, use_of_member, loads_narrow, loads_wide, IsFloatless, HasFloatlessResult, IsFloatlessMethod, ActsWith, Acts}
+use Rattle.pv_frame.specs.Actions.{plain_rows, local_rows, branch_rows, field_rows, row_of, use_of, use_of_constant, use_of_class, use_of_member, loads_narrow, loads_wide, names_class, IsFloatless, HasFloatlessResult, IsFloatlessMethod, ActsWith, Acts}
 use Rattle.pv_frame.specs.Causes.{AccessesFields, NamesWell, IsCauseWith, IsCauseOf, HasNoCause, refused_by}
 use Rattle.pv_frame.specs.Programs.{Does}
+use Rattle.pv_frame.proofs.ActionLaws.{class_row}
 use Rattle.pv_frame.proofs.Tables.{table_of, agrees, agrees_in, below, tables_agree}
 
 -- a String has its text, as the format of a pool asks (JVMS 4.4.3)
@@ -156,6 +157,7 @@ well pool o (used.Constant constant.Float) texts n w = n.1 kind.Float (w, tt)
 well pool o (used.Constant constant.Double) texts n w = n.1 kind.Float (w, tt)
 well pool o (used.Constant (constant.Other tag)) texts n w = n.1 kind.Constant (w, tt)
 well pool o (used.Member m) texts n w = member_well pool o m n w
+well pool o (used.Class name) texts n w = let row = class_row o w in n.0 (row.0 name) (ap (option_map (λ make. make name)) row.1)
 well pool o used.None texts n w = w
 
 -- that an instruction with an index neither acts nor has a cause is impossible
@@ -164,18 +166,29 @@ with_use pool o u texts n = n.1 kind.Code (λ w. well pool o u texts n w)
 
 text_of_use : (pool : List Entry) (o i j : ℕ) → HasTexts pool → use_of pool (insn.Pool o i) ≡ used.Constant (constant.Text j) → (text : List ℕ) × (text_under pool j ≡ Some text)
 text_of_use pool o i j texts e =
-    elim (loads_narrow o || loads_wide o) as (λ b. (if b then use_of_constant (constant_under pool i) else use_of_member (member_under pool i)) ≡ used.Constant (constant.Text j) → (text : List ℕ) × (text_under pool j ≡ Some text)) [
+    elim (loads_narrow o || loads_wide o) as (λ b. (if b then use_of_constant (constant_under pool i) else other) ≡ used.Constant (constant.Text j) → (text : List ℕ) × (text_under pool j ≡ Some text)) [
       | true ↦ λ e. texts i j (is_constant (constant_under pool i) j e)
-      | false ↦ λ e. absurd (no_constant (member_under pool i) j e)
+      | false ↦ λ e. absurd (no_other (names_class o) e)
     ] e
   where
     is_constant : (c : Option Constant) (j : ℕ) → use_of_constant c ≡ used.Constant (constant.Text j) → c ≡ Some (constant.Text j)
     is_constant None j e = absurd (cc)
     is_constant (Some c) j e = cc
 
+    other : Use
+    other = if names_class o then use_of_class (class_name_under pool i) else use_of_member (member_under pool i)
+
+    no_class : (c : Option (List ℕ)) (j : ℕ) → use_of_class c ≡ used.Constant (constant.Text j) → ⊥
+    no_class None j e = cc
+    no_class (Some c) j e = cc
+
     no_constant : (m : Option Member) (j : ℕ) → use_of_member m ≡ used.Constant (constant.Text j) → ⊥
     no_constant None j e = cc
     no_constant (Some m) j e = cc
+
+    no_other : (b : Bool) → (if b then use_of_class (class_name_under pool i) else use_of_member (member_under pool i)) ≡ used.Constant (constant.Text j) → ⊥
+    no_other true e = no_class (class_name_under pool i) j e
+    no_other false e = no_constant (member_under pool i) j e
 
 -- an instruction of a well-formed pool does something or has a cause
 pub acts_or_caused : (pool : List Entry) → HasTexts pool → (i : Insn) → IsFormed i → ((a : Action) → Acts pool i (use_of pool i) a → ⊥) → ((k : CauseKind) → IsCauseOf pool i k → ⊥) → ⊥

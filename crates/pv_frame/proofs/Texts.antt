@@ -8,10 +8,10 @@ use Rattle.pv_pool.specs.declared.constant.Constant.{Constant}
 use Rattle.pv_pool.specs.declared.constant.Constant.TheVariants as constant
 use Rattle.pv_pool.specs.declared.constant.Member.{Member}
 use Rattle.pv_pool.specs.Pools.{cells, cell_of, entry_under, HasText, Refers}
-use Rattle.pv_pool.specs.Readers.{◌>>=◌, text_of, text_under, constant_of, constant_under, member_under}
+use Rattle.pv_pool.specs.Readers.{◌>>=◌, text_of, text_under, constant_of, constant_under, class_name_under, member_under}
 use Rattle.pv_insn.specs.declared.insn.Insn.{Insn}
 use Rattle.pv_insn.specs.declared.insn.Insn.TheVariants as insn
-use Rattle.pv_frame.specs.Actions.{use_of, use_of_constant, use_of_member, loads_narrow, loads_wide}
+use Rattle.pv_frame.specs.Actions.{use_of, use_of_constant, use_of_class, use_of_member, loads_narrow, loads_wide, names_class}
 use Rattle.pv_frame.specs.Acting.{HasItsText}
 use Rattle.pv_frame.proofs.Complete.{HasTexts}
 
@@ -69,11 +69,19 @@ member_text : (pool : List Entry) (o : Option Member) → HasItsText pool (use_o
 member_text pool None = tt
 member_text pool (Some m) = tt
 
+class_text : (pool : List Entry) (o : Option (List ℕ)) → HasItsText pool (use_of_class o)
+class_text pool None = tt
+class_text pool (Some name) = tt
+
 index_text : (pool : List Entry) → HasTexts pool → (opcode i : ℕ) → HasItsText pool (use_of pool (insn.Pool opcode i))
 index_text pool texts opcode i =
-    elim (loads_narrow opcode || loads_wide opcode) as (λ b. HasItsText pool (if b then use_of_constant (constant_under pool i) else use_of_member (member_under pool i))) [
+    elim (loads_narrow opcode || loads_wide opcode) as
+    (λ b. HasItsText pool (if b then use_of_constant (constant_under pool i) else if names_class opcode then use_of_class (class_name_under pool i) else use_of_member (member_under pool i))) [
       | true ↦ constant_text pool (constant_under pool i) (λ j is. texts i j is)
-      | false ↦ member_text pool (member_under pool i)
+      | false ↦ elim (names_class opcode) as (λ b. HasItsText pool (if b then use_of_class (class_name_under pool i) else use_of_member (member_under pool i))) [
+        | true ↦ class_text pool (class_name_under pool i)
+        | false ↦ member_text pool (member_under pool i)
+      ]
     ]
 
 -- what an instruction names has its text

@@ -1,5 +1,5 @@
 -- What the functions of this crate answer of instructions; private to it.
-use Rattle.std.specs.Prelude.{◌≡◌, ℕ, Some, List, ◌∷◌, ◌++◌, Result, Ok, Err}
+use Rattle.std.specs.Prelude.{◌≡◌, ℕ, Some, option_map, List, ◌∷◌, ◌++◌, Result, Ok, Err}
 use Rattle.std.specs.List.{AllZip, AllByRecursion}
 use Rattle.pv_pool.specs.declared.entry.Entry.{Entry}
 use Rattle.pv_insn.specs.declared.insn.Insn.{Insn}
@@ -16,7 +16,7 @@ use Rattle.pv_frame.specs.declared.cause.Refused.TheVariants as refused
 use Rattle.pv_frame.specs.declared.stop.Stop.{Stop}
 use Rattle.pv_frame.specs.declared.stop.Stop.TheVariants as stop
 use Rattle.pv_frame.specs.declared.action.Action.{Action}
-use Rattle.pv_frame.specs.Actions.{IsUse, UsesMember, ActsWith, Acts}
+use Rattle.pv_frame.specs.Actions.{class_rows, row_of, IsUse, UsesMember, ActsWith, Acts}
 use Rattle.pv_frame.specs.Programs.{Does}
 use Rattle.pv_frame.specs.Causes.{IsCauseWith, IsCauseOf, HasNoCause, cause}
 
@@ -38,6 +38,10 @@ IsActionWithOr pool opcode u r = Either r (ActsWith pool opcode u) (IsCauseWith 
 -- the same of a member, which needs no pool
 abbrev pub IsAccessOr : ℕ → Member → Result Action Stop → Type 0
 IsAccessOr opcode m r = Either r (UsesMember opcode m) (IsCauseWith opcode (used.Member m))
+
+-- the same of the name of a class
+abbrev pub IsClassTestOr : ℕ → List ℕ → Result Action Stop → Type 0
+IsClassTestOr opcode name r = Either r (λ a. option_map (λ make. make name) (row_of class_rows opcode) ≡ Some a) (IsCauseWith opcode (used.Class name))
 
 -- what an instruction does, or its cause
 abbrev pub IsActionOr : List Entry → Insn → Use → Result Action Stop → Type 0

@@ -26,7 +26,7 @@ use Rattle.pv_frame.specs.declared.cause.CauseKind.{CauseKind}
 use Rattle.pv_frame.specs.declared.cause.CauseKind.TheVariants as kind
 use Rattle.pv_frame.specs.declared.cause.Cause.{Cause}
 use Rattle.pv_frame.specs.declared.program.Program.{Program}
-use Rattle.pv_frame.specs.Actions.{form_rows, row_of, loads_narrow, loads_wide, use_of, IsFloatless, IsFloatlessMethod, MayName}
+use Rattle.pv_frame.specs.Actions.{form_rows, row_of, loads_narrow, loads_wide, names_class, use_of, IsFloatless, IsFloatlessMethod, MayName}
 use Rattle.pv_frame.specs.Programs.{IsUnsynchronized, IsProgramOf}
 use Rattle.pv_frame.specs.Frames.{HasFrames}
 
@@ -57,8 +57,6 @@ refused_rows =
     ∷ (186, 186, kind.Dynamic)  -- invokedynamic
     ∷ (187, 189, kind.Allocation)  -- new, newarray, anewarray
     ∷ (197, 197, kind.Allocation)  -- multianewarray
-    ∷ (83, 83, kind.RefStore)  -- aastore
-    ∷ (192, 193, kind.TypeTest)  -- checkcast, instanceof
     ∷ (194, 195, kind.Monitor)  -- monitorenter, monitorexit
     ∷ []
 
@@ -115,6 +113,7 @@ pub record NamesReceiverMethod (opcode : ℕ) (m : Member) : Type 0 where
 abbrev pub NamesWell : ℕ → Use → Type 0
 NamesWell opcode (used.Constant c) = NamesConstant opcode c
 NamesWell opcode (used.Member m) = (AccessesFields opcode × IsField m) ⊎ ((opcode ≡ 184) × IsStatic m) ⊎ NamesReceiverMethod opcode m
+NamesWell opcode (used.Class name) = IsTrue (names_class opcode)
 NamesWell opcode used.None = ⊥
 
 -- a Class, MethodHandle, MethodType or Dynamic

@@ -4,9 +4,9 @@ ghost use Rattle.std.specs.Prelude.{◌≡◌, ◌⊎◌, ◌↔◌, ◌≤◌, 
 ghost use Rattle.std.specs.Option.{option_map};
 ghost use Rattle.std.specs.List.{AllByRecursion};
 ghost use Rattle.pv_value.specs.Descriptors.{IsFieldType, IsMethodType};
-ghost use Rattle.pv_frame.specs.Actions.{local_rows, branch_rows, field_rows, form_rows, row_of, MayName, cases_from, loads_narrow, loads_wide, use_of, IsUse, IsFloatless, IsFloatlessMethod};
+ghost use Rattle.pv_frame.specs.Actions.{local_rows, branch_rows, field_rows, form_rows, row_of, MayName, cases_from, loads_narrow, loads_wide, names_class, use_of, IsUse, IsFloatless, IsFloatlessMethod};
 ghost use Rattle.pv_frame.specs.Causes.{refused_by, AccessesFields, NamesConstant};
-ghost use Rattle.pv_frame.specs.Acting.{HasItsText, IsActionWithOr, IsAccessOr, IsActionOr, IsFirstOf, AreActing, OnCause};
+ghost use Rattle.pv_frame.specs.Acting.{HasItsText, IsActionWithOr, IsAccessOr, IsClassTestOr, IsActionOr, IsFirstOf, AreActing, OnCause};
 ghost use Rattle.pv_pool.specs.Pools.{Refers};
 ghost use Rattle.pv_insn.proofs.Cited.{IsFormed};
 ghost use Rattle.pv_frame.specs.declared.used.Use.TheVariants as used;
@@ -103,8 +103,6 @@ fn refused_by(opcode: u8) -> Option<CauseKind>
         168..=169 | 201 => CauseKind::Subroutine,
         186 => CauseKind::Dynamic,
         187..=189 | 197 => CauseKind::Allocation,
-        83 => CauseKind::RefStore,
-        192..=193 => CauseKind::TypeTest,
         194..=195 => CauseKind::Monitor,
         _ => return None,
     };
@@ -125,6 +123,13 @@ fn loads_wide(opcode: u8) -> bool
     opcode == 20
 }
 
+/// Whether it is checkcast or instanceof.
+fn names_class(opcode: u8) -> bool
+    ensures { result ≡ names_class opcode }
+{
+    matches!(opcode, 192 | 193)
+}
+
 /// What an instruction names in the constant pool.
 pub(crate) fn use_of(alloc: Global, pool: &Pool, insn: &Insn) -> Result<Use, Memory>
     ensures { IfOk result (λ u. u ≡ use_of pool.now insn.now) }
@@ -135,6 +140,12 @@ pub(crate) fn use_of(alloc: Global, pool: &Pool, insn: &Insn) -> Result<Use, Mem
     if loads_narrow(*opcode) || loads_wide(*opcode) {
         return Ok(match pool.constant(*i) {
             Some(constant) => Use::Constant(constant),
+            None => Use::None,
+        });
+    }
+    if names_class(*opcode) {
+        return Ok(match pool.class_name(*i) {
+            Some(name) => Use::Class(copied(alloc, name)?),
             None => Use::None,
         });
     }
@@ -337,6 +348,18 @@ fn access(alloc: Global, opcode: u8, member: &Member) -> Result<Action, Stop>
     }
 }
 
+/// What a cast or a type test does with the name of its class, or its cause.
+fn ask_class(alloc: Global, opcode: u8, class: &Name) -> Result<Action, Stop>
+    ensures { IsClassTestOr opcode class.now result }
+{
+    let class = copied(alloc, class)?;
+    match opcode {
+        192 => Ok(Action::Cast(class)),
+        193 => Ok(Action::InstanceOf(class)),
+        _ => Err(Stop::Cause(CauseKind::Code)),
+    }
+}
+
 /// What an accepted instruction with an index does with what it names, or its cause.
 fn acts_with(alloc: Global, pool: &Pool, opcode: u8, used: &Use) -> Result<Action, Stop>
     requires { HasItsText pool.now used.now }
@@ -345,6 +368,7 @@ fn acts_with(alloc: Global, pool: &Pool, opcode: u8, used: &Use) -> Result<Actio
     match used {
         Use::Constant(constant) => load_constant(alloc, pool, opcode, *constant),
         Use::Member(member) => access(alloc, opcode, member),
+        Use::Class(name) => ask_class(alloc, opcode, name),
         Use::None => Err(Stop::Cause(CauseKind::Code)),
     }
 }

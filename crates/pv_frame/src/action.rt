@@ -86,8 +86,14 @@ pub enum Action {
     /// Accesses of an array's elements.
     LoadElement(Kind),
     StoreElement(Kind),
+    /// aastore, which throws where the reference doesn't fit the array.
+    StoreRef,
     /// arraylength.
     Length,
+    /// checkcast to the class of this name, which throws where the object isn't of it.
+    Cast(Name),
+    /// instanceof, with the name of the class.
+    InstanceOf(Name),
     /// A static call, with the type of the callee.
     Call(Descriptor, Sym),
     /// A call on a receiver, under its receiver symbol and with its type: the receiver is the first

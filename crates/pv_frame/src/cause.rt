@@ -15,8 +15,6 @@ pub enum CauseKind {
     Subroutine,
     Dynamic,
     Allocation,
-    RefStore,
-    TypeTest,
     Constant,
     Types,
     Blocks,

@@ -125,10 +125,12 @@ pub(crate) fn takes(alloc: Global, action: &Action) -> Result<Vec<Sort>, AllocEr
         Action::Switch(_, _) => [Sort::Int].to_vec(alloc),
         Action::Give(Some(sort)) => [*sort].to_vec(alloc),
         Action::Throw | Action::GetField(_, _) | Action::Length => [Sort::Ref].to_vec(alloc),
+        Action::Cast(_) | Action::InstanceOf(_) => [Sort::Ref].to_vec(alloc),
         Action::PutStatic(field, _) => [sort_of_type(*field)].to_vec(alloc),
         Action::PutField(field, _) => [Sort::Ref, sort_of_type(*field)].to_vec(alloc),
         Action::LoadElement(_) => [Sort::Ref, Sort::Int].to_vec(alloc),
         Action::StoreElement(kind) => { [Sort::Ref, Sort::Int, sort_of_kind(*kind)].to_vec(alloc) }
+        Action::StoreRef => [Sort::Ref, Sort::Int, Sort::Ref].to_vec(alloc),
         Action::Call(desc, _) | Action::CallOn(desc, _) => parameter_sorts(alloc, &desc.params),
         Action::Nop
         | Action::Push(_)
@@ -148,12 +150,12 @@ pub(crate) fn gives(action: &Action) -> Option<Sort>
 {
     match action {
         Action::Push(number) => Some(sort_of(*number)),
-        Action::Literal(_) => Some(Sort::Ref),
+        Action::Literal(_) | Action::Cast(_) => Some(Sort::Ref),
         Action::Load(sort, _) => Some(*sort),
         Action::Scalar(op) | Action::Divide(op) => Some(value_sort(*op)),
         Action::GetStatic(field, _) | Action::GetField(field, _) => Some(sort_of_type(*field)),
         Action::LoadElement(kind) => Some(sort_of_kind(*kind)),
-        Action::Length => Some(Sort::Int),
+        Action::Length | Action::InstanceOf(_) => Some(Sort::Int),
         Action::Call(desc, _) | Action::CallOn(desc, _) => {
             desc.result.map(|value| sort_of_type(value))
         }
@@ -168,7 +170,8 @@ pub(crate) fn gives(action: &Action) -> Option<Sort>
         | Action::Throw
         | Action::PutStatic(_, _)
         | Action::PutField(_, _)
-        | Action::StoreElement(_) => None,
+        | Action::StoreElement(_)
+        | Action::StoreRef => None,
     }
 }
 
@@ -197,7 +200,10 @@ pub(crate) fn successors(alloc: Global, place: u32, action: &Action) -> Result<V
         | Action::PutField(_, _)
         | Action::LoadElement(_)
         | Action::StoreElement(_)
+        | Action::StoreRef
         | Action::Length
+        | Action::Cast(_)
+        | Action::InstanceOf(_)
         | Action::Call(_, _)
         | Action::CallOn(_, _) => [place + 1].to_vec(alloc),
     }

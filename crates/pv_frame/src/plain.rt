@@ -95,6 +95,7 @@ fn element_store(opcode: u8) -> Option<Action>
     let action = match opcode {
         79 => Action::StoreElement(Kind::Int),
         80 => Action::StoreElement(Kind::Long),
+        83 => Action::StoreRef,
         84 => Action::StoreElement(Kind::Byte),
         85 => Action::StoreElement(Kind::Char),
         86 => Action::StoreElement(Kind::Short),

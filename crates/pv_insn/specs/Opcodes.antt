@@ -129,18 +129,10 @@ dynamic_calls = (186, 186) ∷ []
 abbrev pub allocations : Opcodes
 allocations = (187, 189) ∷ (197, 197) ∷ []
 
--- aastore
-abbrev pub reference_stores : Opcodes
-reference_stores = (83, 83) ∷ []
-
--- checkcast, instanceof
-abbrev pub type_tests : Opcodes
-type_tests = (192, 193) ∷ []
-
 -- monitorenter, monitorexit
 abbrev pub monitors : Opcodes
 monitors = (194, 195) ∷ []
 
 abbrev pub is_refused : ℕ → Bool
 is_refused op =
-    is_among op floats || is_among op subroutines || is_among op dynamic_calls || is_among op allocations || is_among op reference_stores || is_among op type_tests || is_among op monitors
+    is_among op floats || is_among op subroutines || is_among op dynamic_calls || is_among op allocations || is_among op monitors

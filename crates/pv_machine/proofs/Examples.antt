@@ -1,6 +1,7 @@
 -- Worked examples: each action on a stack whose lower part is any, edge cases, and runs of short methods.
 use Rattle.std.proofs.Common.{Bool, ◌≡◌, ℕ, ℤ, pos, negsuc, true, false, refl, List, [], ◌∷◌, Option, Some, None}
 use Rattle.std.specs.Prelude.{codes}
+use Rattle.pv_types.specs.Facts as types
 use Rattle.std.specs.FinMap.{get, get-empty}
 use Rattle.std.specs.Int.{int_wrap}
 use Rattle.pv_value.specs.declared.number.Num.{Num}
@@ -38,7 +39,7 @@ int n = Int (pos n)
 -- in each of these the lower part of the stack, the heap, the program and the world are any
 module _ (p : Program) (w : World) (h : Heap) (rest : List Num) where
   abbrev at : ℕ → List Num → State
-  at k stack = record { at = k; stack = stack; locals = Some (int 5) ∷ Some (Long (pos 6)) ∷ None ∷ Some (Ref 9) ∷ []; heap = h }
+  at k stack = record { at = k; stack = stack; locals = Some (int 5) ∷ Some (Long (pos 6)) ∷ None ∷ Some (Ref 9) ∷ []; heap = h; heap0 = h }
 
   -- on this stack the action leads to the next place, with that stack
   abbrev Leads : Action → List Num → List Num → Type 0
@@ -87,11 +88,11 @@ module _ (p : Program) (w : World) (h : Heap) (rest : List Num) where
   iload_past = refl
 
   -- a store into the second local of a long loses it
-  istore : perform p w (at 7 (int 8 ∷ rest)) (act.Store sort.Int 2) ≡ running (record { at = 8; stack = rest; locals = Some (int 5) ∷ None ∷ Some (int 8) ∷ Some (Ref 9) ∷ []; heap = h })
+  istore : perform p w (at 7 (int 8 ∷ rest)) (act.Store sort.Int 2) ≡ running (record { at = 8; stack = rest; locals = Some (int 5) ∷ None ∷ Some (int 8) ∷ Some (Ref 9) ∷ []; heap = h; heap0 = h })
   istore = refl
 
   -- a long stored clears the local after it, and the long before it is lost
-  lstore : perform p w (at 7 (Long (pos 8) ∷ rest)) (act.Store sort.Long 2) ≡ running (record { at = 8; stack = rest; locals = Some (int 5) ∷ None ∷ Some (Long (pos 8)) ∷ None ∷ []; heap = h })
+  lstore : perform p w (at 7 (Long (pos 8) ∷ rest)) (act.Store sort.Long 2) ≡ running (record { at = 8; stack = rest; locals = Some (int 5) ∷ None ∷ Some (Long (pos 8)) ∷ None ∷ []; heap = h; heap0 = h })
   lstore = refl
 
   lstore_last : Stays (act.Store sort.Long 3) (Long (pos 8) ∷ rest)
@@ -100,7 +101,7 @@ module _ (p : Program) (w : World) (h : Heap) (rest : List Num) where
   astore_of_int : Stays (act.Store sort.Ref 0) (int 8 ∷ rest)
   astore_of_int = refl
 
-  iinc : perform p w (at 7 rest) (act.Increase 0 (negsuc 299)) ≡ running (record { at = 8; stack = rest; locals = Some (Int (negsuc 294)) ∷ Some (Long (pos 6)) ∷ None ∷ Some (Ref 9) ∷ []; heap = h })
+  iinc : perform p w (at 7 rest) (act.Increase 0 (negsuc 299)) ≡ running (record { at = 8; stack = rest; locals = Some (Int (negsuc 294)) ∷ Some (Long (pos 6)) ∷ None ∷ Some (Ref 9) ∷ []; heap = h; heap0 = h })
   unfolding int_wrap
   iinc = refl
 
@@ -249,6 +250,32 @@ module _ (p : Program) (w : World) (h : Heap) (rest : List Num) where
 
   putstatic_long : (f : Sym) → perform p w (at 7 (Long (negsuc 8) ∷ rest)) (act.PutStatic J f) ≡ running (record (at 8 rest) { heap = written h (Static (home w f)) (negsuc 8) })
   putstatic_long f = refl
+
+  -- types: null, an object of the class, and another
+  checkcast_null : Leads (act.Cast (codes "P")) (Ref 0 ∷ rest) (Ref 0 ∷ rest)
+  checkcast_null = refl
+
+  checkcast : types.is w h (codes "P") 5 ≡ true → Leads (act.Cast (codes "P")) (Ref 5 ∷ rest) (Ref 5 ∷ rest)
+  checkcast e = rw e refl
+
+  checkcast_other : types.is w h (codes "P") 5 ≡ false → literal_of w types.cast_text ≡ 9 → EndsSo (act.Cast (codes "P")) (Ref 5 ∷ rest) (Threw (fault.Thrown 9) h)
+  checkcast_other e l = rw (e, l) refl
+
+  instanceof_null : Leads (act.InstanceOf (codes "P")) (Ref 0 ∷ rest) (int 0 ∷ rest)
+  instanceof_null = refl
+
+  instanceof : types.is w h (codes "P") 5 ≡ true → Leads (act.InstanceOf (codes "P")) (Ref 5 ∷ rest) (int 1 ∷ rest)
+  instanceof e = rw e refl
+
+  instanceof_other : types.is w h (codes "P") 5 ≡ false → Leads (act.InstanceOf (codes "P")) (Ref 5 ∷ rest) (int 0 ∷ rest)
+  instanceof_other e = rw e refl
+
+  -- a null array comes first, then the index, and then whether the reference fits; null fits every array
+  aastore_null_array : EndsSo act.StoreRef (Ref 3 ∷ int 1 ∷ Ref 0 ∷ rest) (Threw fault.Null h)
+  aastore_null_array = refl
+
+  aastore_below : EndsSo act.StoreRef (Ref 3 ∷ Int (negsuc 0) ∷ Ref 4 ∷ rest) (Threw fault.Index h)
+  aastore_below = refl
 
   -- elements
   iaload_null : EndsSo (act.LoadElement kind.Int) (int 1 ∷ Ref 0 ∷ rest) (Threw fault.Null h)

@@ -45,34 +45,34 @@ lacking p w s a ops e k found does keeps many lack = absurd lack
 
 -- ---- by the parts of a state
 
-abbrev pub in_memory : ℕ → List Num → List (Option Num) → Heap → ℕ → ℕ → StateInMemory
-in_memory at nums locals heap room most = record { state = record { at = at; stack = nums; locals = locals; heap = heap }; room = room; max_stack = most }
+abbrev pub in_memory : ℕ → List Num → List (Option Num) → Heap → Heap → ℕ → ℕ → StateInMemory
+in_memory at nums locals heap heap0 room most = record { state = record { at = at; stack = nums; locals = locals; heap = heap; heap0 = heap0 }; room = room; max_stack = most }
 
 asking : (a : Action) (sorts : List Sort) (nums ops : List Num) → sorts ≡ takes a → popped sort_of sorts nums ≡ Some (ops, drop (length ops) nums) → popped sort_of (takes a) nums ≡ Some (ops, drop (length ops) nums)
 asking a sorts nums ops is found = ap (λ (l : List Sort). popped sort_of l nums) (sym is) ∙ found
 
-pub act_full : {T E : Type 0} (r : Result T E) (p : Program) (w : World) (s : StateInMemory) (a : Action) (at : ℕ) (nums ops : List Num) (locals seen : List (Option Num)) (heap : Heap) (room most : ℕ) (sorts : List Sort) (e : Effect) →
-    in_memory at nums locals heap room most ≡ s → seen ≡ locals → sorts ≡ asked a → IsPlain a → popped sort_of sorts nums ≡ Some (ops, drop (length ops) nums) → Acts p w seen a ops (Some e) → KeepsHeap e →
+pub act_full : {T E : Type 0} (r : Result T E) (p : Program) (w : World) (s : StateInMemory) (a : Action) (at : ℕ) (nums ops : List Num) (locals seen : List (Option Num)) (heap heap0 : Heap) (room most : ℕ) (sorts : List Sort) (e : Effect) →
+    in_memory at nums locals heap heap0 room most ≡ s → seen ≡ locals → sorts ≡ asked a → IsPlain a → popped sort_of sorts nums ≡ Some (ops, drop (length ops) nums) → Acts p w seen a ops (Some e) → KeepsHeap e →
     OnErr r (Lacks s (length ops) e) → OnErr r (IsOverfull p w s a)
-act_full r p w s a at nums ops locals seen heap room most sorts e view same is plain found acts keeps full =
-    let there = in_memory at nums locals heap room most in
+act_full r p w s a at nums ops locals seen heap heap0 room most sorts e view same is plain found acts keeps full =
+    let there = in_memory at nums locals heap heap0 room most in
     let does = subst (λ (l : List (Option Num)). Acts p w l a ops (Some e)) same acts in
-    let lack = lacking p w there a ops e (length ops) (asking a sorts nums ops (is ∙ asked_plain a plain) found) (does at (drop (length ops) nums) heap) keeps refl in
+    let lack = lacking p w there a ops e (length ops) (asking a sorts nums ops (is ∙ asked_plain a plain) found) (does at (drop (length ops) nums) heap heap0) keeps refl in
     on_err_weaker r (subst (λ (x : StateInMemory). Lacks x (length ops) e → IsOverfull p w x a) view lack) full
 
-pub reach_full : {T E : Type 0} (r : Result T E) (p : Program) (w : World) (s : StateInMemory) (a : Action) (at : ℕ) (nums ops : List Num) (locals : List (Option Num)) (heap : Heap) (room most : ℕ) (sorts : List Sort) (o : Option Effect) (e : Effect) →
-    in_memory at nums locals heap room most ≡ s → sorts ≡ asked a → IsAccess a → popped sort_of sorts nums ≡ Some (ops, drop (length ops) nums) → Reads w heap a ops o → (IsQuiet a → IfSome o KeepsHeap) → o ≡ Some e →
+pub reach_full : {T E : Type 0} (r : Result T E) (p : Program) (w : World) (s : StateInMemory) (a : Action) (at : ℕ) (nums ops : List Num) (locals : List (Option Num)) (heap heap0 : Heap) (room most : ℕ) (sorts : List Sort) (o : Option Effect) (e : Effect) →
+    in_memory at nums locals heap heap0 room most ≡ s → sorts ≡ asked a → IsAccess a → popped sort_of sorts nums ≡ Some (ops, drop (length ops) nums) → Reads w heap a ops o → (IsQuiet a → IfSome o KeepsHeap) → o ≡ Some e →
     OnErr r (Lacks s (length ops) e) → IsQuiet a → OnErr r (IsOverfull p w s a)
-reach_full r p w s a at nums ops locals heap room most sorts o e view is reach found reads keeps some full quiet =
-    let there = in_memory at nums locals heap room most in
+reach_full r p w s a at nums ops locals heap heap0 room most sorts o e view is reach found reads keeps some full quiet =
+    let there = in_memory at nums locals heap heap0 room most in
     let does = subst (λ (x : Option Effect). Reads w heap a ops x) some reads in
     let keep = subst (λ (x : Option Effect). IfSome x KeepsHeap) some (keeps quiet) in
-    let lack = lacking p w there a ops e (length ops) (asking a sorts nums ops (is ∙ asked_access a reach) found) (does p at (drop (length ops) nums) locals) keep refl in
+    let lack = lacking p w there a ops e (length ops) (asking a sorts nums ops (is ∙ asked_access a reach) found) (does p at (drop (length ops) nums) locals heap0) keep refl in
     on_err_weaker r (subst (λ (x : StateInMemory). Lacks x (length ops) e → IsOverfull p w x a) view lack) full
 
-pub shift_full : (p : Program) (w : World) (s : StateInMemory) (m : Move) (at : ℕ) (nums : List Num) (locals : List (Option Num)) (heap : Heap) (room most : ℕ) →
-    in_memory at nums locals heap room most ≡ s → moves.IsOverfull (moved sort_of m nums) room → IsOverfull p w s (act.Move m)
-shift_full p w s m at nums locals heap room most view q =
-    let there = in_memory at nums locals heap room most in
+pub shift_full : (p : Program) (w : World) (s : StateInMemory) (m : Move) (at : ℕ) (nums : List Num) (locals : List (Option Num)) (heap heap0 : Heap) (room most : ℕ) →
+    in_memory at nums locals heap heap0 room most ≡ s → moves.IsOverfull (moved sort_of m nums) room → IsOverfull p w s (act.Move m)
+shift_full p w s m at nums locals heap heap0 room most view q =
+    let there = in_memory at nums locals heap heap0 room most in
     let leads = ap (λ (o : Option (List Num)). unwrap_or (option_map (λ stack. next (record there.state { stack = stack })) o) (running there.state)) q.1 in
     subst (λ (x : StateInMemory). IsOverfull p w x (act.Move m)) view (_, leads, q.2)

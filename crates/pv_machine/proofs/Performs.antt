@@ -23,7 +23,9 @@ use Rattle.pv_value.specs.Heaps.{read}
 use Rattle.pv_value.specs.Descriptors.{IsMethodType}
 use Rattle.pv_value.specs.Inputs.{IsOfResult}
 use Rattle.pv_value.proofs.Cited.{method_type_once}
-use Rattle.pv_value.specs.Worlds.{IsWorld, reply}
+use Rattle.pv_value.specs.Worlds.{IsWorld, reply, literal_of}
+use Rattle.pv_value.specs.declared.heap.Kind.TheVariants as kind
+use Rattle.pv_types.specs.Facts as types
 use Rattle.pv_value.specs.Narrowing.{shown, element_type, static_place, field_place}
 use Rattle.pv_insn.specs.declared.insn.Case.{Case}
 use Rattle.pv_frame.specs.declared.sort.Sort.{Sort}
@@ -40,7 +42,7 @@ use Rattle.pv_frame.specs.declared.frame.Frame.{Frame}
 use Rattle.pv_frame.specs.Frames.{same, holds, local_holds, frame_done, frame_after}
 use Rattle.pv_frame.specs.Frames as frames
 use Rattle.pv_frame.proofs.Cited.{moved_map, has_room_map, set_local_map, some_of, no_some, if_some}
-use Rattle.pv_machine.specs.Machine.{State, Now, running, ended, next, pushes, writes, throws, stored, local, number_of, value_of, increased, computed, divided, tested, branches, target_of, keeps, element_fault, unless, called, done}
+use Rattle.pv_machine.specs.Machine.{State, Now, running, ended, next, pushes, writes, throws, stored, local, number_of, value_of, increased, computed, divided, tested, branches, target_of, keeps, element_fault, store_fault, unless, called, done}
 use Rattle.pv_machine.specs.Runs.{frame_of, Calls}
 use Rattle.pv_machine.proofs.Values.{Gives, computed_gives, value_sort, shown_gives, kept_some, element_sort, of_sort_type, holds_gives, increased_gives, replaced_sorts}
 
@@ -235,6 +237,19 @@ module _ (p : Program) (w : World) (world : IsWorld w) (s : State) where
   length_ok g zero e = ends _
   length_ok g (suc r) e = pushes_ok p w s act.Length _ g sort.Int (Some _) refl (record { value = _; is = refl; sort = refl }) e
 
+  cast_ok : (class : List ℕ) (g : Frame) (r : ℕ) → frame_done (act.Cast class) (frame_of s) ≡ Some g → Ok p w s (act.Cast class) (num.Ref r ∷ []) g
+  cast_ok class g zero e = pushes_ok p w s (act.Cast class) _ g sort.Ref (Some (num.Ref 0)) refl (record { value = _; is = refl; sort = refl }) e
+  cast_ok class g (suc r) e =
+      elim (types.is w s.heap0 class (suc r)) as
+      (λ b. Result w s (act.Cast class) (num.Ref (suc r) ∷ []) g (Some (if b then pushes s (num.Ref (suc r)) else throws s (fault.Thrown (literal_of w types.cast_text))))) [
+        | true ↦ pushes_ok p w s (act.Cast class) _ g sort.Ref (Some (num.Ref (suc r))) refl (record { value = _; is = refl; sort = refl }) e
+        | false ↦ ends _
+      ]
+
+  instance_ok : (class : List ℕ) (g : Frame) (r : ℕ) → frame_done (act.InstanceOf class) (frame_of s) ≡ Some g → Ok p w s (act.InstanceOf class) (num.Ref r ∷ []) g
+  instance_ok class g zero e = pushes_ok p w s (act.InstanceOf class) _ g sort.Int (Some (num.Int (pos 0))) refl (record { value = _; is = refl; sort = refl }) e
+  instance_ok class g (suc r) e = pushes_ok p w s (act.InstanceOf class) _ g sort.Int (Some _) refl (record { value = _; is = refl; sort = refl }) e
+
   call_on_ok : (d : Descriptor) (f : Sym) (g : Frame) (r : ℕ) (args : List Num) → IsMethodType f.desc d → frame_done (act.CallOn d f) (frame_of s) ≡ Some g → Ok p w s (act.CallOn d f) (num.Ref r ∷ args) g
   call_on_ok d f g zero args typed e = ends _
   call_on_ok d f g (suc r) args typed e = call_ok p w s (act.CallOn d f) d f (num.Ref (suc r) ∷ args) g (reply w f s.heap (num.Ref (suc r) ∷ args)) refl refl typed world refl e
@@ -283,6 +298,15 @@ module _ (p : Program) (w : World) (world : IsWorld w) (s : State) where
       let x = ref_int_and nums (sort_of_kind k) es in
       let typed = element_sort w k x.0 in
       subst (At (act.StoreElement k) g) (sym x.3) (unless_ok p w s (act.StoreElement k) _ g (element_fault w x.0 x.1) _ (writes_ok p w s (act.StoreElement k) _ g (element_type w k x.0) (Elem k x.0 x.1) x.2 refl (x.4 ∙ sym typed.0) e))
+  done_ok act.StoreRef nums g sound es e =
+      let x = ref_int_and nums sort.Ref es in
+      let v = as_ref x.2 x.4 in
+      let typed = element_sort w kind.Ref x.0 in
+      let write = writes_ok p w s act.StoreRef _ g (element_type w kind.Ref x.0) (Elem kind.Ref x.0 x.1) (num.Ref v.0) refl (sym typed.0) e in
+      subst (At act.StoreRef g) (sym (x.3 ∙ ap (λ (n : Num). num.Ref x.0 ∷ num.Int x.1 ∷ n ∷ []) v.1))
+      (unless_ok p w s act.StoreRef _ g (element_fault w x.0 x.1) _ (unless_ok p w s act.StoreRef _ g (store_fault w s.heap0 x.0 v.0) _ write))
+  done_ok (act.Cast class) nums g sound es e = let r = one_ref nums es in subst (At (act.Cast class) g) (sym r.1) (cast_ok class g r.0 e)
+  done_ok (act.InstanceOf class) nums g sound es e = let r = one_ref nums es in subst (At (act.InstanceOf class) g) (sym r.1) (instance_ok class g r.0 e)
   done_ok act.Length nums g sound es e = let r = one_ref nums es in subst (At act.Length g) (sym r.1) (length_ok g r.0 e)
   done_ok (act.Call d f) nums g sound es e = call_ok p w s (act.Call d f) d f nums g (reply w f s.heap nums) refl refl sound world refl e
   done_ok (act.CallOn d f) nums g sound es e =

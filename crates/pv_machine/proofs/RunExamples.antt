@@ -118,7 +118,7 @@ lookup = act.Switch 9 (record { key = negsuc 7; target = 4 } ∷ record { key = 
 
 -- it leads to this place
 abbrev Switches : Action → ℤ → ℕ → Type 0
-Switches a n k = (w : World) → after (method [] None 0 (act.Push (Int n) ∷ a ∷ [])) w (start (method [] None 0 (act.Push (Int n) ∷ a ∷ [])) (given [] empty)) 2 ≡ running (record { at = k; stack = []; locals = []; heap = empty })
+Switches a n k = (w : World) → after (method [] None 0 (act.Push (Int n) ∷ a ∷ [])) w (start (method [] None 0 (act.Push (Int n) ∷ a ∷ [])) (given [] empty)) 2 ≡ running (record { at = k; stack = []; locals = []; heap = empty; heap0 = empty })
 
 table_low : Switches table (negsuc 0) 4
 unfolding after
@@ -211,7 +211,7 @@ call_never_ends h (suc n) = ap (go_on calls empty_world) (call_never_ends h n) �
 -- where the callee returns with another heap, so does the method
 call_ends : (w : World) (h h' : Heap) → reply w callee h [] ≡ Some (Returned None h') → EndsAfter calls w (given [] h) 1 (Returned None h')
 unfolding after
-call_ends w h h' e = record { before = (record { at = 1; stack = []; locals = []; heap = h' }, rw e refl); then = rw e refl }
+call_ends w h h' e = record { before = (record { at = 1; stack = []; locals = []; heap = h'; heap0 = h }, rw e refl); then = rw e refl }
 
 -- ---- frames
 

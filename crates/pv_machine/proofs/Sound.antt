@@ -14,7 +14,7 @@ use Rattle.pv_insn.specs.declared.insn.Placed.{Placed}
 use Rattle.pv_frame.specs.declared.used.Use.{Use}
 use Rattle.pv_frame.specs.declared.used.Use.TheVariants as used
 use Rattle.pv_frame.specs.declared.action.Action.{Action}
-use Rattle.pv_frame.specs.Actions.{plain_rows, local_rows, branch_rows, field_rows, row_of, IsFloatless, LoadsConstant, UsesMember, ActsWith, Acts}
+use Rattle.pv_frame.specs.Actions.{plain_rows, local_rows, branch_rows, field_rows, class_rows, row_of, IsFloatless, LoadsConstant, UsesMember, ActsWith, Acts}
 use Rattle.pv_frame.specs.declared.program.Program.{Program}
 use Rattle.pv_frame.specs.Programs.{IsAt, Does, IsProgramOf}
 use Rattle.pv_class.specs.declared.file.ClassFile.{ClassFile}
@@ -36,7 +36,7 @@ made_has P make None a h e = no_some a e
 made_has P make (Some x) a h e = subst P (some_of _ _ e) (h x refl)
 
 plain_sound : AllByRecursion (λ r. IsSound r.1) plain_rows
-plain_sound = (tt, (tt, (tt, (tt, (tt, (tt, (tt, (tt, (tt, (tt, (tt, (tt, (tt, (tt, (tt, (tt, (tt, (tt, (tt, (tt, (tt, (tt, (tt, (tt, (tt, (tt, (tt, (tt, (tt, (tt, (tt, (tt, (tt, (tt, (tt, (tt, (tt, (tt, (tt, (tt, (tt, (tt, (tt, (tt, (tt, (tt, (tt, (tt, (tt, (tt, (tt, (tt, (tt, (tt, (tt, (tt, (tt, (tt, (tt, (tt, (tt, ((_, _, refl), ((_, _, refl), ((_, _, refl), ((_, _, refl), (tt, (tt, (tt, (tt, (tt, (tt, (tt, (tt, (tt, (tt, (tt, (tt, (tt, (tt, (tt, (tt, (tt, (tt, (tt, (tt, (tt, (tt, (tt, (tt, (tt, (tt, tt)))))))))))))))))))))))))))))))))))))))))))))))))))))))))))))))))))))))))))))))))))))))))))
+plain_sound = (tt, (tt, (tt, (tt, (tt, (tt, (tt, (tt, (tt, (tt, (tt, (tt, (tt, (tt, (tt, (tt, (tt, (tt, (tt, (tt, (tt, (tt, (tt, (tt, (tt, (tt, (tt, (tt, (tt, (tt, (tt, (tt, (tt, (tt, (tt, (tt, (tt, (tt, (tt, (tt, (tt, (tt, (tt, (tt, (tt, (tt, (tt, (tt, (tt, (tt, (tt, (tt, (tt, (tt, (tt, (tt, (tt, (tt, (tt, (tt, (tt, (tt, ((_, _, refl), ((_, _, refl), ((_, _, refl), ((_, _, refl), (tt, (tt, (tt, (tt, (tt, (tt, (tt, (tt, (tt, (tt, (tt, (tt, (tt, (tt, (tt, (tt, (tt, (tt, (tt, (tt, (tt, (tt, (tt, (tt, (tt, (tt, tt))))))))))))))))))))))))))))))))))))))))))))))))))))))))))))))))))))))))))))))))))))))))))))
 
 local_sound : AllByRecursion (λ r. (n : ℕ) → IsSound (r.1 n)) local_rows
 local_sound = (λ _. tt, (λ _. tt, (λ _. tt, (λ _. tt, (λ _. tt, (λ _. tt, tt))))))
@@ -46,6 +46,9 @@ branch_sound = (λ _. tt, (λ _. tt, (λ _. tt, (λ _. tt, (λ _. tt, (λ _. tt,
 
 field_sound : AllByRecursion (λ r. (t : JType) (f : Sym) → IsFloatless t → IsSound (r.1 t f)) field_rows
 field_sound = (λ _ _ h. h, (λ _ _ h. h, (λ _ _ h. h, (λ _ _ h. h, tt))))
+
+class_sound : AllByRecursion (λ r. (name : List ℕ) → IsSound (r.1 name)) class_rows
+class_sound = (λ _. tt, (λ _. tt, tt))
 
 constant_sound : (pool : List Entry) (opcode : ℕ) (c : Constant) (a : Action) → LoadsConstant pool opcode c a → IsSound a
 constant_sound pool opcode (constant.Int n) a h = subst IsSound (sym h.1) tt
@@ -61,6 +64,8 @@ member_sound opcode m a (inr (inr h)) = subst IsSound (sym h.is) (receivers_apar
 with_sound : (pool : List Entry) (opcode : ℕ) (u : Use) (a : Action) → ActsWith pool opcode u a → IsSound a
 with_sound pool opcode (used.Constant c) a h = constant_sound pool opcode c a h
 with_sound pool opcode (used.Member m) a h = member_sound opcode m a h
+with_sound pool opcode (used.Class name) a h =
+    made_has IsSound (λ make. make name) (row_of class_rows opcode) a (λ make e. row_has (λ make. (name : List ℕ) → IsSound (make name)) class_rows class_sound opcode make e name) h
 with_sound pool opcode used.None a h = elim h [ ]
 
 pub acts_sound : (pool : List Entry) (i : Insn) (u : Use) (a : Action) → Acts pool i u a → IsSound a

@@ -4,7 +4,6 @@ use Rattle.pv_pool.specs.Readers.{◌>>=◌}
 use Rattle.pv_value.specs.declared.number.Num.{Num}
 use Rattle.pv_value.specs.declared.number.Num.TheVariants as num
 use Rattle.pv_value.specs.declared.heap.Heap.{Heap}
-use Rattle.pv_value.specs.declared.heap.Heap.{Heap}
 use Rattle.pv_value.specs.declared.world.World.{World}
 use Rattle.pv_value.specs.declared.outcome.Outcome.TheVariants.{Returned}
 use Rattle.pv_frame.specs.declared.action.Action.{Action}
@@ -63,6 +62,13 @@ IsAccess (act.StoreElement k) = Unit {0}
 IsAccess act.Length = Unit {0}
 IsAccess _ = ⊥
 
+-- that ask what the world tells of types
+abbrev pub AsksTypes : Action → Type 0
+AsksTypes act.StoreRef = Unit {0}
+AsksTypes (act.Cast class) = Unit {0}
+AsksTypes (act.InstanceOf class) = Unit {0}
+AsksTypes _ = ⊥
+
 -- the others with operands; neither a move nor a call
 abbrev pub IsPlain : Action → Type 0
 IsPlain act.Nop = Unit {0}
@@ -90,11 +96,18 @@ Accesses w a nums e = (p : Program) (s : State) → Does p w s a nums e
 
 -- in each state with this heap
 abbrev pub Reads : World → Heap → Action → List Num → Option Effect → Type 0
-Reads w heap a nums e = (p : Program) (at : ℕ) (stack : List Num) (locals : List (Option Num)) → Does p w (record { at = at; stack = stack; locals = locals; heap = heap }) a nums e
+Reads w heap a nums e =
+    (p : Program) (at : ℕ) (stack : List Num) (locals : List (Option Num)) (heap0 : Heap) → Does p w (record { at = at; stack = stack; locals = locals; heap = heap; heap0 = heap0 }) a nums e
+
+-- in each state of a method that started with this heap
+abbrev pub Asks : World → Heap → Action → List Num → Option Effect → Type 0
+Asks w heap0 a nums e =
+    (p : Program) (at : ℕ) (stack : List Num) (locals : List (Option Num)) (heap : Heap) → Does p w (record { at = at; stack = stack; locals = locals; heap = heap; heap0 = heap0 }) a nums e
 
 -- in each state with these locals
 abbrev pub Acts : Program → World → List (Option Num) → Action → List Num → Option Effect → Type 0
-Acts p w locals a nums e = (at : ℕ) (stack : List Num) (heap : Heap) → Does p w (record { at = at; stack = stack; locals = locals; heap = heap }) a nums e
+Acts p w locals a nums e =
+    (at : ℕ) (stack : List Num) (heap heap0 : Heap) → Does p w (record { at = at; stack = stack; locals = locals; heap = heap; heap0 = heap0 }) a nums e
 
 -- ---- operands
 
@@ -113,3 +126,8 @@ element_of _ = None
 abbrev pub element_and_number_of : List Num → Option (ℕ × ℤ × Num)
 element_and_number_of (num.Ref r ∷ num.Int i ∷ n ∷ []) = Some (r, i, n)
 element_and_number_of _ = None
+
+-- an array, an index and a reference
+abbrev pub element_and_ref_of : List Num → Option (ℕ × ℤ × ℕ)
+element_and_ref_of (num.Ref r ∷ num.Int i ∷ num.Ref v ∷ []) = Some (r, i, v)
+element_and_ref_of _ = None

@@ -24,8 +24,9 @@ coded_num = (num_row.the_row).coded
 -- a state is stored as its parts
 abbrev pub coded_state : Coded State
 coded_state =
-    code_by (ℕ × (List Num × (List (Option Num) × Heap))) (coded× coded_ℕ (coded× (coded_list coded_num) (coded× (coded_list (coded_option coded_num)) (heap_row.the_row).coded)))
-    (λ s. (s.at, (s.stack, (s.locals, s.heap)))) (λ p. record { at = p.0; stack = p.1.0; locals = p.1.1.0; heap = p.1.1.1 }) (λ _. refl)
+    code_by (ℕ × (List Num × (List (Option Num) × (Heap × Heap))))
+    (coded× coded_ℕ (coded× (coded_list coded_num) (coded× (coded_list (coded_option coded_num)) (coded× (heap_row.the_row).coded (heap_row.the_row).coded))))
+    (λ s. (s.at, (s.stack, (s.locals, (s.heap, s.heap0))))) (λ p. record { at = p.0; stack = p.1.0; locals = p.1.1.0; heap = p.1.1.1.0; heap0 = p.1.1.1.1 }) (λ _. refl)
 
 abbrev pub coded_state_in_memory : Coded StateInMemory
 coded_state_in_memory =

@@ -13,6 +13,7 @@ use Rattle.pv_value.specs.declared.outcome.Outcome.TheVariants.{Returned, Threw}
 use Rattle.pv_value.specs.declared.outcome.Fault.{Fault}
 use Rattle.pv_value.specs.declared.outcome.Fault.TheVariants as fault
 use Rattle.pv_value.specs.declared.heap.Heap.{Heap}
+use Rattle.pv_value.specs.declared.heap.Kind.TheVariants as kind
 use Rattle.pv_value.specs.declared.heap.Loc.{Loc}
 use Rattle.pv_value.specs.declared.heap.Loc.TheVariants.{Elem}
 use Rattle.pv_value.specs.declared.operation.ScalarOp.{ScalarOp}
@@ -20,6 +21,7 @@ use Rattle.pv_value.specs.Operations as operation
 use Rattle.pv_value.specs.Heaps.{read, written}
 use Rattle.pv_value.specs.Worlds.{length_of, literal_of, reply}
 use Rattle.pv_value.specs.Narrowing.{as_type, kept, shown, element_type, static_place, field_place}
+use Rattle.pv_types.specs.Facts as types
 use Rattle.pv_pool.specs.Readers.{◌>>=◌}
 use Rattle.pv_class.specs.declared.file.ClassFile.{ClassFile}
 use Rattle.pv_class.specs.declared.file.Method.{Method}
@@ -40,12 +42,14 @@ use Rattle.pv_frame.specs.Frames.{HasFrames}
 
 -- ---- states
 
--- a method in the middle of its run: the place of the next instruction, the operand stack with its top first, the locals, of which one may hold no value, and the heap
+-- a method in the middle of its run: the place of the next instruction, the operand stack with its top first, the locals, of which one may hold no value, the heap,
+-- and the heap with which it started, where the world tells what is known of types
 pub record State : Type 0 where
   pub at : ℕ
   pub stack : List Num
   pub locals : List (Option Num)
   pub heap : Heap
+  pub heap0 : Heap
 
 -- it runs on, or has ended
 pub data Now : Type 0 where
@@ -67,7 +71,7 @@ abbrev pub padded : ℕ → List (Option Num) → List (Option Num)
 padded n locals = locals ++ replicate (n - length locals) None
 
 abbrev pub start : Program → Input → State
-start p input = record { at = 0; stack = []; locals = padded p.max_locals (flat_map locals_of (passed p.instance input)); heap = input.heap }
+start p input = record { at = 0; stack = []; locals = padded p.max_locals (flat_map locals_of (passed p.instance input)); heap = input.heap; heap0 = input.heap }
 
 -- ---- where an instruction leads
 
@@ -181,6 +185,17 @@ abbrev pub unless : State → Option Fault → Option Now → Option Now
 unless s (Some f) now = Some (throws s f)
 unless s None now = now
 
+-- ---- types
+
+-- a store of a reference throws where it is neither null nor fits the array
+abbrev pub store_fault : World → Heap → ℕ → ℕ → Option Fault
+store_fault w start r zero = None
+store_fault w start r (suc v) = if types.fits w start r (suc v) then None else Some (fault.Thrown (literal_of w types.store_text))
+
+-- a cast of this object, which isn't null, leaves it where it is of the class, and else throws
+abbrev pub cast : World → State → List ℕ → ℕ → Now
+cast w s class r = if types.is w s.heap0 class r then pushes s (num.Ref r) else throws s (fault.Thrown (literal_of w types.cast_text))
+
 -- ---- ends
 
 -- a callee returns, with or without a result, or throws
@@ -222,6 +237,12 @@ done p w s (act.PutField t f) (num.Ref zero ∷ n ∷ []) = Some (throws s fault
 done p w s (act.PutField t f) (num.Ref (suc r) ∷ n ∷ []) = keeps s t (field_place w (suc r) f) n
 done p w s (act.LoadElement k) (num.Ref r ∷ num.Int i ∷ []) = unless s (element_fault w r i) (shows s (element_type w k r) (Elem k r i))
 done p w s (act.StoreElement k) (num.Ref r ∷ num.Int i ∷ n ∷ []) = unless s (element_fault w r i) (keeps s (element_type w k r) (Elem k r i) n)
+done p w s act.StoreRef (num.Ref r ∷ num.Int i ∷ num.Ref v ∷ []) =
+    unless s (element_fault w r i) (unless s (store_fault w s.heap0 r v) (keeps s (element_type w kind.Ref r) (Elem kind.Ref r i) (num.Ref v)))
+done p w s (act.Cast class) (num.Ref zero ∷ []) = Some (pushes s (num.Ref zero))
+done p w s (act.Cast class) (num.Ref (suc r) ∷ []) = Some (cast w s class (suc r))
+done p w s (act.InstanceOf class) (num.Ref zero ∷ []) = Some (pushes s (num.Int (pos 0)))
+done p w s (act.InstanceOf class) (num.Ref (suc r) ∷ []) = Some (pushes s (num.Int (if types.is w s.heap0 class (suc r) then pos 1 else pos 0)))
 done p w s act.Length (num.Ref zero ∷ []) = Some (throws s fault.Null)
 done p w s act.Length (num.Ref (suc r) ∷ []) = Some (pushes s (num.Int (length_of w (suc r))))
 done p w s (act.Call d f) args = option_map (called s) (reply w f s.heap args)

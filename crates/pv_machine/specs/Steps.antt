@@ -25,7 +25,7 @@ below taken s = record s { stack = drop taken s.stack }
 
 -- ---- out of memory
 
--- an instruction that neither calls, nor accesses a field, nor writes the heap
+-- an instruction that neither calls, nor asks for a type, nor accesses a field, nor writes the heap
 abbrev pub IsQuiet : Action → Type 0
 IsQuiet (act.Call d f) = ⊥
 IsQuiet (act.CallOn d f) = ⊥
@@ -34,6 +34,9 @@ IsQuiet (act.PutStatic t f) = ⊥
 IsQuiet (act.GetField t f) = ⊥
 IsQuiet (act.PutField t f) = ⊥
 IsQuiet (act.StoreElement k) = ⊥
+IsQuiet act.StoreRef = ⊥
+IsQuiet (act.Cast class) = ⊥
+IsQuiet (act.InstanceOf class) = ⊥
 IsQuiet _ = Unit {0}
 
 -- an instruction leaves more numbers on the operand stack than there is memory for

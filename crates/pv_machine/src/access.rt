@@ -10,8 +10,8 @@ use crate::effect::Effect;
 use pv_frame::Action;
 use pv_value::{Fault, Heap, JType, Kind, Loc, Memory, Num, Sym, World};
 
-// Why an access of an element throws: on null, else where the index isn't in 0 to length - 1.
-fn element_fault(world: &World, array: u64, index: i32) -> Option<Fault>
+/// Why an access of an element throws: on null, else where the index isn't in 0 to length - 1.
+pub(crate) fn element_fault(world: &World, array: u64, index: i32) -> Option<Fault>
     ensures { result ≡ element_fault world.now array index }
 {
     if array == 0 {

@@ -6,7 +6,7 @@ ghost use Rattle.pv_value.specs.declared.world.World.{World};
 ghost use Rattle.pv_frame.specs.declared.program.Program.{Program};
 ghost use Rattle.pv_frame.specs.Effects.{sort_of, sort_of_type, sort_of_kind, test_takes, takes};
 ghost use Rattle.pv_machine.specs.Machine.{running, perform, given, tested, branches, held, increased};
-ghost use Rattle.pv_machine.specs.Doing.{IsPlain, IsAccess, KeepsHeap, Leads, Acts, asked};
+ghost use Rattle.pv_machine.specs.Doing.{IsPlain, IsAccess, AsksTypes, KeepsHeap, Leads, Acts, asked};
 ghost use Rattle.pv_machine.specs.Steps.{now_of, IsQuiet, IsOverfull};
 
 use crate::access::access;
@@ -17,6 +17,7 @@ use crate::moves::moved;
 use crate::operations;
 use crate::operations::{computed, divided};
 use crate::state::State;
+use crate::types::ask;
 use pv_frame::{Action, Move, Program, Sort, Test};
 use pv_list::Listed;
 use pv_value::{Descriptor, Fault, JType, Kind, Memory, Num, Outcome, Sym, World};
@@ -104,10 +105,12 @@ fn takes(action: &Action) -> &'static [Sort]
         Action::Switch(_, _) => &[Sort::Int],
         Action::Give(Some(sort)) => alone(*sort),
         Action::Throw | Action::GetField(_, _) | Action::Length => &[Sort::Ref],
+        Action::Cast(_) | Action::InstanceOf(_) => &[Sort::Ref],
         Action::PutStatic(t, _) => alone(sort_of_type(*t)),
         Action::PutField(t, _) => after_ref(sort_of_type(*t)),
         Action::LoadElement(_) => after_ref(Sort::Int),
         Action::StoreElement(kind) => after_element(sort_of_kind(*kind)),
+        Action::StoreRef => after_element(Sort::Ref),
         _ => &[],
     }
 }
@@ -186,6 +189,7 @@ fn plain(
         (Action::Give(_), _) => given(p.desc.result, operands),
         (Action::Throw, [Num::Ref(0)]) => Some(Effect::Throw(Fault::Null)),
         (Action::Throw, [Num::Ref(r)]) => Some(Effect::Throw(Fault::Thrown(*r))),
+        (Action::StoreRef | Action::Cast(_) | Action::InstanceOf(_), _) => None,
         _ => None,
     }
 }
@@ -235,6 +239,30 @@ fn reach(
     };
     let taken = operands.len();
     match access(world, &s.heap, action, operands)? {
+        Some(effect) => apply(s, taken, effect),
+        None => Ok(None),
+    }
+}
+
+// The same, of an action that asks what the world tells of types.
+fn inquire(
+    p: &Program,
+    world: &World,
+    s: &mut State,
+    action: &Action,
+) -> Result<Option<Outcome>, Memory>
+    requires asks { AsksTypes action.now }
+    requires at { s.old.state.at < usize.MAX }
+    ensures performed { IfOk result (λ end. now_of s.new.state end ≡ perform p.now world.now s.old.state action.now) }
+    ensures err { OnErr result (s.new.state ≡ s.old.state) }
+    ensures room { s.old.room ≤ s.new.room }
+    ensures max_stack { s.new.max_stack ≡ s.old.max_stack }
+{
+    let Some(operands) = s.stack.operands(takes(action)) else {
+        return Ok(None);
+    };
+    let taken = operands.len();
+    match ask(s.alloc, world, &s.heap0, action, operands)? {
         Some(effect) => apply(s, taken, effect),
         None => Ok(None),
     }
@@ -323,6 +351,7 @@ pub(crate) fn perform(
         }
         Action::Call(desc, f) => call(world, s, desc, f),
         Action::CallOn(desc, f) => call_on(world, s, desc, f),
+        Action::StoreRef | Action::Cast(_) | Action::InstanceOf(_) => inquire(p, world, s, action),
         Action::GetStatic(_, _)
         | Action::PutStatic(_, _)
         | Action::GetField(_, _)

@@ -34,6 +34,7 @@ mod operations;
 mod program;
 mod stack;
 mod state;
+mod types;
 
 pub use machine::{run, step};
 pub use program::Program;

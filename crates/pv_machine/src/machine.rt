@@ -15,8 +15,8 @@ use std::alloc::Global;
 /// leaves the state as it was. After `Memory` the state is as it was, but for more room.
 ///
 /// In a run of a method with room for the values that it may have on the operand stack, an
-/// instruction that neither calls, nor accesses a field, nor writes the heap takes no memory; the
-/// room stays.
+/// instruction that neither calls, nor asks for a type, nor accesses a field, nor writes the heap takes
+/// no memory; the room stays.
 pub fn step(p: &Program, world: &World, s: &mut State) -> Result<Option<Outcome>, Memory>
     ensures step { IfOk result (λ end. now_of s.new.state end ≡ step p.now world.now s.old.state) }
     ensures err { OnErr result (s.new.state ≡ s.old.state) }

@@ -11,14 +11,15 @@ use std::alloc::Global;
 use std::marker::Model;
 
 /// A method in the middle of its run: the place of the next instruction, the operand stack, the
-/// locals, and the heap. It knows how many values its method may have on the operand stack, and has
-/// memory for some number of them.
+/// locals, the heap, and the heap with which it started. It knows how many values its method may have
+/// on the operand stack, and has memory for some number of them.
 #[derive(Drop)]
 pub struct State {
     pub(crate) at: usize,
     pub(crate) stack: Stack,
     pub(crate) locals: Vec<Option<Num>>,
     pub(crate) heap: Heap,
+    pub(crate) heap0: Heap,
     pub(crate) max_stack: u16,
     pub(crate) alloc: Global,
 }
@@ -30,7 +31,7 @@ impl Model for State {
 
     ghost coded = { coded_state_in_memory };
 
-    ghost view = { λ s. record { state = record { at = s.at; stack = s.stack.nums; locals = s.locals.items; heap = s.heap }; room = s.stack.room; max_stack = s.max_stack } };
+    ghost view = { λ s. record { state = record { at = s.at; stack = s.stack.nums; locals = s.locals.items; heap = s.heap; heap0 = s.heap0 }; room = s.stack.room; max_stack = s.max_stack } };
 }
 
 impl State {
@@ -61,6 +62,7 @@ pub fn start(alloc: Global, p: &Program, input: &Input) -> Result<State, Memory>
         stack: Stack::new(alloc),
         locals,
         heap: input.heap.copy()?,
+        heap0: input.heap.copy()?,
         max_stack: p.program.max_stack,
         alloc,
     })

@@ -139,8 +139,6 @@ fn kind_word(kind: CauseKind) -> &'static [u8]
         CauseKind::Subroutine => b"subroutine",
         CauseKind::Dynamic => b"dynamic",
         CauseKind::Allocation => b"allocation",
-        CauseKind::RefStore => b"ref-store",
-        CauseKind::TypeTest => b"type-test",
         CauseKind::Constant => b"constant",
         CauseKind::Types => b"types",
         CauseKind::Blocks => b"blocks",

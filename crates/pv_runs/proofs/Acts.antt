@@ -71,14 +71,14 @@ module _ (p : Program) (w : World) (x : Input) (σ : ℕ → Val) where
 
   -- one value more
   pub pushed_goes : (s : State) (h : Held) (t : Sort) (q : Part) (n : Num) (now : Option Now) → M s h → sort_of n ≡ t → InRange n → PartIs w x σ q (val.Num n) → now ≡ Some (pushes s n) → Goes s (push h t q) now
-  pushed_goes s h t q n now m e r i is = record { next = record s { at = suc s.at; stack = n ∷ s.stack }; is = is; there = refl; matches = record { stack = (record { sort = e; range = r; is = i }, m.stack); locals = m.locals; heap = m.heap; token = m.token } }
+  pushed_goes s h t q n now m e r i is = record { next = record s { at = suc s.at; stack = n ∷ s.stack }; is = is; there = refl; matches = record { stack = (record { sort = e; range = r; is = i }, m.stack); locals = m.locals; heap = m.heap; token = m.token; start = m.start } }
 
   pub goes_to : (s : State) (g h : Held) (now : Option Now) → g ≡ h → Goes s g now → Goes s h now
   goes_to s g h now e r = subst (λ (g : Held). Goes s g now) e r
 
   -- another heap
   pub heap_goes : (s : State) (h : Held) (q : Part) (n : ℤ) (now : Option Now) (place : _) → M s h → PartIs w x σ q (val.Heap (written s.heap place n)) → now ≡ Some (next (record s { heap = written s.heap place n })) → Goes s (record h { heap = q }) now
-  heap_goes s h q n now place m i is = record { next = record s { at = suc s.at; heap = written s.heap place n }; is = is; there = refl; matches = record { stack = m.stack; locals = m.locals; heap = i; token = m.token } }
+  heap_goes s h q n now place m i is = record { next = record s { at = suc s.at; heap = written s.heap place n }; is = is; there = refl; matches = record { stack = m.stack; locals = m.locals; heap = i; token = m.token; start = m.start } }
 
   static_read : (s : State) (h : Held) (t : JType) (f : Sym) (n : Num) → M s h → field_type f.desc ≡ Some t → shown t (read s.heap (static_place w f)) ≡ Some n → PartIs w x σ (Of (op.GetStatic f) refl (More h.heap NoPart)) (val.Num n)
   unfolding strict
@@ -116,7 +116,7 @@ module _ (p : Program) (w : World) (x : Input) (σ : ℕ → Val) where
         next = record s { at = suc s.at; locals = set_local sort_of_local None k (Some n) s.locals };
         is = ap (λ (b : Bool). option_map next (if b then Some (record s { locals = set_local sort_of_local None k (Some n) s.locals }) else None)) space;
         there = refl;
-        matches = record { stack = m.stack; locals = set_local_is w x σ k (Some n) c s.locals h.locals i.sort l m.locals; heap = m.heap; token = m.token };
+        matches = record { stack = m.stack; locals = set_local_is w x σ k (Some n) c s.locals h.locals i.sort l m.locals; heap = m.heap; token = m.token; start = m.start };
       })
 
   increase_goes : (k : ℕ) (by : ℤ) (s : State) (h g : Held) → M s h → acted_on (act.Increase k by) h [] ≡ Some g → Goes s g (done p w s (act.Increase k by) [])
@@ -130,7 +130,7 @@ module _ (p : Program) (w : World) (x : Input) (σ : ℕ → Val) where
         is = ap (λ (o : Option Num). option_map (λ n. next (record s { locals = slice_set s.locals k (Some n) })) (o >>= increased by)) f.is
             ∙ ap (option_map (λ n. next (record s { locals = slice_set s.locals k (Some n) }))) i.1;
         there = refl;
-        matches = record { stack = m.stack; locals = set_is w x σ k (Some i.0) (increased_cell by c.0) s.locals h.locals l m.locals; heap = m.heap; token = m.token };
+        matches = record { stack = m.stack; locals = set_is w x σ k (Some i.0) (increased_cell by c.0) s.locals h.locals l m.locals; heap = m.heap; token = m.token; start = m.start };
       })
 
   move_goes : (v : Move) (s : State) (h g : Held) → M s h → acted_on (act.Move v) h [] ≡ Some g → Goes s g (done p w s (act.Move v) [])
@@ -141,7 +141,7 @@ module _ (p : Program) (w : World) (x : Input) (σ : ℕ → Val) where
         next = record s { at = suc s.at; stack = f.0 };
         is = ap (option_map (λ (stack : List Num). next (record s { stack = stack }))) f.1;
         there = refl;
-        matches = record { stack = f.2; locals = m.locals; heap = m.heap; token = m.token };
+        matches = record { stack = f.2; locals = m.locals; heap = m.heap; token = m.token; start = m.start };
       })
 
   abbrev Done : State → Action → List Num → Held → Type 0
@@ -163,7 +163,7 @@ module _ (p : Program) (w : World) (x : Input) (σ : ℕ → Val) where
   -- an action that only goes on, with its operands
   pub simple_goes : (a : Action) (s : State) (h g : Held) (nums : List Num) (cells : List Cell) → IsSimple a → IsClean a → M s h → Operands nums cells → map sort_of nums ≡ takes a → acted_on a h cells ≡ Some g → Done s a nums g
   simple_goes act.Nop s h g nums cells i c m all es e =
-      subst (λ (ns : List Num). Done s act.Nop ns g) (sym (no_nums nums es)) (goes_to s h g _ (some_of _ _ e) (record { next = record s { at = suc s.at }; is = refl; there = refl; matches = record { stack = m.stack; locals = m.locals; heap = m.heap; token = m.token } }))
+      subst (λ (ns : List Num). Done s act.Nop ns g) (sym (no_nums nums es)) (goes_to s h g _ (some_of _ _ e) (record { next = record s { at = suc s.at }; is = refl; there = refl; matches = record { stack = m.stack; locals = m.locals; heap = m.heap; token = m.token; start = m.start } }))
   simple_goes (act.Push n) s h g nums cells i c m all es e = subst (λ (ns : List Num). Done s (act.Push n) ns g) (sym (no_nums nums es)) (goes_to s _ g _ (some_of _ _ e) (pushed_goes s h (sort_of n) (number_part n) n _ m refl (number_range n c) (number_is n c) refl))
   simple_goes (act.Literal text) s h g nums cells i c m all es e =
       subst (λ (ns : List Num). Done s (act.Literal text) ns g) (sym (no_nums nums es)) (goes_to s _ g _ (some_of _ _ e) (pushed_goes s h sort.Ref _ (num.Ref (literal_of w text)) _ m refl tt (literal_is text) refl))
@@ -207,7 +207,7 @@ module _ (p : Program) (w : World) (x : Input) (σ : ℕ → Val) where
   pub takes_both : (a : Action) (s : State) (h : Held) (q : List Cell × List Cell) → M s h → popped cell_sort (takes a) h.stack ≡ Some q → Takes a s h q
   takes_both a s h q m e =
       let f = taken_found (λ n c. StackIs w x σ n c) (popped sort_of (takes a) s.stack) (popped cell_sort (takes a) h.stack) q (popped_both (λ n c. StackIs w x σ n c) sort_of cell_sort (λ n c i. i.sort) (takes a) s.stack h.stack m.stack) e in
-      record { nums = f.0.0; stack = f.0.1; found = f.1; operands = f.2; matches = record { stack = f.3; locals = m.locals; heap = m.heap; token = m.token }; sorts = popped_sorts sort_of (takes a) s.stack f.0 f.1 }
+      record { nums = f.0.0; stack = f.0.1; found = f.1; operands = f.2; matches = record { stack = f.3; locals = m.locals; heap = m.heap; token = m.token; start = m.start }; sorts = popped_sorts sort_of (takes a) s.stack f.0 f.1 }
 
   -- THE STEP of an action that only goes on
   pub steps_on : (a : Action) (s : State) (h g : Held) → IsSimple a → IsClean a → M s h → acted a h ≡ Some g → Goes s g (performed p w s a)

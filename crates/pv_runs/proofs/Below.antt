@@ -1,5 +1,5 @@
 -- What a block computes names only the slots of what is held at its beginning.
-use Rattle.std.proofs.Common.{◌≡◌, ℕ, zero, suc, ◌+◌, ◌*◌, ◌<◌, ◌≤◌, Bool, true, false, List, [], ◌∷◌, length, Option, Some, None, refl, ap, subst, inl, inr, arith, if◌then◌else◌}
+use Rattle.std.proofs.Common.{◌≡◌, ℕ, zero, suc, pos, ◌+◌, ◌*◌, ◌<◌, ◌≤◌, Bool, true, false, List, [], ◌∷◌, length, Option, Some, None, refl, ap, subst, inl, inr, arith, if◌then◌else◌}
 use Rattle.std.specs.Prelude.{◌==◌, slice_get, slice_set}
 use Rattle.std.specs.List.{AllZip, AllByRecursion}
 use Rattle.pv_pool.specs.Readers.{◌>>=◌}
@@ -25,8 +25,8 @@ use Rattle.pv_frame.specs.Effects.{takes}
 use Rattle.pv_frame.proofs.Cited.{some_of, no_some, if_some}
 use Rattle.pv_equations.specs.Flow as flow
 use Rattle.pv_equations.specs.Flow.{Part, Parts, Slot, Exit, Chain, Leave, InChain, NamesBelow, AllBelow, InTests}
-use Rattle.pv_runs.specs.Held.{local_place, stack_place, local_slot, stack_slot, Cell, Held, cell_sort, number_part, parts_of, unset, local_part, stack_part, local_cells, stack_cells, held_at, push, of_cell, local_cell, increased_cell, unit_part, clear_part, after_call, with_result, acted_on, acted}
-use Rattle.pv_runs.specs.Chains.{to, throw, give, compared, branch, switch, test_part, end_slots, fault_part, is_zero, narrowed_part, unless_thrown, unless_null, within, chain_with, given_chain, last_chain, ends_method, chain_of}
+use Rattle.pv_runs.specs.Held.{local_place, stack_place, local_slot, stack_slot, Cell, Held, cell_sort, number_part, parts_of, unset, local_part, stack_part, local_cells, stack_cells, held_at, int_part, push, of_cell, local_cell, increased_cell, unit_part, clear_part, after_call, with_result, acted_on, acted}
+use Rattle.pv_runs.specs.Chains.{to, throw, give, compared, branch, switch, test_part, end_slots, fault_part, is_zero, narrowed_part, unless_thrown, unless_null, within, with_held, stores_ref, chain_with, given_chain, last_chain, ends_method, chain_of}
 use Rattle.pv_runs.specs.Blocks.{acted_along}
 use Rattle.pv_runs.proofs.Options.{mapped, bound}
 use Rattle.pv_runs.proofs.Related.{popped_both, moved_both, taken_found, lists_found}
@@ -179,6 +179,9 @@ module _ (n : ℕ) where
   acted_below (act.PutField t f) h g cells z b c e = below_of _ g (heap_below h _ b (b.heap, parts_below cells c)) (some_of _ _ e)
   acted_below (act.LoadElement k) h g cells z b c e = below_of _ g (push_below h _ _ b (b.heap, parts_below cells c)) (some_of _ _ e)
   acted_below (act.StoreElement k) h g cells z b c e = below_of _ g (heap_below h _ b (b.heap, parts_below cells c)) (some_of _ _ e)
+  acted_below act.StoreRef h g cells z b c e = below_of _ g (heap_below h _ b (b.heap, parts_below cells c)) (some_of _ _ e)
+  acted_below (act.Cast class) h g (o ∷ []) z b c e = below_of _ g (push_below h _ _ b c.0) (some_of _ _ e)
+  acted_below (act.InstanceOf class) h g (o ∷ []) z b c e = below_of _ g (push_below h _ _ b tt) (some_of _ _ e)
   acted_below act.Length h g cells z b c e = below_of _ g (push_below h _ _ b (parts_below cells c)) (some_of _ _ e)
   acted_below (act.Call d f) h g cells z b c e = below_of _ g (result_below h f cells d.result z b c) (some_of _ _ e)
   acted_below (act.CallOn d f) h g cells z b c e = below_of _ g (result_below h f cells d.result z b c) (some_of _ _ e)
@@ -253,6 +256,25 @@ module _ (n : ℕ) where
   within_below a i h next x y b z =
       ((x, (tt, tt)), throw_below _ h tt b, ((y, (tt, tt)), throw_below _ h tt b, ((y, ((x, tt), tt)), z, throw_below _ h tt b)))
 
+  -- whatever stands at the exit otherwise
+  with_below : (h : Held) (next : Exit) → HeldBelow h → ExitBelow (with_held h next)
+  with_below h next b = to_below 0 h b
+
+  stores_below : (a i v : Part) (h : Held) (next : Exit) → NamesBelow n a → NamesBelow n i → NamesBelow n v → HeldBelow h → ExitBelow next → ChainBelow (stores_ref a i v h next)
+  stores_below a i v h next x y u b z = (
+    (x, (tt, tt)),
+    throw_below _ h tt b,
+    (
+      (y, (tt, tt)),
+      throw_below _ h tt b,
+      (
+        ((y, ((x, tt), tt)), (tt, tt)),
+        throw_below _ h tt b,
+        ((u, (tt, tt)), z, ((tt, (x, (u, tt))), z, throw_below _ h (tt, tt) b)),
+      ),
+    ),
+  )
+
   thrown_below : (f : Sym) (h : Held) (cells : List Cell) (next : Exit) → 0 < n → HeldBelow h → CellsBelow cells → ExitBelow next → ChainBelow (unless_thrown f h cells next)
   thrown_below f h cells next z b x y =
       let args = parts_below cells x in
@@ -270,6 +292,9 @@ module _ (n : ℕ) where
   next_below r act.Length h (a ∷ []) next c z b x y e = chain_of_same _ c (null_below a.part h next x.0 b y) e
   next_below r (act.LoadElement k) h (a ∷ i ∷ []) next c z b x y e = chain_of_same _ c (within_below a.part i.part h next x.0 x.1.0 b y) e
   next_below r (act.StoreElement k) h (a ∷ i ∷ v ∷ []) next c z b x y e = chain_of_same _ c (within_below a.part i.part h next x.0 x.1.0 b y) e
+  next_below r act.StoreRef h (a ∷ i ∷ v ∷ []) next c z b x y e = chain_of_same _ c (stores_below a.part i.part v.part h next x.0 x.1.0 x.1.1.0 b y) e
+  next_below r (act.Cast class) h (o ∷ []) next c z b x y e = chain_of_same _ c ((x.0, (tt, tt)), y, ((tt, (x.0, tt)), y, throw_below _ h (tt, tt) b)) e
+  next_below r (act.InstanceOf class) h (o ∷ []) next c z b x y e = chain_of_same _ c ((x.0, (tt, tt)), y, ((tt, (x.0, tt)), with_below (push h sort.Int (int_part (pos 1))) next (push_below h sort.Int (int_part (pos 1)) b tt), y)) e
   next_below r (act.Call d f) h cells next c z b x y e = chain_of_same _ c (thrown_below f h cells next z b x y) e
   next_below r (act.CallOn d f) h (o ∷ cells) next c z b x y e = chain_of_same _ c ((x.0, (tt, tt)), throw_below _ h tt b, thrown_below f h (o ∷ cells) next z b x y) e
   next_below r act.Nop h cells next c z b x y e = chain_of_same _ c y e

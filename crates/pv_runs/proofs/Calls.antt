@@ -25,21 +25,17 @@ use Rattle.pv_frame.specs.declared.program.Program.{Program}
 use Rattle.pv_machine.specs.Machine.{State, called}
 use Rattle.pv_machine.proofs.Cited.{of_sort_type}
 use Rattle.pv_graph.specs.declared.node.Op.TheVariants as op
-use Rattle.pv_denote.specs.Denote.{strict, numbers, reply_result, end_part, result_part, fault_part as fault_of_reply, heap_part, over_call}
+use Rattle.pv_denote.specs.Denote.{strict, reply_result, end_part, result_part, fault_part as fault_of_reply, heap_part, over_call}
 use Rattle.pv_equations.specs.Flow.{Part, Of, NoPart, More, call_token, PartIs, PartsAre, Throw, Chain, Leave, Waits}
 use Rattle.pv_runs.specs.Held.{Cell, Held, call_parts, after_call, with_result}
 use Rattle.pv_runs.specs.Matches.{StackIs}
 use Rattle.pv_runs.specs.Chains.{to, throw, fault_part, unless_thrown}
 use Rattle.pv_runs.proofs.Ranges.{sort_range}
 use Rattle.pv_runs.proofs.Once.{parts_once}
-use Rattle.pv_runs.proofs.Values.{numbers_of, parts_are}
+use Rattle.pv_runs.proofs.Values.{numbers_of, numbers_back, parts_are}
 use Rattle.pv_runs.proofs.Acts.{M, Operands}
 use Rattle.pv_runs.proofs.Lasts.{Leaves, comes, waits, thrown}
 use Rattle.pv_runs.proofs.Tests.{Tests, yes, no, clear_tests}
-
-numbers_back : (nums : List Num) → numbers (numbers_of nums) ≡ Some nums
-numbers_back [] = refl
-numbers_back (n ∷ nums) = ap (λ (o : Option (List Num)). bind o (λ ns. Some (n ∷ ns))) (numbers_back nums)
 
 module _ (p : Program) (w : World) (x : Input) (σ : ℕ → Val) (world : IsWorld w) (unit : σ 0 ≡ val.Unit) (s : State) (h : Held) (f : Sym) (d : Descriptor) (nums : List Num) (cells : List Cell)
     (m : M p w x σ s h) (all : Operands p w x σ nums cells) where
@@ -95,7 +91,7 @@ module _ (p : Program) (w : World) (x : Input) (σ : ℕ → Val) (world : IsWor
   fault_part_is o e r z = (val.Heap s.heap ∷ numbers_of nums, args, fault_is (Some o) r ∙ z)
 
   after_matches : (o : Outcome) (g : Heap) → worlds.reply w f s.heap nums ≡ Some o → heap_part (Some o) s.heap ≡ Some (val.Heap g) → M p w x σ (record s { heap = g }) (after_call h f cells)
-  after_matches o g r z = record { stack = m.stack; locals = m.locals; heap = (val.Heap s.heap ∷ numbers_of nums, args, heap_is (Some o) r ∙ z); token = token_is o r }
+  after_matches o g r z = record { stack = m.stack; locals = m.locals; heap = (val.Heap s.heap ∷ numbers_of nums, args, heap_is (Some o) r ∙ z); token = token_is o r; start = m.start }
 
   clear_says : (o : Outcome) → worlds.reply w f s.heap nums ≡ Some o → fault_of_reply (Some o) s.heap ≡ Some (val.Fault fault.Clear) → Tests w x σ (Of op.IsClear refl (More (fault_part f h cells) NoPart)) true
   clear_says o r z = clear_tests w x σ (fault_part f h cells) fault.Clear true (fault_part_is o fault.Clear r z) refl
@@ -104,7 +100,7 @@ module _ (p : Program) (w : World) (x : Input) (σ : ℕ → Val) (world : IsWor
   returned None None g is typed e i =
       let a = after_matches (Returned None g) g e refl in
       comes (suc s.at) (after_call h f cells) (record s { at = suc s.at; heap = g }) (yes w x σ (Of op.IsClear refl (More (fault_part f h cells) NoPart)) (to (suc s.at) (after_call h f cells)) (Leave (throw (fault_part f h cells) (after_call h f cells))) (clear_says (Returned None g) e refl)) refl
-      (record { stack = a.stack; locals = a.locals; heap = a.heap; token = a.token })
+      (record { stack = a.stack; locals = a.locals; heap = a.heap; token = a.token; start = a.start })
   returned (Some t) (Some n) g is typed e i =
       let a = after_matches (Returned (Some n) g) g e refl in
       let given : result_part f (Some (Returned (Some n) g)) s.heap ≡ Some (val.Num n) =
@@ -112,7 +108,7 @@ module _ (p : Program) (w : World) (x : Input) (σ : ℕ → Val) (world : IsWor
       let c : StackIs w x σ n (record { sort = sort_of_type t; part = Of (op.CallRes f) refl (call_parts h cells) }) =
       record { sort = of_sort_type t n i; range = sort_range t n i; is = (val.Heap s.heap ∷ numbers_of nums, args, result_is (Some (Returned (Some n) g)) e ∙ given) } in
       comes (suc s.at) (with_result h f cells (Some t)) (record s { at = suc s.at; heap = g; stack = n ∷ s.stack }) (yes w x σ (Of op.IsClear refl (More (fault_part f h cells) NoPart)) (to (suc s.at) (with_result h f cells (Some t))) (Leave (throw (fault_part f h cells) (after_call h f cells))) (clear_says (Returned (Some n) g) e refl)) refl
-      (record { stack = (c, a.stack); locals = a.locals; heap = a.heap; token = a.token })
+      (record { stack = (c, a.stack); locals = a.locals; heap = a.heap; token = a.token; start = a.start })
   returned None (Some n) g is typed e i = absurd i
   returned (Some t) None g is typed e i = absurd i
 

@@ -129,7 +129,7 @@ module _ (p : Program) (clean : IsCleanProgram p) (w : World) (world : IsWorld w
 
   -- the machine is where block b begins
   abbrev pub Here : ℕ → (ℕ → Val) → State → Type 0
-  Here b σ s = (k : Block) × (slice_get blocks b ≡ Some k) × At frames k.first σ s
+  Here b σ s = (k : Block) × (slice_get blocks b ≡ Some k) × At x frames k.first σ s
 
   -- what the machine does from where a block begins
   pub data Does (b : ℕ) (σ : ℕ → Val) (s : State) : Type 0 where
@@ -145,8 +145,8 @@ module _ (p : Program) (clean : IsCleanProgram p) (w : World) (world : IsWorld w
   stays_on zero s e = refl
   stays_on (suc n) s e = ap (λ (q : Next State). followed q (λ t. after (steps p w) n t)) e ∙ stays_on n s e
 
-  at_left : (σ : ℕ → Val) (m : ℕ) (t : State) (g : Held) (y : Matches w x σ t g) → t.at ≡ m → IsTypedState frames t → At frames m (left_slots w x σ t g y) t
-  at_left σ m t g y e typed = record { here = e; typed = typed; token = left_token w x σ t g y; heap = left_heap w x σ t g y; locals = left_locals w x σ t g y; stack = left_stack w x σ t g y }
+  at_left : (σ : ℕ → Val) (m : ℕ) (t : State) (g : Held) (y : Matches w x σ t g) → t.at ≡ m → IsTypedState frames t → At x frames m (left_slots w x σ t g y) t
+  at_left σ m t g y e typed = record { here = e; typed = typed; start = y.start; token = left_token w x σ t g y; heap = left_heap w x σ t g y; locals = left_locals w x σ t g y; stack = left_stack w x σ t g y }
 
   -- a block with its chain
   chained_at : (b : ℕ) (k : Block) → slice_get blocks b ≡ Some k → Chained p frames well_typed clean k
@@ -173,12 +173,12 @@ module _ (p : Program) (clean : IsCleanProgram p) (w : World) (world : IsWorld w
         | inr next ↦ subst (Begins p) (sym next) (flow.each b k at).span.next
       ]
 
-  comes_to : (m : ℕ) (τ : ℕ → Val) (t : State) → Begins p m → At frames m τ t → Here (number_at blocks m) τ t
+  comes_to : (m : ℕ) (τ : ℕ → Val) (t : State) → Begins p m → At x frames m τ t → Here (number_at blocks m) τ t
   comes_to m τ t begins h =
       let there : IsFrameAt frames m h.typed.frame = subst (λ (j : ℕ). IsFrameAt frames j h.typed.frame) h.here h.typed.there in
       let n = flow.all m begins (well_typed.reached m h.typed.frame there) in
       let k = n.1 in
-      subst (λ (i : ℕ). Here i τ t) (sym (number_is blocks flow.ascend n.0 m k)) (k.0, k.1, subst (λ (j : ℕ). At frames j τ t) (sym k.2) h)
+      subst (λ (i : ℕ). Here i τ t) (sym (number_is blocks flow.ascend n.0 m k)) (k.0, k.1, subst (λ (j : ℕ). At x frames j τ t) (sym k.2) h)
 
   left : (b : ℕ) (σ : ℕ → Val) (s : State) (h : Here b σ s) → (n : ℕ) (u : State) → after (steps p w) n s ≡ Onward u → (now : Option Now) → step p w u ≡ unwrap_or now (running u) → Leaves p w x σ (chained_at b h.0 h.1).chain now → Does b σ s
   left b σ s h n u reach now st (comes m g t ch at y) =
@@ -211,7 +211,7 @@ module _ (p : Program) (clean : IsCleanProgram p) (w : World) (world : IsWorld w
       let there : IsFrameAt frames h.0.first typed.frame = subst (λ (k : ℕ). IsFrameAt frames k typed.frame) h.2.here typed.there in
       let same : y.frame ≡ typed.frame = some_of _ _ (some_of _ _ (sym y.there ∙ there)) in
       let block : IsBlock p h.0.first (held_at typed.frame) y.chain = subst (λ (g : Frame). IsBlock p h.0.first (held_at g) y.chain) same y.block in
-      block_runs p clean w world x σ h.2.token h.0.first (held_at typed.frame) y.chain block s h.2.here (enters w x σ s typed.frame typed.flows h.2.token h.2.heap h.2.locals h.2.stack) (λ n t e. well_at t (typed_after n s t typed e))
+      block_runs p clean w world x σ h.2.token h.0.first (held_at typed.frame) y.chain block s h.2.here (enters w x σ s typed.frame typed.flows h.2.token h.2.heap h.2.locals h.2.stack h.2.start) (λ n t e. well_at t (typed_after n s t typed e))
 
   -- where an exit has the token of a call, its arguments have values
   pub arguments : (b : ℕ) (σ : ℕ → Val) (s : State) (e : Exit) (c : Sym) (ps : Parts) → Here b σ s → InChain (f.chain b) e → e.slots 0 ≡ call_token c ps → (us : List Val) × PartsAre w x σ ps us

@@ -8,7 +8,7 @@ use Rattle.pv_value.specs.declared.descriptor.JType.{JType}
 use Rattle.pv_pool.specs.declared.entry.Entry.{Entry}
 use Rattle.pv_pool.specs.declared.entry.Entry.TheVariants as entry
 use Rattle.pv_pool.specs.Pools.{entry_under}
-use Rattle.pv_pool.specs.Readers.{◌>>=◌, constant_of, constant_under, member_under}
+use Rattle.pv_pool.specs.Readers.{◌>>=◌, constant_of, constant_under, class_name_under, member_under}
 use Rattle.pv_pool.specs.declared.constant.Constant.{Constant}
 use Rattle.pv_pool.specs.declared.constant.Constant.TheVariants as constant
 use Rattle.pv_pool.specs.declared.constant.Member.{Member}
@@ -23,7 +23,7 @@ use Rattle.pv_insn.specs.Codes.{AreFrom, Resolves, IsPlaced}
 use Rattle.pv_frame.specs.declared.used.Use.{Use}
 use Rattle.pv_frame.specs.declared.used.Use.TheVariants as used
 use Rattle.pv_frame.specs.declared.action.Action.{Action}
-use Rattle.pv_frame.specs.Actions.{plain_rows, local_rows, branch_rows, field_rows, row_of, loads_narrow, loads_wide, use_of_constant, use_of_member, use_of, IsUse, IsFloatless, LoadsConstant, UsesMember, ActsWith, Acts}
+use Rattle.pv_frame.specs.Actions.{plain_rows, local_rows, branch_rows, field_rows, class_rows, row_of, loads_narrow, loads_wide, names_class, use_of_constant, use_of_class, use_of_member, use_of, IsUse, IsFloatless, LoadsConstant, UsesMember, ActsWith, Acts}
 use Rattle.pv_frame.specs.declared.program.Program.{Program}
 use Rattle.pv_frame.specs.Programs.{IsAt, Does, IsProgramOf}
 use Rattle.pv_class.specs.declared.file.ClassFile.{ClassFile}
@@ -48,7 +48,7 @@ made_has P make None a h e = no_some a e
 made_has P make (Some x) a h e = subst P (some_of _ _ e) (h x refl)
 
 plain_clean : AllByRecursion (λ r. IsClean r.1) plain_rows
-plain_clean = (tt, (refl, (record { sfits = lit< tt }, (record { sfits = lit< tt }, (record { sfits = lit< tt }, (record { sfits = lit< tt }, (record { sfits = lit< tt }, (record { sfits = lit< tt }, (record { sfits = lit< tt }, (tt, (tt, (tt, (tt, (tt, (tt, (tt, (tt, (tt, (tt, (tt, (tt, (tt, (tt, (tt, (tt, (tt, (tt, (tt, (tt, (tt, (tt, (tt, (tt, (tt, (tt, (tt, (tt, (tt, (tt, (tt, (tt, (tt, (tt, (tt, (tt, (tt, (tt, (tt, (tt, (tt, (tt, (tt, (tt, (tt, (tt, (tt, (tt, (tt, (tt, (tt, (tt, (refl, (refl, (refl, (refl, (tt, (tt, (tt, (tt, (tt, (tt, (tt, (tt, (tt, (tt, (tt, (tt, (tt, (tt, (tt, (tt, (tt, (tt, (tt, (tt, (tt, (tt, (tt, (tt, (tt, (tt, tt)))))))))))))))))))))))))))))))))))))))))))))))))))))))))))))))))))))))))))))))))))))))))))
+plain_clean = (tt, (refl, (record { sfits = lit< tt }, (record { sfits = lit< tt }, (record { sfits = lit< tt }, (record { sfits = lit< tt }, (record { sfits = lit< tt }, (record { sfits = lit< tt }, (record { sfits = lit< tt }, (tt, (tt, (tt, (tt, (tt, (tt, (tt, (tt, (tt, (tt, (tt, (tt, (tt, (tt, (tt, (tt, (tt, (tt, (tt, (tt, (tt, (tt, (tt, (tt, (tt, (tt, (tt, (tt, (tt, (tt, (tt, (tt, (tt, (tt, (tt, (tt, (tt, (tt, (tt, (tt, (tt, (tt, (tt, (tt, (tt, (tt, (tt, (tt, (tt, (tt, (tt, (tt, (tt, (refl, (refl, (refl, (refl, (tt, (tt, (tt, (tt, (tt, (tt, (tt, (tt, (tt, (tt, (tt, (tt, (tt, (tt, (tt, (tt, (tt, (tt, (tt, (tt, (tt, (tt, (tt, (tt, (tt, (tt, tt))))))))))))))))))))))))))))))))))))))))))))))))))))))))))))))))))))))))))))))))))))))))))))
 
 local_clean : AllByRecursion (λ r. (n : ℕ) → IsClean (r.1 n)) local_rows
 local_clean = (λ _. tt, (λ _. tt, (λ _. tt, (λ _. tt, (λ _. tt, (λ _. tt, tt))))))
@@ -58,6 +58,9 @@ branch_clean = (λ _. tt, (λ _. tt, (λ _. tt, (λ _. tt, (λ _. tt, (λ _. tt,
 
 field_clean : AllByRecursion (λ r. (t : JType) (f : Sym) → IsFloatless t → field_type f.desc ≡ Some t → IsClean (r.1 t f)) field_rows
 field_clean = (λ _ _ h k. (h, k), (λ _ _ h k. (h, k), (λ _ _ h k. (h, k), (λ _ _ h k. (h, k), tt))))
+
+class_clean : AllByRecursion (λ r. (name : List ℕ) → IsClean (r.1 name)) class_rows
+class_clean = (λ _. tt, (λ _. tt, tt))
 
 -- ints of the constant pool are in range, and so are those that stand in the code
 abbrev FitsConstant : Constant → Type 0
@@ -92,11 +95,18 @@ member_fits : (o : Option Member) → FitsUse (use_of_member o)
 member_fits None = tt
 member_fits (Some m) = tt
 
+class_fits : (o : Option (List ℕ)) → FitsUse (use_of_class o)
+class_fits None = tt
+class_fits (Some name) = tt
+
 use_fits : (pool : List Entry) (i : Insn) → FitsUse (use_of pool i)
 use_fits pool (insn.Pool opcode k) =
-    elim (loads_narrow opcode || loads_wide opcode) as (λ b. FitsUse (if b then use_of_constant (constant_under pool k) else use_of_member (member_under pool k))) [
+    elim (loads_narrow opcode || loads_wide opcode) as (λ b. FitsUse (if b then use_of_constant (constant_under pool k) else if names_class opcode then use_of_class (class_name_under pool k) else use_of_member (member_under pool k))) [
       | true ↦ constant_fits (entry_under pool k)
-      | false ↦ member_fits (member_under pool k)
+      | false ↦ elim (names_class opcode) as (λ b. FitsUse (if b then use_of_class (class_name_under pool k) else use_of_member (member_under pool k))) [
+        | true ↦ class_fits (class_name_under pool k)
+        | false ↦ member_fits (member_under pool k)
+      ]
     ]
 use_fits pool i = tt
 
@@ -159,6 +169,8 @@ member_clean opcode m a (inr (inr h)) = subst IsClean (sym h.is) (receivers_apar
 with_clean : (pool : List Entry) (opcode : ℕ) (u : Use) (a : Action) → FitsUse u → ActsWith pool opcode u a → IsClean a
 with_clean pool opcode (used.Constant c) a f h = constant_clean pool opcode c a f h
 with_clean pool opcode (used.Member m) a f h = member_clean opcode m a h
+with_clean pool opcode (used.Class name) a f h =
+    made_has IsClean (λ make. make name) (row_of class_rows opcode) a (λ make e. row_has (λ make. (name : List ℕ) → IsClean (make name)) class_rows class_clean opcode make e name) h
 with_clean pool opcode used.None a f h = elim h [ ]
 
 pub acts_clean : (pool : List Entry) (i : Insn) (u : Use) (a : Action) → FitsInsn i → IsUse pool i u → Acts pool i u a → IsClean a

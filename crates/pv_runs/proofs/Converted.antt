@@ -79,7 +79,7 @@ module _ (p : Program) (clean : IsCleanProgram p) (w : World) (world : IsWorld w
   starts_here : Fits p.desc x → H 0 (entry_slots p x) (start p x)
   starts_here fits =
       let b = entry_block p blocks flow in
-      (b.0, b.1, subst (λ (k : ℕ). At frames k (entry_slots p x) (start p x)) (sym b.2) (entry_at p frames well_typed.agrees x fits))
+      (b.0, b.1, subst (λ (k : ℕ). At x frames k (entry_slots p x) (start p x)) (sym b.2) (entry_at p frames well_typed.agrees x fits))
 
   pub runs_convert : IsRanked f (length blocks) → (v : Values) → AreEquations f v → (g : Graph) (r : ℕ) (d : Exp) → UnfoldsAs (form_at g.nodes) (form_of f v) r (root_of f v d)
       → Fits p.desc x → (i : Index) (o : Outcome) → Value g w x r i (val.End o) ↔ RunEnds p w x o

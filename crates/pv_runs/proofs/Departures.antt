@@ -1,5 +1,5 @@
 -- The exits of a block's chain are the departures of its last action, in their order.
-use Rattle.std.proofs.Common.{◌≡◌, ℕ, suc, Bool, true, false, List, [], ◌∷◌, ◌++◌, map, Option, Some, None, refl, ap, sym, subst, ◌∙◌, inl, inr, if◌then◌else◌}
+use Rattle.std.proofs.Common.{◌≡◌, ℕ, suc, pos, Bool, true, false, List, [], ◌∷◌, ◌++◌, map, Option, Some, None, refl, ap, sym, subst, ◌∙◌, inl, inr, if◌then◌else◌}
 use Rattle.std.specs.Prelude.{◌⊎◌, Contains}
 use Rattle.std.specs.List.{AllZip}
 use Rattle.pv_pool.specs.Readers.{◌>>=◌}
@@ -7,6 +7,7 @@ use Rattle.pv_value.specs.declared.name.Sym.{Sym}
 use Rattle.pv_value.specs.declared.descriptor.JType.{JType}
 use Rattle.pv_insn.specs.declared.insn.Case.{Case}
 use Rattle.pv_frame.specs.declared.sort.Sort.{Sort}
+use Rattle.pv_frame.specs.declared.sort.Sort.TheVariants as sort
 use Rattle.pv_frame.specs.declared.action.Comparison.{Comparison}
 use Rattle.pv_frame.specs.declared.action.Comparison.TheVariants as comparison
 use Rattle.pv_frame.specs.declared.action.Test.{Test}
@@ -19,7 +20,7 @@ use Rattle.pv_frame.proofs.Cited.{some_of, contains_first, contains_more, contai
 use Rattle.pv_flow.specs.Exits.{Departure, Goes, Returns, Throws, branches_on_no, branched, departures}
 use Rattle.pv_equations.specs.Flow as flow
 use Rattle.pv_equations.specs.Flow.{Part, Exit, Chain, Leave, InChain}
-use Rattle.pv_runs.specs.Held.{Cell, Held, cell_sort, after_call, acted_on}
+use Rattle.pv_runs.specs.Held.{Cell, Held, cell_sort, int_part, push, after_call, acted_on}
 use Rattle.pv_runs.specs.Chains.{to, throw, give, compared, branch, switch, test_part, chain_with, given_chain, last_chain, ends_method, chain_of}
 use Rattle.pv_runs.proofs.Options.{mapped, bound}
 
@@ -28,10 +29,14 @@ abbrev pub exits_of : Chain → List Exit
 exits_of (Leave e) = e ∷ []
 exits_of (flow.Test t e rest) = e ∷ exits_of rest
 
+-- one value more is held
+abbrev pub Pushes : Held → Held → Type 0
+Pushes h g = (s : Sort) × (q : Part) × (g ≡ push h s q)
+
 -- An exit for a departure of an action with these operands, where h is what is held without them: it goes to the same place, with what
--- is held before or after the action; it returns; or it throws, with what is held before it or after its call.
+-- is held before or after the action, or with the number that a type test gives; it returns; or it throws, with what is held before it or after its call.
 abbrev pub Departs : Action → Held → List Cell → Departure → Exit → Type 0
-Departs a h cells (Goes place) e = (g : Held) × (e ≡ to place g) × ((g ≡ h) ⊎ (acted_on a h cells ≡ Some g))
+Departs a h cells (Goes place) e = (g : Held) × (e ≡ to place g) × ((g ≡ h) ⊎ ((acted_on a h cells ≡ Some g) ⊎ Pushes h g))
 Departs a h cells Returns e = (result : Part) × (e ≡ give result h)
 Departs a h cells Throws e = (fault : Part) × (g : Held) × (e ≡ throw fault g) × ((g ≡ h) ⊎ ((f : Sym) × (g ≡ after_call h f cells)))
 
@@ -78,7 +83,7 @@ switch_exits R x default (c ∷ cases) h r = (r c.target, switch_exits R x defau
 module _ (r : Option JType) (h g : Held) (k : ℕ) (c : Chain) where
   -- one exit, to the next place
   only_next : (a : Action) (cells : List Cell) → acted_on a h cells ≡ Some g → Departs a h cells (Goes (suc k)) (to (suc k) g)
-  only_next a cells y = (g, refl, inr y)
+  only_next a cells y = (g, refl, inr (inl y))
 
   fails : (a : Action) (cells : List Cell) (fault : Part) → Departs a h cells Throws (throw fault h)
   fails a cells fault = (fault, h, refl, inl refl)
@@ -101,6 +106,16 @@ module _ (r : Option JType) (h g : Held) (k : ℕ) (c : Chain) where
   next_exits (act.StoreElement z) (a ∷ i ∷ x ∷ []) y e =
       let at = act.StoreElement z in
       are_exits k at h (a ∷ i ∷ x ∷ []) _ c (fails at (a ∷ i ∷ x ∷ []) _, (fails at (a ∷ i ∷ x ∷ []) _, (only_next at (a ∷ i ∷ x ∷ []) y, (fails at (a ∷ i ∷ x ∷ []) _, tt)))) e
+  next_exits act.StoreRef (a ∷ i ∷ v ∷ []) y e =
+      let at = act.StoreRef in
+      let cells : List Cell = a ∷ i ∷ v ∷ [] in
+      are_exits k at h cells _ c (fails at cells _, (fails at cells _, (fails at cells _, (only_next at cells y, (only_next at cells y, (fails at cells _, tt)))))) e
+  next_exits (act.Cast class) (o ∷ []) y e =
+      let at = act.Cast class in
+      are_exits k at h (o ∷ []) _ c (only_next at (o ∷ []) y, (only_next at (o ∷ []) y, (fails at (o ∷ []) _, tt))) e
+  next_exits (act.InstanceOf class) (o ∷ []) y e =
+      let at = act.InstanceOf class in
+      are_exits k at h (o ∷ []) _ c (only_next at (o ∷ []) y, ((push h sort.Int (int_part (pos 1)), refl, inr (inr (sort.Int, int_part (pos 1), refl))), (only_next at (o ∷ []) y, tt))) e
   next_exits (act.Call d f) cells y e = are_exits k (act.Call d f) h cells _ c (only_next (act.Call d f) cells y, ((_, after_call h f cells, refl, inr (f, refl)), tt)) e
   next_exits (act.CallOn d f) (o ∷ cells) y e =
       let at = act.CallOn d f in

@@ -8,6 +8,7 @@ use Rattle.pv_value.specs.declared.number.Num.{Num}
 use Rattle.pv_value.specs.declared.number.Num.TheVariants as num
 use Rattle.pv_value.specs.declared.name.Sym.{Sym}
 use Rattle.pv_value.specs.declared.heap.Kind.{Kind as ElementKind}
+use Rattle.pv_value.specs.declared.heap.Kind.TheVariants as kind
 use Rattle.pv_value.specs.declared.heap.Loc.TheVariants.{Elem}
 use Rattle.pv_value.specs.declared.descriptor.JType.{JType}
 use Rattle.pv_value.specs.declared.descriptor.JType.TheVariants as jtype
@@ -45,12 +46,13 @@ use Rattle.pv_equations.specs.Flow.{Part, Of, NoPart, More, PartIs, Exit, Chain,
 use Rattle.pv_runs.specs.Held.{Cell, Held, cell_sort, unit_part, null_part, acted_on, with_result}
 use Rattle.pv_runs.specs.Matches.{InRange, IsClean, EndsWell}
 use Rattle.pv_runs.proofs.Ranges.{shown_range, length_range, boolean_is}
-use Rattle.pv_runs.specs.Chains.{to, throw, give, aeq, is_zero, test_part, branch, narrowed_part, unless_thrown, unless_null, within, chain_with, given_chain, last_chain, ends_method, chain_of}
+use Rattle.pv_runs.specs.Chains.{to, throw, give, aeq, is_zero, test_part, branch, narrowed_part, unless_thrown, unless_null, within, unless_other, asks_class, stores_ref, chain_with, given_chain, last_chain, ends_method, chain_of}
 use Rattle.pv_runs.proofs.Options.{bound}
 use Rattle.pv_runs.proofs.States.{IsSimple}
 use Rattle.pv_runs.proofs.Acts.{M, Operands, takes_both, simple_goes, pushed_goes, heap_goes}
 use Rattle.pv_runs.proofs.Tests.{yes, no, same_test, suc_not_zero, null_tests, branch_asks}
 use Rattle.pv_runs.proofs.Calls.{call_leaves}
+use Rattle.pv_runs.proofs.Facts.{cast_null, cast_leaves, asks_null, asks_leaves, stores_leaves}
 use Rattle.pv_runs.proofs.Lasts.{Leaves, thrown, given_back, given_none, goes_there, goes_next, branch_leaves, switch_chooses, null_first, some_first, null_leaves, some_leaves, null_fault, not_null, divide_leaves, field_read, length_read, element_read, field_written, element_written, within_leaves}
 
 module _ (p : Program) (w : World) (x : Input) (σ : ℕ → Val) where
@@ -110,6 +112,31 @@ module _ (p : Program) (w : World) (x : Input) (σ : ℕ → Val) where
       (element_written p w x σ s h k r i a.part j.part u.part n z.0 m all.0.is all.1.0.is all.1.1.0.is z.1) (ap (option_map (λ v. next (record s { heap = written s.heap (Elem k r i) v }))) z.1) in
       at_chain _ (λ g. within a.part j.part h (to (suc s.at) g)) _ g c e d (within_leaves p w x σ s h r i a.part j.part _ _ m all.0.is all.1.0.is y)
   store_leaves k s h g nums cells c m all es e d = absurd (cc)
+
+  -- ---- types
+
+  module _ (world : IsWorld w) where
+    cast_all : (class : List ℕ) (s : State) (h g : Held) (nums : List Num) (cells : List Cell) (c : Chain) → M p w x σ s h → Operands p w x σ nums cells → map sort_of nums ≡ sort.Ref ∷ []
+        → acted_on (act.Cast class) h cells ≡ Some g → chain_with p.desc.result (act.Cast class) h cells (to (suc s.at) g) ≡ Some c → Done s (act.Cast class) nums c
+    cast_all class s h g (num.Ref zero ∷ []) (o ∷ []) c m all es e d = at_chain _ (λ g. unless_other class o.part h (to (suc s.at) g)) _ g c e d (cast_null p w x σ world class s h o.part m all.0.is)
+    cast_all class s h g (num.Ref (suc r) ∷ []) (o ∷ []) c m all es e d = at_chain _ (λ g. unless_other class o.part h (to (suc s.at) g)) _ g c e d (cast_leaves p w x σ world class s h o.part r m all.0.is)
+    cast_all class s h g nums cells c m all es e d = absurd (cc)
+
+    asks_all : (class : List ℕ) (s : State) (h g : Held) (nums : List Num) (cells : List Cell) (c : Chain) → M p w x σ s h → Operands p w x σ nums cells → map sort_of nums ≡ sort.Ref ∷ []
+        → acted_on (act.InstanceOf class) h cells ≡ Some g → chain_with p.desc.result (act.InstanceOf class) h cells (to (suc s.at) g) ≡ Some c → Done s (act.InstanceOf class) nums c
+    asks_all class s h g (num.Ref zero ∷ []) (o ∷ []) c m all es e d = at_chain _ (λ g. asks_class class o.part h (to (suc s.at) g)) _ g c e d (asks_null p w x σ world class s h o.part m all.0.is)
+    asks_all class s h g (num.Ref (suc r) ∷ []) (o ∷ []) c m all es e d = at_chain _ (λ g. asks_class class o.part h (to (suc s.at) g)) _ g c e d (asks_leaves p w x σ world class s h o.part r m all.0.is)
+    asks_all class s h g nums cells c m all es e d = absurd (cc)
+
+    store_ref_leaves : (s : State) (h g : Held) (nums : List Num) (cells : List Cell) (c : Chain) → M p w x σ s h → Operands p w x σ nums cells → map sort_of nums ≡ sort.Ref ∷ sort.Int ∷ sort.Ref ∷ []
+        → acted_on act.StoreRef h cells ≡ Some g → chain_with p.desc.result act.StoreRef h cells (to (suc s.at) g) ≡ Some c → Done s act.StoreRef nums c
+    store_ref_leaves s h g (num.Ref r ∷ num.Int i ∷ num.Ref n ∷ []) (a ∷ j ∷ u ∷ []) c m all es e d =
+        let typed = element_sort w kind.Ref r in
+        let z = kept_some (element_type w kind.Ref r) (num.Ref n) (sym typed.0) in
+        let y = heap_goes p w x σ s h (Of (op.Store kind.Ref) refl (More h.heap (More a.part (More j.part (More u.part NoPart))))) z.0 (option_map (λ v. next (record s { heap = written s.heap (Elem kind.Ref r i) v })) (kept (element_type w kind.Ref r) (num.Ref n))) (Elem kind.Ref r i) m
+        (element_written p w x σ s h kind.Ref r i a.part j.part u.part (num.Ref n) z.0 m all.0.is all.1.0.is all.1.1.0.is z.1) (ap (option_map (λ v. next (record s { heap = written s.heap (Elem kind.Ref r i) v }))) z.1) in
+        at_chain _ (λ g. stores_ref a.part j.part u.part h (to (suc s.at) g)) _ g c e d (stores_leaves p w x σ world s h r i n a.part j.part u.part _ _ m all.0.is all.1.0.is all.1.1.0.is y)
+    store_ref_leaves s h g nums cells c m all es e d = absurd (cc)
 
   divided_leaves : (o : ScalarOp) (s : State) (h g : Held) (nums : List Num) (cells : List Cell) (c : Chain) → IsClean (act.Divide o) → M p w x σ s h → Operands p w x σ nums cells → map sort_of nums ≡ sort_of_word (operation.gives o) ∷ sort_of_word (operation.gives o) ∷ []
       → acted_on (act.Divide o) h cells ≡ Some g → chain_with p.desc.result (act.Divide o) h cells (to (suc s.at) g) ≡ Some c → Done s (act.Divide o) nums c
@@ -219,6 +246,9 @@ module _ (p : Program) (w : World) (x : Input) (σ : ℕ → Val) where
     next_leaves act.Length s h g nums cells c k m all es e d = length_leaves world s h g nums cells c m all es e d
     next_leaves (act.LoadElement y) s h g nums cells c k m all es e d = load_leaves y s h g nums cells c m all es e d
     next_leaves (act.StoreElement y) s h g nums cells c k m all es e d = store_leaves y s h g nums cells c m all es e d
+    next_leaves act.StoreRef s h g nums cells c k m all es e d = store_ref_leaves world s h g nums cells c m all es e d
+    next_leaves (act.Cast class) s h g nums cells c k m all es e d = cast_all world class s h g nums cells c m all es e d
+    next_leaves (act.InstanceOf class) s h g nums cells c k m all es e d = asks_all world class s h g nums cells c m all es e d
     next_leaves (act.Call d' f) s h g nums cells c k m all es e d =
         at_chain (done p w s (act.Call d' f) nums)
         (λ g. unless_thrown f h cells (to (suc s.at) g)) (with_result h f cells d'.result) g c e d (call_leaves p w x σ world unit s h f d' nums cells m all k (worlds.reply w f s.heap nums) refl)

@@ -10,6 +10,7 @@ use Rattle.pv_value.specs.declared.descriptor.JType.{JType}
 use Rattle.pv_value.specs.declared.descriptor.JType.TheVariants.{I, J, A}
 use Rattle.pv_value.specs.declared.operation.ScalarOp.TheVariants.{Iadd, Idiv}
 use Rattle.pv_value.specs.Receivers.{with_receiver}
+use Rattle.pv_types.specs.Facts.{is_sym, fits_sym, cast_text}
 use Rattle.pv_frame.specs.declared.sort.Sort.{Sort}
 use Rattle.pv_frame.specs.declared.sort.Sort.TheVariants.{Int, Long, Ref, Unknown}
 use Rattle.pv_frame.specs.declared.action.Action.{Action}
@@ -156,6 +157,60 @@ call_on_heaps f = refl
 
 call_on_faults : (f : Sym) → at_exits 1 (call_on_chain f) ≡ Of op.FNull refl NoPart ∷ clear_part ∷ Of (op.CallFault f) refl call_on_operands ∷ []
 call_on_faults f = refl
+
+-- P p = (P) o: null goes on, an object of the class too, and any other throws the object of a literal
+abbrev cast_chain : List ℕ → Chain
+cast_chain class = block_chain (method (A ∷ []) (Some A) 1 (act.Load Ref 0 ∷ act.Cast class ∷ act.Give (Some Ref) ∷ [])) (framed [] (Ref ∷ []) ∷ [])
+    (record { first = 0; last = 1; exits = exit.To 1 ∷ exit.To 1 ∷ exit.Throw ∷ [] } ∷ record { first = 2; last = 2; exits = exit.Return ∷ [] } ∷ []) 0
+
+-- what the world tells at the heap of the input, under a symbol of its own
+abbrev is_of : List ℕ → Part
+is_of class = Of (op.CallRes (is_sym class)) refl (two_parts (Of op.Heap0 refl NoPart) (Slot (local_slot 0)))
+
+cast_tests : (class : List ℕ) → tests (cast_chain class) ≡ aeq (Slot (local_slot 0)) null_part ∷ is_of class ∷ []
+cast_tests class = refl
+
+cast_dests : (class : List ℕ) → dests (cast_chain class) ≡ To 1 ∷ To 1 ∷ End Throw ∷ []
+cast_dests class = refl
+
+cast_stack : (class : List ℕ) → at_exits (stack_slot 0) (cast_chain class) ≡ Slot (local_slot 0) ∷ Slot (local_slot 0) ∷ unit_part ∷ []
+cast_stack class = refl
+
+cast_faults : (class : List ℕ) → at_exits 1 (cast_chain class) ≡ clear_part ∷ clear_part ∷ Of op.Thrown refl (More (Of (op.Literal cast_text) refl NoPart) NoPart) ∷ []
+cast_faults class = refl
+
+-- o instanceof P asks the same, and goes on from each of its exits with a number: 0 for null, 1 for an object of the class, else 0
+abbrev asked_chain : List ℕ → Chain
+asked_chain class = block_chain (method (A ∷ []) (Some I) 1 (act.Load Ref 0 ∷ act.InstanceOf class ∷ act.Give (Some Int) ∷ [])) (framed [] (Ref ∷ []) ∷ [])
+    (record { first = 0; last = 1; exits = exit.To 1 ∷ exit.To 1 ∷ exit.To 1 ∷ [] } ∷ record { first = 2; last = 2; exits = exit.Return ∷ [] } ∷ []) 0
+
+asked_tests : (class : List ℕ) → tests (asked_chain class) ≡ aeq (Slot (local_slot 0)) null_part ∷ is_of class ∷ []
+asked_tests class = refl
+
+asked_dests : (class : List ℕ) → dests (asked_chain class) ≡ To 1 ∷ To 1 ∷ To 1 ∷ []
+asked_dests class = refl
+
+asked_stack : (class : List ℕ) → at_exits (stack_slot 0) (asked_chain class) ≡ int_part (pos 0) ∷ int_part (pos 1) ∷ int_part (pos 0) ∷ []
+asked_stack class = refl
+
+-- static void put(Object[] a, int i, Object v) { a[i] = v; }: the heap has the store at the exits of null and of a reference that fits alone
+abbrev put_chain : Chain
+put_chain = block_chain (method (A ∷ I ∷ A ∷ []) None 3 (act.Load Ref 0 ∷ act.Load Int 1 ∷ act.Load Ref 2 ∷ act.StoreRef ∷ act.Give None ∷ [])) (framed [] (Ref ∷ Int ∷ Ref ∷ []) ∷ [])
+    (record { first = 0; last = 3; exits = exit.Throw ∷ exit.Throw ∷ exit.Throw ∷ exit.To 1 ∷ exit.To 1 ∷ exit.Throw ∷ [] } ∷ record { first = 4; last = 4; exits = exit.Return ∷ [] } ∷ []) 0
+
+abbrev put_heap : Part
+put_heap = Of (op.Store kind.Ref) refl (More (Slot 3) (More (Slot (local_slot 0)) (two_parts (Slot (local_slot 1)) (Slot (local_slot 2)))))
+
+put_tests : tests put_chain
+    ≡ aeq (Slot (local_slot 0)) null_part ∷ ilt (Slot (local_slot 1)) (int_part (pos 0)) ∷ ieq (ilt (Slot (local_slot 1)) (Of op.Length refl (More (Slot (local_slot 0)) NoPart))) (int_part (pos 0))
+    ∷ aeq (Slot (local_slot 2)) null_part ∷ Of (op.CallRes fits_sym) refl (More (Of op.Heap0 refl NoPart) (two_parts (Slot (local_slot 0)) (Slot (local_slot 2)))) ∷ []
+put_tests = refl
+
+put_dests : dests put_chain ≡ End Throw ∷ End Throw ∷ End Throw ∷ To 1 ∷ To 1 ∷ End Throw ∷ []
+put_dests = refl
+
+put_heaps : at_exits 3 put_chain ≡ Slot 3 ∷ Slot 3 ∷ Slot 3 ∷ put_heap ∷ put_heap ∷ Slot 3 ∷ []
+put_heaps = refl
 
 -- if (a > b) ..: it asks whether b is less than a, and goes to the target on yes
 abbrev greater_chain : Chain

@@ -43,7 +43,8 @@ first_frame frames b h e = elim (slice_get frames b.first) as (λ o. slice_get f
 
 departs_token : (a : Action) (h : Held) (cells : List Cell) (d : Departure) (e : Exit) → TokenPart h.token → Departs a h cells d e → TokenPart (e.slots 0)
 departs_token a h cells (Goes place) e t (g, is, inl s) = subst (λ (e : Exit). TokenPart (e.slots 0)) (sym is) (subst (λ (g : Held). TokenPart g.token) (sym s) t)
-departs_token a h cells (Goes place) e t (g, is, inr s) = subst (λ (e : Exit). TokenPart (e.slots 0)) (sym is) (token_kept h cells g.token t (acted_token a h g cells s))
+departs_token a h cells (Goes place) e t (g, is, inr (inr s)) = subst (λ (e : Exit). TokenPart (e.slots 0)) (sym is) (subst (λ (g : Held). TokenPart g.token) (sym s.2) t)
+departs_token a h cells (Goes place) e t (g, is, inr (inl s)) = subst (λ (e : Exit). TokenPart (e.slots 0)) (sym is) (token_kept h cells g.token t (acted_token a h g cells s))
 departs_token a h cells Returns e t (q, is) = subst (λ (e : Exit). TokenPart (e.slots 0)) (sym is) t
 departs_token a h cells Throws e t (q, g, is, inl s) = subst (λ (e : Exit). TokenPart (e.slots 0)) (sym is) (subst (λ (g : Held). TokenPart g.token) (sym s) t)
 departs_token a h cells Throws e t (q, g, is, inr s) = subst (λ (e : Exit). TokenPart (e.slots 0)) (sym is) (subst (λ (g : Held). TokenPart g.token) (sym s.1) (calls s.0 (call_parts h cells)))
@@ -90,9 +91,11 @@ none_passes test (y ∷ xs) x e among =
     let both = or_parts (test y) (list_any test xs) e in
     elim (contains_cases y x xs among) [ inl same ↦ subst (λ (x : ℕ). test x ≡ false) same both.0 | inr more ↦ none_passes test xs x both.1 more ]
 
-departs_slot : (a : Action) (h : Held) (cells : List Cell) (place s : ℕ) (e : Exit) (q : Part) → slots_of h s ≡ q → ((g : Held) → acted_on a h cells ≡ Some g → slots_of g s ≡ q) → Departs a h cells (Goes place) e → e.slots s ≡ q
-departs_slot a h cells place s e q was now (g, is, inl same) = ap (λ (e : Exit). e.slots s) is ∙ ap (λ (g : Held). slots_of g s) same ∙ was
-departs_slot a h cells place s e q was now (g, is, inr on) = ap (λ (e : Exit). e.slots s) is ∙ now g on
+departs_slot : (a : Action) (h : Held) (cells : List Cell) (place s : ℕ) (e : Exit) (q : Part) → Local s → slots_of h s ≡ q → ((g : Held) → acted_on a h cells ≡ Some g → slots_of g s ≡ q) → Departs a h cells (Goes place) e → e.slots s ≡ q
+departs_slot a h cells place s e q l was now (g, is, inl same) = ap (λ (e : Exit). e.slots s) is ∙ ap (λ (g : Held). slots_of g s) same ∙ was
+departs_slot a h cells place s e q l was now (g, is, inr (inl on)) = ap (λ (e : Exit). e.slots s) is ∙ now g on
+departs_slot a h cells place s e q l was now (g, is, inr (inr pushed)) =
+    ap (λ (e : Exit). e.slots s) is ∙ ap (λ (g : Held). slots_of g s) pushed.2 ∙ popped_leaves h (record { sort = pushed.0; part = pushed.1 } ∷ h.stack) s l ∙ was
 
 module _ (p : Program) (frames : List (Option Frame)) (blocks : List Block) (well_typed : AreFrames p frames) (is : IsFlow p blocks) where
   -- the slot, which isn't always carried, has its own value at the beginning of a block
@@ -131,7 +134,7 @@ module _ (p : Program) (frames : List (Option Frame)) (blocks : List Block) (wel
           let to_place = placed blocks x.exit.dest m (ap (λ (e : Exit). e.dest) x.same ∙ t) in
           let d = exit_departs (Departs a rest h.exits.cells) (departures b.last a) x.chain x.exit h.exits.exits x.within in
           let goes = goes_place a rest h.exits.cells d.0 x.exit to_place.0 d.2 to_place.1 in
-          ap (λ (e : Exit). e.slots s) (sym x.same) ∙ departs_slot a rest h.exits.cells to_place.0 s x.exit (Slot s)
+          ap (λ (e : Exit). e.slots s) (sym x.same) ∙ departs_slot a rest h.exits.cells to_place.0 s x.exit (Slot s) st.tracked
           (popped_leaves h.last h.exits.stack s st.tracked ∙ own)
           (λ g on. on_leaves a h.last g h.exits.cells h.exits.stack s st.tracked h.exits.popped on q.1 ∙ own)
           (subst (λ (d : Departure). Departs a rest h.exits.cells d x.exit) goes d.2)

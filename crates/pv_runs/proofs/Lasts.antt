@@ -101,7 +101,7 @@ module _ (p : Program) (w : World) (x : Input) (σ : ℕ → Val) where
 
   -- it goes to a place
   pub goes_there : (c : Chain) (s : State) (h : Held) (m : ℕ) → M p w x σ s h → Chooses w x σ c (to m h) → Leaves c (Some (goes s m))
-  goes_there c s h m y ch = comes m h (record s { at = m }) ch refl (record { stack = y.stack; locals = y.locals; heap = y.heap; token = y.token })
+  goes_there c s h m y ch = comes m h (record s { at = m }) ch refl (record { stack = y.stack; locals = y.locals; heap = y.heap; token = y.token; start = y.start })
 
   -- it goes on to the next place
   pub goes_next : (c : Chain) (s : State) (g : Held) (now : Option Now) → Goes p w x σ s g now → Chooses w x σ c (to (suc s.at) g) → Leaves c now
@@ -126,7 +126,7 @@ module _ (p : Program) (w : World) (x : Input) (σ : ℕ → Val) where
   unfolding strict
   null_fault = ([], refl, refl)
 
-  index_fault : PartIs w x σ (Of op.FIndex refl NoPart) (val.Fault fault.Index)
+  pub index_fault : PartIs w x σ (Of op.FIndex refl NoPart) (val.Fault fault.Index)
   unfolding strict
   index_fault = ([], refl, refl)
 
@@ -137,14 +137,14 @@ module _ (p : Program) (w : World) (x : Input) (σ : ℕ → Val) where
   pub not_null : fault.Null ≢ fault.Clear
   not_null e = absurd (cc)
 
-  not_index : fault.Index ≢ fault.Clear
+  pub not_index : fault.Index ≢ fault.Clear
   not_index e = absurd (cc)
 
   not_arith : fault.Arith ≢ fault.Clear
   not_arith e = absurd (cc)
 
   -- where the first test is false, the others decide
-  after_no : (t q : Part) (h : Held) (rest : Chain) (now : Option Now) → Tests w x σ t false → Leaves rest now → Leaves (flow.Test t (throw q h) rest) now
+  pub after_no : (t q : Part) (h : Held) (rest : Chain) (now : Option Now) → Tests w x σ t false → Leaves rest now → Leaves (flow.Test t (throw q h) rest) now
   after_no t q h rest now n (comes m g u ch at y) = comes m g u (no w x σ t (throw q h) (to m g) rest n ch) at y
   after_no t q h rest now n (over e o ch k) = over e o (no w x σ t (throw q h) e rest n ch) k
   after_no t q h rest now n (waits r) = waits ((λ u i. ((Throw, refl), (n.value, n.is, n.says))), r)

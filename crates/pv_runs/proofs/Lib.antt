@@ -9,6 +9,7 @@ pub mod Tests
 pub mod Lasts
 pub mod Once
 pub mod Calls
+pub mod Facts
 pub mod Ends
 pub mod Tokens
 pub mod Runs

@@ -88,8 +88,8 @@ module _ (w : World) (x : Input) (σ : ℕ → Val) where
   enter_locals k (l ∷ locals) (t ∷ sorts) e h = (record { sort = e.0; value = σ (local_slot k); is = refl; told = λ n z. (h.0 n z).0; range = λ n z. (h.0 n z).1 }, enter_locals (suc k) locals sorts e.1 h.1)
 
   -- what is held at a block's beginning
-  pub enters : (s : State) (frame : Frame) → Flows (frame_of s) frame → σ 0 ≡ val.Unit → σ 3 ≡ val.Heap s.heap → LocalsHeld σ 0 s.locals → StackHeld σ s.stack → Matches w x σ s (held_at frame)
-  enters s frame flows unit heap locals stack = record { stack = enter_stack s.stack frame.stack flows.stack stack; locals = enter_locals 0 s.locals frame.locals flows.locals locals; heap = heap; token = unit }
+  pub enters : (s : State) (frame : Frame) → Flows (frame_of s) frame → σ 0 ≡ val.Unit → σ 3 ≡ val.Heap s.heap → LocalsHeld σ 0 s.locals → StackHeld σ s.stack → s.heap0 ≡ x.heap → Matches w x σ s (held_at frame)
+  enters s frame flows unit heap locals stack start = record { stack = enter_stack s.stack frame.stack flows.stack stack; locals = enter_locals 0 s.locals frame.locals flows.locals locals; heap = heap; token = unit; start = start }
 
   -- ---- where a block is left
 

@@ -144,11 +144,12 @@ pub entry_starts : (p : Program) (frames : List (Option Frame)) (blocks : List B
 unfolding entry_slots
 entry_starts p frames blocks forest w x s = start_is w x (start_op p s) (slot_start p s)
 
-pub entry_at : (p : Program) (frames : List (Option Frame)) → Agrees p frames → (x : Input) → Fits p.desc x → At frames 0 (entry_slots p x) (start p x)
+pub entry_at : (p : Program) (frames : List (Option Frame)) → Agrees p frames → (x : Input) → Fits p.desc x → At x frames 0 (entry_slots p x) (start p x)
 unfolding entry_slots
 entry_at p frames agrees x fits = record {
   here = refl;
   typed = starts frames p x agrees fits.args;
+  start = refl;
   token = refl;
   heap = refl;
   locals = held x (entry_slots p x) 0 (passed_ops p.instance p.desc.params) (padded p.max_locals (flat_map locals_of (passed p.instance x)))

@@ -2,6 +2,7 @@
 use Rattle.std.specs.Prelude.{◌≡◌, ℕ, suc, List, [], ◌∷◌, length, Option, Some}
 use Rattle.pv_value.specs.declared.number.Num.{Num}
 use Rattle.pv_value.specs.declared.world.World.{World}
+use Rattle.pv_value.specs.declared.outcome.Input.{Input}
 use Rattle.pv_value.specs.declared.outcome.Val.{Val}
 use Rattle.pv_value.specs.declared.outcome.Val.TheVariants as val
 use Rattle.pv_frame.specs.declared.action.Action.{Action}
@@ -45,10 +46,11 @@ abbrev pub StackHeld : (ℕ → Val) → List Num → Type 0
 StackHeld σ [] = Unit {0}
 StackHeld σ (n ∷ stack) = (σ (stack_slot (length stack)) ≡ val.Num n) × InRange n × StackHeld σ stack
 
--- the machine is at this place, where a block begins, with these values in the slots
-pub record At (frames : List (Option Frame)) (place : ℕ) (σ : ℕ → Val) (s : State) : Type 0 where
+-- in a run of this input the machine is at this place, where a block begins, with these values in the slots
+pub record At (x : Input) (frames : List (Option Frame)) (place : ℕ) (σ : ℕ → Val) (s : State) : Type 0 where
   pub here : s.at ≡ place
   pub typed : IsTypedState frames s
+  pub start : s.heap0 ≡ x.heap
   pub token : σ 0 ≡ val.Unit
   pub heap : σ 3 ≡ val.Heap s.heap
   pub locals : LocalsHeld σ 0 s.locals

@@ -37,6 +37,11 @@ unfolding int_wrap
 bit_says true = refl
 bit_says false = refl
 
+no_bit : (b : Bool) → int_eq (int_wrap w32 (operation.truth b)) (pos 0) ≡ not b
+unfolding int_wrap
+no_bit true = refl
+no_bit false = refl
+
 ref_says : (b : Bool) → truth (val.Num (num.Int (if b then pos 1 else pos 0))) ≡ Some b
 ref_says true = refl
 ref_says false = refl
@@ -90,6 +95,13 @@ module _ (w : World) (x : Input) (σ : ℕ → Val) where
   pub int_is : (n : ℤ) → Is (int_part n) (val.Num (num.Int n))
   unfolding strict
   int_is n = ([], refl, refl)
+
+  -- the test that an int isn't less than another asks whether the test that it is gives 0
+  pub not_less_tests : (a b : Part) (m n : ℤ) → Is a (val.Num (num.Int m)) → Is b (val.Num (num.Int n)) → Tests (ieq (ilt a b) (int_part (pos 0))) (not (int_lt m n))
+  unfolding strict
+  not_less_tests a b m n h k =
+      let bit : Is (ilt a b) (val.Num (num.Int (int_wrap w32 (operation.truth (int_lt m n))))) = (val.Num (num.Int m) ∷ val.Num (num.Int n) ∷ [], (val.Num (num.Int m), val.Num (num.Int n) ∷ [], h, (val.Num (num.Int n), [], k, refl, refl), refl), refl) in
+      same_test (ieq (ilt a b) (int_part (pos 0))) _ _ (no_bit (int_lt m n)) (ieq_tests (ilt a b) (int_part (pos 0)) (int_wrap w32 (operation.truth (int_lt m n))) (pos 0) bit (int_is (pos 0)))
 
   pub null_is : Is null_part (val.Num (num.Ref 0))
   unfolding strict

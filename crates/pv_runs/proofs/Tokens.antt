@@ -55,6 +55,9 @@ acted_token (act.GetField t f) h g cells e = same_as h cells _ g (inl refl) (som
 acted_token (act.PutField t f) h g cells e = same_as h cells _ g (inl refl) (some_of _ _ e)
 acted_token (act.LoadElement k) h g cells e = same_as h cells _ g (inl refl) (some_of _ _ e)
 acted_token (act.StoreElement k) h g cells e = same_as h cells _ g (inl refl) (some_of _ _ e)
+acted_token act.StoreRef h g cells e = same_as h cells _ g (inl refl) (some_of _ _ e)
+acted_token (act.Cast class) h g (o ∷ []) e = same_as h (o ∷ []) _ g (inl refl) (some_of _ _ e)
+acted_token (act.InstanceOf class) h g (o ∷ []) e = same_as h (o ∷ []) _ g (inl refl) (some_of _ _ e)
 acted_token act.Length h g cells e = same_as h cells _ g (inl refl) (some_of _ _ e)
 acted_token (act.Call d f) h g cells e = same_as h cells _ g (inr (f, result_token h f cells d.result)) (some_of _ _ e)
 acted_token (act.CallOn d f) h g cells e = same_as h cells _ g (inr (f, result_token h f cells d.result)) (some_of _ _ e)
@@ -100,6 +103,12 @@ next_each r (act.LoadElement z) h g (a ∷ i ∷ []) k c y e =
     each_is h (a ∷ i ∷ []) _ c (test_each h (a ∷ i ∷ []) _ _ _ (inl refl) (test_each h (a ∷ i ∷ []) _ _ _ (inl refl) (test_each h (a ∷ i ∷ []) _ (to k g) _ y (leave_each h (a ∷ i ∷ []) _ (inl refl))))) e
 next_each r (act.StoreElement z) h g (a ∷ i ∷ x ∷ []) k c y e =
     each_is h (a ∷ i ∷ x ∷ []) _ c (test_each h (a ∷ i ∷ x ∷ []) _ _ _ (inl refl) (test_each h (a ∷ i ∷ x ∷ []) _ _ _ (inl refl) (test_each h (a ∷ i ∷ x ∷ []) _ (to k g) _ y (leave_each h (a ∷ i ∷ x ∷ []) _ (inl refl))))) e
+next_each r act.StoreRef h g (a ∷ i ∷ v ∷ []) k c y e =
+    let cells : List Cell = a ∷ i ∷ v ∷ [] in
+    each_is h cells _ c
+    (test_each h cells _ _ _ (inl refl) (test_each h cells _ _ _ (inl refl) (test_each h cells _ _ _ (inl refl) (test_each h cells _ (to k g) _ y (test_each h cells _ (to k g) _ y (leave_each h cells _ (inl refl))))))) e
+next_each r (act.Cast class) h g (o ∷ []) k c y e = each_is h (o ∷ []) _ c (test_each h (o ∷ []) _ (to k g) _ y (test_each h (o ∷ []) _ (to k g) _ y (leave_each h (o ∷ []) _ (inl refl)))) e
+next_each r (act.InstanceOf class) h g (o ∷ []) k c y e = each_is h (o ∷ []) _ c (test_each h (o ∷ []) _ (to k g) _ y (test_each h (o ∷ []) _ _ _ (inl refl) (leave_each h (o ∷ []) (to k g) y))) e
 next_each r (act.Call d f) h g cells k c y e = each_is h cells _ c (thrown_each h f cells (to k g) y) e
 next_each r (act.CallOn d f) h g (o ∷ cells) k c y e = each_is h (o ∷ cells) _ c (test_each h (o ∷ cells) _ _ _ (inl refl) (thrown_each h f (o ∷ cells) (to k g) y)) e
 next_each r act.Nop h g cells k c y e = each_is h cells _ c (leave_each h cells (to k g) y) e

@@ -1,5 +1,5 @@
 -- In well_typed frames each block of a program has its chain, where divisions have two operands, as those of a method's program do.
-use Rattle.std.proofs.Common.{◌≡◌, ℕ, zero, suc, ◌+◌, ◌-◌, ◌≤◌, Bool, true, false, List, [], ◌∷◌, Option, Some, None, refl, ap, sym, subst, ◌∙◌, inl, inr, arith, if◌then◌else◌}
+use Rattle.std.proofs.Common.{◌≡◌, ℕ, zero, suc, pos, ◌+◌, ◌-◌, ◌≤◌, Bool, true, false, List, [], ◌∷◌, Option, Some, None, refl, ap, sym, subst, ◌∙◌, inl, inr, arith, if◌then◌else◌}
 use Rattle.std.specs.Prelude.{map, option_map, slice_get, slice_set, Contains}
 use Rattle.std.specs.List.{AllByRecursion}
 use Rattle.pv_pool.specs.Readers.{◌>>=◌}
@@ -25,7 +25,7 @@ use Rattle.pv_flow.specs.Blocks.{Begins, IsSpan, IsFlow}
 use Rattle.pv_flow.specs.Blocks as blocks
 use Rattle.pv_flow.proofs.Cited.{goes_on}
 use Rattle.pv_equations.specs.Flow.{Part, Exit, Chain}
-use Rattle.pv_runs.specs.Held.{Cell, Held, cell_sort, unset, of_cell, push, increased_cell, local_cells, stack_cells, held_at, with_result, acted_on, acted}
+use Rattle.pv_runs.specs.Held.{Cell, Held, cell_sort, unset, of_cell, int_part, push, increased_cell, local_cells, stack_cells, held_at, with_result, acted_on, acted}
 use Rattle.pv_runs.specs.Chains.{to, branch, test_part, chain_with, given_chain, last_chain, ends_method, chain_of}
 use Rattle.pv_runs.specs.Blocks.{acted_along, place_chain}
 use Rattle.pv_runs.specs.Matches.{IsClean}
@@ -161,6 +161,9 @@ module _ (h : Held) where
   done_sorts (act.PutField t s) cells f es e = stays (act.PutField t s) cells f _ refl refl e
   done_sorts (act.LoadElement k) cells f es e = pushes (act.LoadElement k) cells f _ _ refl e
   done_sorts (act.StoreElement k) cells f es e = stays (act.StoreElement k) cells f _ refl refl e
+  done_sorts act.StoreRef cells f es e = stays act.StoreRef cells f _ refl refl e
+  done_sorts (act.Cast class) cells f es e = let c = one_cell cells _ es in pushes (act.Cast class) cells f sort.Ref c.0.part (ap (acted_on (act.Cast class) h) c.1) e
+  done_sorts (act.InstanceOf class) cells f es e = let c = one_cell cells _ es in pushes (act.InstanceOf class) cells f sort.Int (int_part (pos 0)) (ap (acted_on (act.InstanceOf class) h) c.1) e
   done_sorts act.Length cells f es e = pushes act.Length cells f _ _ refl e
   done_sorts (act.Call d s) cells f es e = record { after = with_result h s cells d.result; is = refl; sorts = call_acts d.result h s cells ∙ some_of _ _ e }
   done_sorts (act.CallOn d s) cells f es e = record { after = with_result h s cells d.result; is = refl; sorts = call_acts d.result h s cells ∙ some_of _ _ e }
@@ -214,6 +217,9 @@ next_some r (act.GetField t f) h cells n i e s = let x = one_cell cells _ s in (
 next_some r (act.PutField t f) h cells n i e s = let x = two_cells cells _ _ s in (_, ap (λ (cs : List Cell). chain_with r (act.PutField t f) h cs n) x.2)
 next_some r (act.LoadElement k) h cells n i e s = let x = two_cells cells _ _ s in (_, ap (λ (cs : List Cell). chain_with r (act.LoadElement k) h cs n) x.2)
 next_some r (act.StoreElement k) h cells n i e s = let x = three_cells cells _ _ _ s in (_, ap (λ (cs : List Cell). chain_with r (act.StoreElement k) h cs n) x.3)
+next_some r act.StoreRef h cells n i e s = let x = three_cells cells _ _ _ s in (_, ap (λ (cs : List Cell). chain_with r act.StoreRef h cs n) x.3)
+next_some r (act.Cast class) h cells n i e s = let x = one_cell cells _ s in (_, ap (λ (cs : List Cell). chain_with r (act.Cast class) h cs n) x.1)
+next_some r (act.InstanceOf class) h cells n i e s = let x = one_cell cells _ s in (_, ap (λ (cs : List Cell). chain_with r (act.InstanceOf class) h cs n) x.1)
 next_some r act.Length h cells n i e s = let x = one_cell cells _ s in (_, ap (λ (cs : List Cell). chain_with r act.Length h cs n) x.1)
 next_some r (act.CallOn d f) h cells n i e s = let x = more_cells cells _ _ (s ∙ ap (λ (d : Descriptor). map sort_of_type d.params) i.1.1) in (_, ap (λ (cs : List Cell). chain_with r (act.CallOn d f) h cs n) x.2)
 next_some r (act.Give t) h cells n i e s = absurd (cc)

@@ -17,7 +17,7 @@ use Rattle.pv_machine.specs.Machine.{number_of, value_of, computed}
 use Rattle.pv_machine.proofs.Cited.{shape, value_sort}
 use Rattle.pv_frame.specs.declared.sort.Sort.{Sort}
 use Rattle.pv_denote.specs.Denote as denote
-use Rattle.pv_denote.specs.Denote.{operand, scalar_on, scalar_value}
+use Rattle.pv_denote.specs.Denote.{numbers, operand, scalar_on, scalar_value}
 use Rattle.pv_equations.specs.Flow.{PartsAre}
 use Rattle.pv_runs.specs.Held.{Cell, cell_sort, parts_of}
 use Rattle.pv_runs.specs.Matches.{InRange, StackIs}
@@ -26,6 +26,10 @@ use Rattle.pv_runs.proofs.Ranges.{value_range}
 abbrev pub numbers_of : List Num → List Val
 numbers_of [] = []
 numbers_of (n ∷ ns) = val.Num n ∷ numbers_of ns
+
+pub numbers_back : (nums : List Num) → numbers (numbers_of nums) ≡ Some nums
+numbers_back [] = refl
+numbers_back (n ∷ nums) = ap (λ (o : Option (List Num)). bind o (λ ns. Some (n ∷ ns))) (numbers_back nums)
 
 operand_is : (t : operation.Word) (n : Num) → sort_of n ≡ sort_of_word t → operand t (val.Num n) ≡ Some (number_of n)
 operand_is operation.int (num.Int n) e = refl

@@ -29,6 +29,7 @@ abbrev pub writes_heap : Action → Bool
 writes_heap (act.PutStatic t f) = true
 writes_heap (act.PutField t f) = true
 writes_heap (act.StoreElement k) = true
+writes_heap act.StoreRef = true
 writes_heap (act.Call d f) = true
 writes_heap (act.CallOn d f) = true
 writes_heap a = false

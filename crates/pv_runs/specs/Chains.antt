@@ -14,12 +14,14 @@ use Rattle.pv_frame.specs.declared.action.Test.{Test}
 use Rattle.pv_frame.specs.declared.action.Test.TheVariants as test
 use Rattle.pv_frame.specs.declared.action.Action.{Action}
 use Rattle.pv_frame.specs.declared.action.Action.TheVariants as act
+use Rattle.pv_frame.specs.declared.sort.Sort.TheVariants as sort
+use Rattle.pv_types.specs.Facts as types
 use Rattle.pv_frame.specs.Stacks.{popped}
 use Rattle.pv_frame.specs.Effects.{takes}
 use Rattle.pv_graph.specs.declared.node.Op.TheVariants as op
 use Rattle.pv_equations.specs.Flow as flow
 use Rattle.pv_equations.specs.Flow.{Part, Parts, Slot, Of, NoPart, More, Kind, Return, Throw, Dest, To, End, Exit, Chain, Leave}
-use Rattle.pv_runs.specs.Held.{slots, Cell, Held, cell_sort, unit_part, clear_part, null_part, int_part, slots_of, acted_on, call_parts, after_call}
+use Rattle.pv_runs.specs.Held.{slots, Cell, Held, cell_sort, unit_part, clear_part, null_part, int_part, slots_of, push, acted_on, call_parts, after_call}
 
 -- ---- exits
 
@@ -110,6 +112,48 @@ within a i h next =
     (flow.Test (ilt i (int_part (pos 0))) (throw (Of op.FIndex refl NoPart) h)
     (flow.Test (ilt i (Of op.Length refl (More a NoPart))) next (Leave (throw (Of op.FIndex refl NoPart) h))))
 
+-- ---- types
+
+-- what the world tells of types stands at the heap with which the method starts
+abbrev pub start_part : Part
+start_part = Of op.Heap0 refl NoPart
+
+-- whether an object is of a class, and whether a reference fits an array
+abbrev pub is_part : List ℕ → Part → Part
+is_part class o = Of (op.CallRes (types.is_sym class)) refl (two_parts start_part o)
+
+abbrev pub fits_part : Part → Part → Part
+fits_part a v = Of (op.CallRes types.fits_sym) refl (More start_part (two_parts a v))
+
+-- the object of a literal is thrown
+abbrev pub thrown_literal : List ℕ → Part
+thrown_literal text = Of op.Thrown refl (More (Of (op.Literal text) refl NoPart) NoPart)
+
+-- the exit to the same place with something else held there
+abbrev pub with_held : Held → Exit → Exit
+with_held h e = record e { slots = slots_of h }
+
+-- null goes on, and an object of the class; else it throws
+abbrev pub unless_other : List ℕ → Part → Held → Exit → Chain
+unless_other class o h next = flow.Test (aeq o null_part) next (flow.Test (is_part class o) next (Leave (throw (thrown_literal types.cast_text) h)))
+
+-- 0 for null, 1 for an object of the class, and else 0
+abbrev pub asks_class : List ℕ → Part → Held → Exit → Chain
+asks_class class o h next = flow.Test (aeq o null_part) next (flow.Test (is_part class o) (with_held (push h sort.Int (int_part (pos 1))) next) (Leave next))
+
+-- null goes on, and a reference that fits; else it throws
+abbrev pub unless_unfit : Part → Part → Held → Exit → Chain
+unless_unfit a v h next = flow.Test (aeq v null_part) next (flow.Test (fits_part a v) next (Leave (throw (thrown_literal types.store_text) h)))
+
+-- a null array throws, an index out of range, and a reference that doesn't fit
+abbrev pub stores_ref : Part → Part → Part → Held → Exit → Chain
+stores_ref a i v h next =
+    flow.Test (aeq a null_part) (throw (Of op.FNull refl NoPart) h)
+    (flow.Test (ilt i (int_part (pos 0))) (throw (Of op.FIndex refl NoPart) h)
+    (flow.Test (ieq (ilt i (Of op.Length refl (More a NoPart))) (int_part (pos 0))) (throw (Of op.FIndex refl NoPart) h) (unless_unfit a v h next)))
+
+-- ---- the chain of an action
+
 -- the chain of an action at place k with these operands: h is what is held without them, and next the exit to the next place
 abbrev pub chain_with : Option JType → Action → Held → List Cell → Exit → Option Chain
 chain_with result (act.Branch t target) h cells next = option_map (λ x. branch x (to target h) next) (test_part t cells)
@@ -121,6 +165,9 @@ chain_with result (act.PutField t f) h (o ∷ x ∷ []) next = Some (unless_null
 chain_with result act.Length h (a ∷ []) next = Some (unless_null a.part h next)
 chain_with result (act.LoadElement k) h (a ∷ i ∷ []) next = Some (within a.part i.part h next)
 chain_with result (act.StoreElement k) h (a ∷ i ∷ x ∷ []) next = Some (within a.part i.part h next)
+chain_with result act.StoreRef h (a ∷ i ∷ v ∷ []) next = Some (stores_ref a.part i.part v.part h next)
+chain_with result (act.Cast class) h (o ∷ []) next = Some (unless_other class o.part h next)
+chain_with result (act.InstanceOf class) h (o ∷ []) next = Some (asks_class class o.part h next)
 chain_with result (act.Call d f) h cells next = Some (unless_thrown f h cells next)
 chain_with result (act.CallOn d f) h (o ∷ cells) next = Some (flow.Test (aeq o.part null_part) (throw (Of op.FNull refl NoPart) h) (unless_thrown f h (o ∷ cells) next))
 chain_with result act.Nop h cells next = Some (Leave next)

@@ -1,9 +1,10 @@
 -- What a block has computed before an instruction, as parts of the slots at its beginning: slot 0 is the token, 3 the heap, and from 4 on locals and places of the operand stack take turns.
-use Rattle.std.specs.Prelude.{ℕ, zero, suc, ℤ, ◌==◌, if◌then◌else◌, List, [], ◌∷◌, length, Option, Some, None, option_map, slice_get, slice_set, refl}
+use Rattle.std.specs.Prelude.{ℕ, zero, suc, ℤ, pos, ◌==◌, if◌then◌else◌, List, [], ◌∷◌, length, Option, Some, None, option_map, slice_get, slice_set, refl}
 use Rattle.pv_pool.specs.Readers.{◌>>=◌}
 use Rattle.pv_value.specs.declared.name.Sym.{Sym}
 use Rattle.pv_value.specs.declared.number.Num.{Num}
 use Rattle.pv_value.specs.declared.number.Num.TheVariants as num
+use Rattle.pv_value.specs.declared.heap.Kind.TheVariants as kind
 use Rattle.pv_value.specs.declared.descriptor.JType.{JType}
 use Rattle.pv_value.specs.declared.operation.ScalarOp.TheVariants.{Iadd}
 use Rattle.pv_value.specs.Operations as operation
@@ -144,7 +145,7 @@ abbrev pub with_result : Held → Sym → List Cell → Option JType → Held
 with_result h f cells None = after_call h f cells
 with_result h f cells (Some t) = push (after_call h f cells) (sort_of_type t) (Of (op.CallRes f) refl (call_parts h cells))
 
--- after an action that goes on, from what is held without its operands
+-- after an action that goes on, from what is held without its operands; after a type test that finds no object of the class, for which it gives 0
 abbrev pub acted_on : Action → Held → List Cell → Option Held
 acted_on act.Nop h cells = Some h
 acted_on (act.Push n) h cells = Some (push h (sort_of n) (number_part n))
@@ -164,6 +165,9 @@ acted_on (act.GetField t f) h cells = Some (push h (sort_of_type t) (Of (op.GetF
 acted_on (act.PutField t f) h cells = Some (record h { heap = Of (op.PutField f) refl (More h.heap (parts_of cells)) })
 acted_on (act.LoadElement k) h cells = Some (push h (sort_of_kind k) (Of (op.Load k) refl (More h.heap (parts_of cells))))
 acted_on (act.StoreElement k) h cells = Some (record h { heap = Of (op.Store k) refl (More h.heap (parts_of cells)) })
+acted_on act.StoreRef h cells = Some (record h { heap = Of (op.Store kind.Ref) refl (More h.heap (parts_of cells)) })
+acted_on (act.Cast class) h (o ∷ []) = Some (push h sort.Ref o.part)
+acted_on (act.InstanceOf class) h (o ∷ []) = Some (push h sort.Int (int_part (pos 0)))
 acted_on act.Length h cells = Some (push h sort.Int (Of op.Length refl (parts_of cells)))
 acted_on (act.Call d f) h cells = Some (with_result h f cells d.result)
 acted_on (act.CallOn d f) h cells = Some (with_result h f cells d.result)

@@ -49,6 +49,8 @@ module _ (w : World) (x : Input) (σ : ℕ → Val) where
     pub locals : AllZip LocalIs s.locals h.locals
     pub heap : PartIs w x σ h.heap (val.Heap s.heap)
     pub token : PartIs w x σ h.token val.Unit
+    -- what is asked of types is asked at the heap of the input
+    pub start : s.heap0 ≡ x.heap
 
 -- what an action of a program says of itself: no int is pushed that is out of range, and no reference but null; a division has two operands
 -- of the word of its value; a field is typed by its descriptor, and is neither a float nor a double; and a callee is typed by its descriptor,

@@ -104,6 +104,12 @@ module _ (g : Graph) (numbers assumed : List ℕ) (table : List Axiom) (a : AreL
   numbered [] h = tt
   numbered (x ∷ xs) h = let n = number_of g numbers a x h.0 in (one g numbers a x (class_of numbers x) h.0 n.0 (sym n.1), numbered xs h.1)
 
+  pub turn : (x y : ℕ) → J x y → J y x
+  turn x y j = (j.0, j.2, j.1)
+
+  pub chain : (x y z : ℕ) → J x y → J y z → J x z
+  chain x y z j k = (j.0, j.1, subst (λ v. slice_get numbers z ≡ Some v) (some_once (sym k.1 ∙ j.2)) k.2)
+
   agree_self : (p : Params) (i : NameId) → AgreeOn p p i
   agree_self p name.Depth = refl
   agree_self p (name.Symbol s) = refl
@@ -112,10 +118,10 @@ module _ (g : Graph) (numbers assumed : List ℕ) (table : List Axiom) (a : AreL
   agree_self p name.Operation = refl
 
   -- a match and the one on the numbers of its classes are one
-  renumbered : (m : Match ℕ) → Sound m → AreOne J m (match_of m.entry (names_of numbers m))
+  pub renumbered : (m : Match ℕ) → Sound m → AreOne J m (match_of m.entry (names_of numbers m))
   renumbered m s = record { entry = refl; params = λ i v. agree_self m.params i; kids = numbered m.kids s.kids; vars = numbered m.vars s.vars }
 
-  same_parts : (e d : Axiom) → e ≡ d → In table e → (params other : List Param) (classes more : List ℕ) (i : Is e params classes) (k : Is d other more) → AreOne J (match_of e i.names) (match_of d k.names) → (params ≡ other) × (classes ≡ more)
+  pub same_parts : (e d : Axiom) → e ≡ d → In table e → (params other : List Param) (classes more : List ℕ) (i : Is e params classes) (k : Is d other more) → AreOne J (match_of e i.names) (match_of d k.names) → (params ≡ other) × (classes ≡ more)
   same_parts e d q t params other classes more i =
       subst (λ d. (k : Is d other more) → AreOne J (match_of e i.names) (match_of d k.names) → (params ≡ other) × (classes ≡ more)) q (λ k o. one_equal e t params other classes more i k o)
 
@@ -156,9 +162,3 @@ module _ (g : Graph) (numbers assumed : List ℕ) (table : List Axiom) (a : AreL
         );
     once = sees_once fs ms zip f.some_;
   }
-    where
-      turn : (x y : ℕ) → J x y → J y x
-      turn x y j = (j.0, j.2, j.1)
-
-      chain : (x y z : ℕ) → J x y → J y z → J x z
-      chain x y z j k = (j.0, j.1, subst (λ v. slice_get numbers z ≡ Some v) (some_once (sym k.1 ∙ j.2)) k.2)

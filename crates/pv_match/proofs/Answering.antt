@@ -30,7 +30,7 @@ use Rattle.pv_match.specs.All.{AreMatchesOf}
 use Rattle.pv_match.specs.Orders.{match_cmp, AreOne}
 use Rattle.pv_match.specs.Kept.{KeepsForms}
 use Rattle.pv_match.specs.Rules.{AreRules, AreItems}
-use Rattle.pv_match.specs.Gathering.{IsFound}
+use Rattle.pv_match.specs.Gathering.{AreMatchesAll, IsFound, IsFoundAll}
 use Rattle.pv_match.specs.AllMatches.{Shows, IsAnswer}
 use Rattle.pv_match.specs.Agreeing.{AreLeast, Found, IsFoundMatch, AreSomeFound, AreFound}
 use Rattle.pv_match.proofs.Numbered.{all_at}
@@ -73,7 +73,7 @@ same_params m (name.Kind k) = refl
 same_params m (name.Constant j) = refl
 same_params m name.Operation = refl
 
-named_params : (m : Names) (left : Pattern) → params_of m left ≡ params_of (named (searches.params_of m)) left
+pub named_params : (m : Names) (left : Pattern) → params_of m left ≡ params_of (named (searches.params_of m)) left
 named_params m left = flat_same (name_params m) (name_params (named (searches.params_of m))) (once_more [] (names left)) (λ i k. same_params m i)
 
 module _ (g : Graph) (numbers assumed : List ℕ) (table : List Axiom) (a : AreLeast g numbers) (c : IsCongruence (base_view g) (nodes g) (IsNode g) (OneClass numbers)) (readable : AreReadable table) (once : NumbersOnce table) where
@@ -109,12 +109,11 @@ module _ (g : Graph) (numbers assumed : List ℕ) (table : List Axiom) (a : AreL
         sorted_once xs s i j x.0 y.0 x.1 y.1 (x.2.1 ∙ sym y.2.1, x.2.2 ∙ sym y.2.2, x.2.3 ∙ sym y.2.3);
   }
 
-  all_founds : (kept : List Bool) (rules : List Group) (items : List ℕ) (xs : List Match) (fs : List Found) → KeepsForms g numbers kept → AreRules table rules → AreItems g.nodes kept rules items → AreMatchesOf g numbers assumed table items xs → IsStrictlySortedBy match_cmp xs → AllZip IsOf xs fs
-      → AreFound g numbers assumed table fs
-  all_founds kept rules items xs fs k r w is s zip = record {
+  all_founds : (xs : List Match) (fs : List Found) → AreMatchesAll g numbers assumed table xs → IsStrictlySortedBy match_cmp xs → AllZip IsOf xs fs → AreFound g numbers assumed table fs
+  all_founds xs fs is s zip = record {
     some_ = some_found xs fs s zip;
     all = λ f h.
-        let x = all_found g numbers assumed table kept rules items xs readable k r w is f.entry f.params f.classes h.0 h.1 in
+        let x = is.all f.entry f.params f.classes h.0 h.1 in
         let i = in_place xs x.0 x.1 in
         let o = zip_left IsOf xs fs zip i.0 x.0 i.1 in
         (i.0, o.1 ∙ ap Some (same_entry o.0 f (one_axiom o.0.entry f.entry o.2.0.0 h.0 (sym o.2.1 ∙ x.2)) (sym o.2.2 ∙ x.3) (sym o.2.3 ∙ x.4)));
@@ -127,15 +126,10 @@ module _ (g : Graph) (numbers assumed : List ℕ) (table : List Axiom) (a : AreL
     classes = h.3 ∙ s.1.fits.are;
   })
 
-  axiom_in : (items : List ℕ) (xs : List Match) → AreMatchesOf g numbers assumed table items xs → (x : Match) → In xs x → HasAxiom x
-  axiom_in items xs is x i =
-      let r = is.each x i in
-      (r.0, r.2.0, r.3, match_from g numbers assumed table readable r.0 r.1 x.params.items x.classes.items r.2.0 r.4)
-
-  pub answer_of : (kept : List Bool) (rules : List Group) (items : List ℕ) (limit : ℕ) (answer : answers.Matches) → KeepsForms g numbers kept → AreRules table rules → AreItems g.nodes kept rules items → IsFound g numbers assumed table limit items answer → IsAnswer g numbers assumed table limit answer
-  answer_of kept rules items limit (All list) k r w is =
-      let fs = axioms_of list.items (axiom_in items list.items is.0) in
-      let found = all_founds kept rules items list.items fs.0 k r w is.0 is.1 fs.1 in
+  pub answer_by : (limit : ℕ) (answer : answers.Matches) → IsFoundAll g numbers assumed table limit answer → IsAnswer g numbers assumed table limit answer
+  answer_by limit (All list) is =
+      let fs = axioms_of list.items is.0.each in
+      let found = all_founds list.items fs.0 is.0 is.1 fs.1 in
       let ms = seen_all g numbers assumed table a c readable fs.0 found.some_.each in (
         record {
           matches = ms.0;
@@ -145,7 +139,7 @@ module _ (g : Graph) (numbers assumed : List ℕ) (table : List Axiom) (a : AreL
         },
         is.2,
       )
-  answer_of kept rules items limit (More n) k r w is =
+  answer_by limit (More n) is =
       let fs = axioms_of is.1 is.2.each in
       let found = some_found is.1 fs.0 is.3 fs.1 in
       let ms = seen_all g numbers assumed table a c readable fs.0 found.each in (
@@ -157,3 +151,22 @@ module _ (g : Graph) (numbers assumed : List ℕ) (table : List Axiom) (a : AreL
           once = sees_once g numbers assumed table a c readable fs.0 ms.0 ms.1 found;
         },
       )
+
+  -- ---- what is found at the items of a table
+
+  axiom_in : (items : List ℕ) (xs : List Match) → AreMatchesOf g numbers assumed table items xs → (x : Match) → In xs x → HasAxiom x
+  axiom_in items xs is x i =
+      let r = is.each x i in
+      (r.0, r.2.0, r.3, match_from g numbers assumed table readable r.0 r.1 x.params.items x.classes.items r.2.0 r.4)
+
+  found_all : (kept : List Bool) (rules : List Group) (items : List ℕ) (limit : ℕ) (answer : answers.Matches) → KeepsForms g numbers kept → AreRules table rules → AreItems g.nodes kept rules items → IsFound g numbers assumed table limit items answer
+      → IsFoundAll g numbers assumed table limit answer
+  found_all kept rules items limit (All list) k r w is = (
+    record { each = axiom_in items list.items is.0; all = all_found g numbers assumed table kept rules items list.items readable k r w is.0 },
+    is.1,
+    is.2,
+  )
+  found_all kept rules items limit (More n) k r w is = is
+
+  pub answer_of : (kept : List Bool) (rules : List Group) (items : List ℕ) (limit : ℕ) (answer : answers.Matches) → KeepsForms g numbers kept → AreRules table rules → AreItems g.nodes kept rules items → IsFound g numbers assumed table limit items answer → IsAnswer g numbers assumed table limit answer
+  answer_of kept rules items limit answer k r w is = answer_by limit answer (found_all kept rules items limit answer k r w is)

@@ -439,6 +439,48 @@ module _ (g : Graph) (numbers : List ℕ) where
     all = λ ps cs m. let s = (read.exact m.names).1 m.starts in is.all s.0 s.1 m.names ps cs s.2 m.fits;
   }
 
+-- the depth of an operation of a graph's node is one
+pub depth_range : (g : Graph) → IsGraph g → (n : ℕ) (node : Node) → slice_get g.nodes n ≡ Some node → (d : ℕ) → depth_in node.op ≡ Some d → (1 ≤ d) × (d ≤ 16)
+depth_range g whole n node at d e =
+    let s = sort_there g whole n (slice_get_within g.nodes n node at) in
+    elim (whole.sorted n node s.0 at s.1) [
+      | inl sorted ↦ of_sort node.op sorted.sorts s.0 d e sorted.over
+      | inr open_ ↦ of_open node s.0 d e open_.1
+    ]
+  where
+    sort_range : (d : ℕ) (o : Option OpSort) (s : OpSort) → (if is_depth d then o else None) ≡ Some s → (1 ≤ d) × (d ≤ 16)
+    sort_range d o s e = is_range d (test (is_depth d) e)
+      where
+        test : (t : Bool) → (if t then o else None) ≡ Some s → t ≡ true
+        test true e = refl
+        test false e = absurd (cc)
+
+        is_range : (d : ℕ) → is_depth d ≡ true → (1 ≤ d) × (d ≤ 16)
+        is_range d e = grind (arith)
+
+    of_sort : (o : Op) (ss : List OpSort) (s : OpSort) (d : ℕ) → depth_in o ≡ Some d → sort_over o ss ≡ Some s → (1 ≤ d) × (d ≤ 16)
+    of_sort (op.Theta k) ss s d e f = subst (λ (x : ℕ). (1 ≤ x) × (x ≤ 16)) (same_Some k d e) (sort_range k (alike ss) s f)
+    of_sort (op.Eval k) ss s d e f = subst (λ (x : ℕ). (1 ≤ x) × (x ≤ 16)) (same_Some k d e) (sort_range k (eval_sort ss) s f)
+    of_sort (op.Pass k) ss s d e f = subst (λ (x : ℕ). (1 ≤ x) × (x ≤ 16)) (same_Some k d e) (sort_range k (exactly (I ∷ []) N ss) s f)
+    of_sort (op.Shift k) ss s d e f = subst (λ (x : ℕ). (1 ≤ x) × (x ≤ 16)) (same_Some k d e) (sort_range k (shift_sort ss) s f)
+    of_sort o ss s d e f = absurd (cc)
+
+    of_open : (node : Node) (s : OpSort) (d : ℕ) → depth_in node.op ≡ Some d → IsUnfinished node s → (1 ≤ d) × (d ≤ 16)
+    of_open node s d e is = of_sort (op.Theta is.depth) (s ∷ s ∷ []) s d (sym (ap depth_in is.theta_) ∙ e) (open_sort is.depth s is.loop is.sort_)
+      where
+        alike_same : (s : OpSort) → (s ≡ R → ⊥) → alike (s ∷ s ∷ []) ≡ Some s
+        alike_same I n = refl
+        alike_same L n = refl
+        alike_same A n = refl
+        alike_same N n = refl
+        alike_same F n = refl
+        alike_same T n = refl
+        alike_same H n = refl
+        alike_same R n = absurd (n refl)
+
+        open_sort : (k : ℕ) (s : OpSort) → is_depth k ≡ true → (s ≡ R → ⊥) → sort_over (op.Theta k) (s ∷ s ∷ []) ≡ Some s
+        open_sort k s t n = ap (λ (b : Bool). if b then alike (s ∷ s ∷ []) else None) t ∙ alike_same s n
+
 -- ---- the classes of a family's kids
 
 module _ (g : Graph) (numbers : List ℕ) where
@@ -456,48 +498,7 @@ module _ (g : Graph) (numbers : List ℕ) where
       let y = among_has g numbers b.names.items Depth e in
       let s = subst (λ (n : NameId). ShowsAt g numbers m n y.0.node) y.2 (agrees.shown y.0 y.1) in
       let node = node_at g.nodes y.0.node s.0 s.1 s.2 in
-      in_range_ whole y.0.node node.0 node.1 m.depth (subst (λ (o : Op). depth_in o ≡ Some m.depth) (sym node.2) s.3)
-    where
-      depth_range : (d : ℕ) (o : Option OpSort) (s : OpSort) → (if is_depth d then o else None) ≡ Some s → (1 ≤ d) × (d ≤ 16)
-      depth_range d o s e = is_range d (test (is_depth d) e)
-        where
-          test : (t : Bool) → (if t then o else None) ≡ Some s → t ≡ true
-          test true e = refl
-          test false e = absurd (cc)
-
-          is_range : (d : ℕ) → is_depth d ≡ true → (1 ≤ d) × (d ≤ 16)
-          is_range d e = grind (arith)
-
-      of_sort : (o : Op) (ss : List OpSort) (s : OpSort) (d : ℕ) → depth_in o ≡ Some d → sort_over o ss ≡ Some s → (1 ≤ d) × (d ≤ 16)
-      of_sort (op.Theta k) ss s d e f = subst (λ (x : ℕ). (1 ≤ x) × (x ≤ 16)) (same_Some k d e) (depth_range k (alike ss) s f)
-      of_sort (op.Eval k) ss s d e f = subst (λ (x : ℕ). (1 ≤ x) × (x ≤ 16)) (same_Some k d e) (depth_range k (eval_sort ss) s f)
-      of_sort (op.Pass k) ss s d e f = subst (λ (x : ℕ). (1 ≤ x) × (x ≤ 16)) (same_Some k d e) (depth_range k (exactly (I ∷ []) N ss) s f)
-      of_sort (op.Shift k) ss s d e f = subst (λ (x : ℕ). (1 ≤ x) × (x ≤ 16)) (same_Some k d e) (depth_range k (shift_sort ss) s f)
-      of_sort o ss s d e f = absurd (cc)
-
-      of_open : (node : Node) (s : OpSort) (d : ℕ) → depth_in node.op ≡ Some d → IsUnfinished node s → (1 ≤ d) × (d ≤ 16)
-      of_open node s d e is = of_sort (op.Theta is.depth) (s ∷ s ∷ []) s d (sym (ap depth_in is.theta_) ∙ e) (open_sort is.depth s is.loop is.sort_)
-        where
-          alike_same : (s : OpSort) → (s ≡ R → ⊥) → alike (s ∷ s ∷ []) ≡ Some s
-          alike_same I n = refl
-          alike_same L n = refl
-          alike_same A n = refl
-          alike_same N n = refl
-          alike_same F n = refl
-          alike_same T n = refl
-          alike_same H n = refl
-          alike_same R n = absurd (n refl)
-
-          open_sort : (k : ℕ) (s : OpSort) → is_depth k ≡ true → (s ≡ R → ⊥) → sort_over (op.Theta k) (s ∷ s ∷ []) ≡ Some s
-          open_sort k s t n = ap (λ (b : Bool). if b then alike (s ∷ s ∷ []) else None) t ∙ alike_same s n
-
-      in_range_ : IsGraph g → (n : ℕ) (node : Node) → slice_get g.nodes n ≡ Some node → (d : ℕ) → depth_in node.op ≡ Some d → (1 ≤ d) × (d ≤ 16)
-      in_range_ whole n node at d e =
-          let s = sort_there g whole n (slice_get_within g.nodes n node at) in
-          elim (whole.sorted n node s.0 at s.1) [
-            | inl sorted ↦ of_sort node.op sorted.sorts s.0 d e sorted.over
-            | inr open_ ↦ of_open node s.0 d e open_.1
-          ]
+      depth_range g whole y.0.node node.0 node.1 m.depth (subst (λ (o : Op). depth_in o ≡ Some m.depth) (sym node.2) s.3)
 
   pub depth_within_is : IsGraph g → (b : Binding) (d : ℕ) (r : Option ℕ) → ((m : Names) → Agrees g numbers m b → m.depth ≡ d) → MatchOption r ((1 ≤ d) × (d ≤ 16) → ⊥) (λ e. (e ≡ d) × (1 ≤ d) × (d ≤ 16))
       → MatchOption r (is_among (bound b) Depth ≡ true → NoneAgree g numbers b) (λ e. IsDepthOf g numbers b e)

@@ -15,6 +15,8 @@ pub mod Ordered
 pub mod Listing
 pub mod Gathers
 pub mod Parts
+pub mod Beside
+pub mod Listings
 -- 4. Tables that are read.
 pub mod Readable
 -- 5. Class numbers are classes of nodes, and matches by number are matches on classes.
@@ -27,5 +29,7 @@ pub mod Full
 pub mod Decoded
 pub mod Agreed
 pub mod Answering
+pub mod Looking
+pub mod Taking
 -- What other crates cite.
 pub mod Cited

@@ -40,10 +40,10 @@ at_seam (y ∷ front) x rest = at_seam front x rest
 one_more : {X : Type 0} (front : List X) (x : X) → length (front ++ x ∷ []) ≡ suc (length front)
 one_more front x = omega (arith, length-append front (x ∷ []))
 
-on_true : (b : Bool) (P : Type 0) → b ≡ true → OnTrue b P → P
+pub on_true : (b : Bool) (P : Type 0) → b ≡ true → OnTrue b P → P
 on_true b P e h = subst (λ (v : Bool). OnTrue v P) e h
 
-on_false : (b : Bool) (P : Type 0) → b ≡ false → OnFalse b P → P
+pub on_false : (b : Bool) (P : Type 0) → b ≡ false → OnFalse b P → P
 on_false b P e h = subst (λ (v : Bool). OnFalse v P) e h
 
 -- what a union says that is over, and one that isn't

@@ -1,10 +1,11 @@
 -- How the matches of a table are gathered in a set, node by node, up to a limit.
-use Rattle.std.specs.Prelude.{◌≡◌, ◌⊎◌, ℕ, suc, ◌≤◌, Bool, List, length, Some, slice_get, Result, Ok}
+use Rattle.std.specs.Prelude.{◌≡◌, ◌⊎◌, ℕ, suc, ◌≤◌, Bool, true, false, List, length, Some, slice_get, Result, Ok}
 use Rattle.std.specs.Bool.{OnTrue, OnFalse}
 use Rattle.pv_graph.specs.Walks.{In}
 use Rattle.pv_graph.specs.Graphs.{Graph}
 use Rattle.pv_pattern.specs.Patterns.{Axiom}
 use Rattle.pv_match.specs.declared.found.Match.{Match}
+use Rattle.pv_match.specs.declared.found.Param.{Param}
 use Rattle.pv_match.specs.declared.gathered.Gathered.{Gathered}
 use Rattle.pv_match.specs.Matches.{IsMatch}
 use Rattle.pv_match.specs.All.{AreMatchesOf, AreMatchesWhere}
@@ -63,6 +64,27 @@ Finds g numbers assumed table limit items over set = OnTrue over (AreTooMany g n
 abbrev pub IsFound : Graph → List ℕ → List ℕ → List Axiom → ℕ → List ℕ → answers.Matches → Type 0
 IsFound g numbers assumed table limit items (All list) = AreMatchesOf g numbers assumed table items list.items × IsStrictlySortedBy match_cmp list.items × (length list.items ≤ limit)
 IsFound g numbers assumed table limit items (More n) = (n ≡ suc limit) × (list : List Match) × AreTooMany g numbers assumed table limit list × IsStrictlySortedBy match_cmp list
+
+-- ---- all matches of a table
+
+-- exactly the matches of a table
+pub record AreMatchesAll (g : Graph) (numbers assumed : List ℕ) (table : List Axiom) (list : List Match) : Type 0 where
+  pub each : (x : Match) → In list x → (a : Axiom) × In table a × (x.axiom ≡ a.number) × IsMatch g numbers assumed a x.params.items x.classes.items
+  pub all : (a : Axiom) (params : List Param) (classes : List ℕ) → In table a → IsMatch g numbers assumed a params classes → (x : Match) × In list x × (x.axiom ≡ a.number) × (x.params.items ≡ params) × (x.classes.items ≡ classes)
+
+-- the set has one more match than the limit, or exactly the matches of the table
+abbrev pub FindsAll : Graph → List ℕ → List ℕ → List Axiom → ℕ → Bool → List Match → Type 0
+FindsAll g numbers assumed table limit over set = OnTrue over (AreTooMany g numbers assumed table limit set) × OnFalse over (AreMatchesAll g numbers assumed table set)
+
+-- what is found of a table: one more match than the limit; or exactly its matches, no more than the limit; in their order
+abbrev pub IsFoundAll : Graph → List ℕ → List ℕ → List Axiom → ℕ → answers.Matches → Type 0
+IsFoundAll g numbers assumed table limit (All list) = AreMatchesAll g numbers assumed table list.items × IsStrictlySortedBy match_cmp list.items × (length list.items ≤ limit)
+IsFoundAll g numbers assumed table limit (More n) = (n ≡ suc limit) × (list : List Match) × AreTooMany g numbers assumed table limit list × IsStrictlySortedBy match_cmp list
+
+-- the matches of a set, in order, or how many there are where they are too many
+abbrev pub IsListing : Gathered → answers.Matches → Type 0
+IsListing got (All list) = (got.is_over ≡ false) × (list.items ≡ got.set.keys) × IsStrictlySortedBy match_cmp list.items
+IsListing got (More n) = (got.is_over ≡ true) × (n ≡ length got.set.keys) × IsStrictlySortedBy match_cmp got.set.keys
 
 -- ---- pieces
 

@@ -7,6 +7,7 @@ pub mod Orders
 pub mod Standing
 pub mod Matches
 pub mod All
+pub mod Rematching
 -- how they are found
 pub mod Kept
 pub mod Bindings

@@ -6,11 +6,11 @@ ghost use Rattle.pv_pattern.specs.Seen.{axiom_seen};
 ghost use Rattle.pv_marks.specs.Marks.{AreClassMarks};
 ghost use Rattle.pv_match.specs.All.{AreMatchesOf, AreMatchesWhere};
 ghost use Rattle.pv_match.specs.Gathering.{Finds, TriedAt, Tries};
-ghost use Rattle.pv_match.specs.Finding.{HasFound, HasGathered, IsReady};
+ghost use Rattle.pv_match.specs.Finding.{HasFound, HasFoundAll, HasGathered, IsReady};
 ghost use Rattle.pv_pieces.specs.Cut.{nth_piece};
 
 use crate::found::{Match, Matches};
-use crate::gathered::{Gathered, gather, listed, put_together};
+use crate::gathered::{Gathered, beside_known, gather, in_order, put_together};
 use crate::members::{Group, with_number};
 use crate::reader::Reader;
 use pv_base::Gate;
@@ -138,11 +138,25 @@ impl Finder<'_> {
         ensures { IfOk result (HasFound self.now items.now) }
     {
         let got = self.find_all(workers, alloc, items)?;
-        let count = got.set.len();
-        if got.is_over {
-            return Ok(Matches::More(count));
-        }
-        let list = listed(alloc, got.set)?;
-        Ok(Matches::All(list))
+        let answer = in_order(alloc, got)?;
+        Ok(answer)
+    }
+
+    // All matches, where those whose left sides start at none of these nodes are known. Those at these nodes are found by consecutive
+    // pieces at once.
+    pub(crate) fn find_beside<R: Threads + Sync, G: Gate>(
+        &self,
+        workers: &Workers<R, G>,
+        alloc: Global,
+        touched: &[NodeId],
+        known: &[Match],
+    ) -> Result<Matches, Memory>
+        requires ready { IsReady self.now }
+        ensures { IfOk result (HasFoundAll self.now touched.now known.now) }
+    {
+        let got = self.find_all(workers, alloc, touched)?;
+        let all = beside_known(alloc, self.reader.numbers, got, known, self.limit)?;
+        let answer = in_order(alloc, all)?;
+        Ok(answer)
     }
 }

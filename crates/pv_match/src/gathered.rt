@@ -5,10 +5,13 @@ ghost use Rattle.std.specs.Bool.{OnFalse, OnTrue};
 ghost use Rattle.pv_graph.specs.Graphs.{Graph};
 ghost use Rattle.pv_pattern.specs.Patterns.{Axiom};
 ghost use Rattle.pv_pieces.specs.Cut.{joined};
-ghost use Rattle.pv_match.specs.Gathering.{AreParts, Finds, GathersAll, GathersSome};
+ghost use Rattle.pv_match.specs.Gathering.{AreParts, Finds, FindsAll, GathersAll, GathersSome, IsListing};
 ghost use Rattle.pv_match.specs.Reading.{AreReadable};
+ghost use Rattle.pv_match.specs.Rematching.{CanTakeOver};
 
-use crate::found::Match;
+use crate::found::{Match, Matches};
+use crate::renumbered::renumbered;
+use pv_graph::NodeId;
 use pv_value::Memory;
 use std::alloc::Global;
 use std::collections::BTreeSet;
@@ -95,4 +98,38 @@ pub(crate) fn put_together(
         set,
         is_over: false,
     })
+}
+
+// Puts known matches beside those that were gathered, with the class of now for each of their classes. It stops as soon as there are more
+// than `limit`.
+pub(crate) fn beside_known(
+    alloc: Global,
+    numbers: &[NodeId],
+    got: Gathered,
+    known: &[Match],
+    limit: usize,
+) -> Result<Gathered, Memory>
+    requires few { OnFalse got.is_over (length got.set.keys ≤ limit) }
+    ensures found { IfOk result (λ all. (g : Graph) (assumed : List ℕ) (table : List Axiom) (items : List ℕ) → AreReadable table → CanTakeOver g numbers.now assumed table known.now items → Finds g numbers.now assumed table limit items got.is_over got.set.keys → FindsAll g numbers.now assumed table limit all.is_over all.set.keys) }
+    ensures few { IfOk result (λ all. OnFalse all.is_over (length all.set.keys ≤ limit)) }
+{
+    if got.is_over {
+        return Ok(got);
+    }
+    let mut set = got.set;
+    let more = renumbered(alloc, numbers, known)?;
+    let is_over = gather(&mut set, more, limit)?;
+    Ok(Gathered { set, is_over })
+}
+
+// The matches that were gathered, in order, or how many there are where they are too many.
+pub(crate) fn in_order(alloc: Global, got: Gathered) -> Result<Matches, Memory>
+    ensures { IfOk result (IsListing got) }
+{
+    let count = got.set.len();
+    if got.is_over {
+        return Ok(Matches::More(count));
+    }
+    let list = listed(alloc, got.set)?;
+    Ok(Matches::All(list))
 }

@@ -3,6 +3,7 @@
 ghost use Rattle.pv_match.specs.All.{Pieces, Starts};
 ghost use Rattle.pv_match.specs.AllMatches.{TableIsReadable};
 ghost use Rattle.pv_match.specs.Orders.{AreOrdered};
+ghost use Rattle.pv_match.specs.Rematching.{AllKnown};
 
 /// A match of an axiom is one that starts at some node.
 pub fn law_starts()
@@ -22,4 +23,9 @@ pub fn law_order()
 /// The left side of each axiom of all tables is one that is read.
 pub fn law_table()
     ensures { TableIsReadable }
+{}
+
+/// A list of all matches can be taken over while nothing is touched.
+pub fn law_known()
+    ensures { AllKnown }
 {}

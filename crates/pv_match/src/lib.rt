@@ -10,6 +10,11 @@
 //! what a match is, and `specs/All` which matches start at some nodes. That these are the matches of `pv_heights` is shown in the proofs.
 //! `law_pieces` says that the matches at two pieces of the nodes are those at both.
 //!
+//! `rematch` gives what `matches` does, where matches are known from an earlier look. `specs/Rematching` says when they can be taken over
+//! (`CanTakeOver`): each is a match still, with the class of now for each of its classes, and each match that is none of them starts at a touched
+//! node. So it looks at the touched nodes alone, and puts the known matches beside those that start there. A list of all matches can be taken over while
+//! nothing is touched (`law_known`).
+//!
 //! How it goes: of the nodes of one form, which is an operation over the classes of kids, the first is kept (`kept`). They all match the
 //! same patterns, and when classes are closed many are of one form, so without this the work would multiply. The nodes that are kept are
 //! grouped by their classes and the numbers of their operations (`members`), and the axioms by those of their heads (`rules`). A left
@@ -31,8 +36,9 @@ pub mod laws;
 mod matching;
 mod members;
 mod reader;
+mod renumbered;
 mod rules;
 mod shown;
 
-pub use all::matches;
+pub use all::{matches, rematch};
 pub use found::{Match, Matches, Param};

@@ -1,11 +1,9 @@
-use Rattle.std.proofs.Common.{◌≡◌, Bool, true, ◌∙◌, subst}
-use Rattle.std.specs.Bool.{OnTrue}
+use Rattle.std.proofs.Common.{map}
+use Rattle.pv_pattern.specs.Seen.{axiom_seen}
+use Rattle.pv_match.proofs.Listings.{found_listing}
 use Rattle.pv_match.proofs.finder.Finder.find.Goals as goal
 
-on_true : (b : Bool) (P : Type 0) → b ≡ true → OnTrue b P → P
-on_true b P e h = subst (λ (v : Bool). OnTrue v P) e h
-
-pub returns-then-got : goal.returns-then-got
-returns-then-got g c assumed marks =
-    let many = on_true c.in_ok-got.got.is_over _ c.if-got.true (c.in_ok-got.ensures.found assumed marks).0 in
-    (c.len-count.ensures.len ∙ many.long, c.in_ok-got.got.set.keys, many, c.len-count.ensures.ordered)
+pub returns : goal.returns
+returns g c assumed marks =
+    let it = c.args.self.now in
+    found_listing it.reader.graph.now it.reader.numbers.now assumed (map axiom_seen it.table.now) it.limit c.in_ok-got.got c.args.items.now c.in_ok-answer.answer (c.in_ok-got.ensures.found assumed marks) c.in_ok-got.ensures.few c.in_ok-answer.ensures

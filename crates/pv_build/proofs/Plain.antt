@@ -13,7 +13,7 @@ use Rattle.pv_insn.specs.declared.insn.Placed.{Placed}
 use Rattle.pv_frame.specs.declared.used.Use.{Use}
 use Rattle.pv_frame.specs.declared.used.Use.TheVariants as used
 use Rattle.pv_frame.specs.declared.action.Action.{Action}
-use Rattle.pv_frame.specs.Actions.{plain_rows, local_rows, branch_rows, field_rows, row_of, LoadsConstant, ActsWith, Acts}
+use Rattle.pv_frame.specs.Actions.{plain_rows, local_rows, branch_rows, field_rows, class_rows, row_of, LoadsConstant, ActsWith, Acts}
 use Rattle.pv_frame.specs.declared.program.Program.{Program}
 use Rattle.pv_frame.specs.Programs.{Does, IsProgramOf}
 use Rattle.pv_class.specs.declared.file.ClassFile.{ClassFile}
@@ -35,7 +35,7 @@ made_has P make None a h e = no_some a e
 made_has P make (Some x) a h e = subst P (some_of _ _ e) (h x refl)
 
 plain_calls : AllByRecursion (λ r. IsFloatlessCall r.1) plain_rows
-plain_calls = (tt, (tt, (tt, (tt, (tt, (tt, (tt, (tt, (tt, (tt, (tt, (tt, (tt, (tt, (tt, (tt, (tt, (tt, (tt, (tt, (tt, (tt, (tt, (tt, (tt, (tt, (tt, (tt, (tt, (tt, (tt, (tt, (tt, (tt, (tt, (tt, (tt, (tt, (tt, (tt, (tt, (tt, (tt, (tt, (tt, (tt, (tt, (tt, (tt, (tt, (tt, (tt, (tt, (tt, (tt, (tt, (tt, (tt, (tt, (tt, (tt, (tt, (tt, (tt, (tt, (tt, (tt, (tt, (tt, (tt, (tt, (tt, (tt, (tt, (tt, (tt, (tt, (tt, (tt, (tt, (tt, (tt, (tt, (tt, (tt, (tt, (tt, (tt, (tt, (tt, (tt, tt)))))))))))))))))))))))))))))))))))))))))))))))))))))))))))))))))))))))))))))))))))))))))))
+plain_calls = (tt, (tt, (tt, (tt, (tt, (tt, (tt, (tt, (tt, (tt, (tt, (tt, (tt, (tt, (tt, (tt, (tt, (tt, (tt, (tt, (tt, (tt, (tt, (tt, (tt, (tt, (tt, (tt, (tt, (tt, (tt, (tt, (tt, (tt, (tt, (tt, (tt, (tt, (tt, (tt, (tt, (tt, (tt, (tt, (tt, (tt, (tt, (tt, (tt, (tt, (tt, (tt, (tt, (tt, (tt, (tt, (tt, (tt, (tt, (tt, (tt, (tt, (tt, (tt, (tt, (tt, (tt, (tt, (tt, (tt, (tt, (tt, (tt, (tt, (tt, (tt, (tt, (tt, (tt, (tt, (tt, (tt, (tt, (tt, (tt, (tt, (tt, (tt, (tt, (tt, (tt, (tt, tt))))))))))))))))))))))))))))))))))))))))))))))))))))))))))))))))))))))))))))))))))))))))))))
 
 local_calls : AllByRecursion (λ r. (n : ℕ) → IsFloatlessCall (r.1 n)) local_rows
 local_calls = (λ _. tt, (λ _. tt, (λ _. tt, (λ _. tt, (λ _. tt, (λ _. tt, tt))))))
@@ -45,6 +45,9 @@ branch_calls = (λ _. tt, (λ _. tt, (λ _. tt, (λ _. tt, (λ _. tt, (λ _. tt,
 
 field_calls : AllByRecursion (λ r. (t : JType) (f : Sym) → IsFloatlessCall (r.1 t f)) field_rows
 field_calls = (λ _ _. tt, (λ _ _. tt, (λ _ _. tt, (λ _ _. tt, tt))))
+
+class_calls : AllByRecursion (λ r. (name : List ℕ) → IsFloatlessCall (r.1 name)) class_rows
+class_calls = (λ _. tt, (λ _. tt, tt))
 
 constant_call : (pool : List Entry) (opcode : ℕ) (c : Constant) (a : Action) → LoadsConstant pool opcode c a → IsFloatlessCall a
 constant_call pool opcode (constant.Int n) a h = subst IsFloatlessCall (sym h.1) tt
@@ -58,6 +61,8 @@ with_call pool opcode (used.Member m) a (inl h) = subst IsFloatlessCall (sym h.i
 with_call pool opcode (used.Member m) a (inr (inl h)) = subst IsFloatlessCall (sym h.is) h.floatless
 -- a receiver is a reference
 with_call pool opcode (used.Member m) a (inr (inr h)) = subst IsFloatlessCall (sym h.is) ((tt, h.floatless.0), h.floatless.1)
+with_call pool opcode (used.Class name) a h =
+    made_has IsFloatlessCall (λ make. make name) (row_of class_rows opcode) a (λ make e. row_has (λ make. (name : List ℕ) → IsFloatlessCall (make name)) class_rows class_calls opcode make e name) h
 with_call pool opcode used.None a h = absurd h
 
 acts_call : (pool : List Entry) (i : Insn) (u : Use) (a : Action) → Acts pool i u a → IsFloatlessCall a

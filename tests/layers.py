@@ -17,7 +17,7 @@ LAYERS = [
     ("commands", ["pv_top", "pv_draw", "pv_words"]),
     ("reports", ["pv_links", "pv_sections", "pv_differences", "pv_report", "pv_drawings"]),
     ("certificates made", ["pv_certify", "pv_explain", "pv_writer", "pv_paths", "pv_trim"]),
-    ("the search", ["pv_prove", "pv_grounds", "pv_rounds", "pv_saturate", "pv_closings"]),
+    ("the search", ["pv_prove", "pv_grounds", "pv_rounds", "pv_saturate", "pv_touched", "pv_closings"]),
     ("parts of a round", ["pv_match", "pv_marks", "pv_standing", "pv_witness", "pv_instances", "pv_induct", "pv_classes"]),
     ("what it may answer", ["pv_heights"]),
     ("certificates read", ["pv_check", "pv_chain", "pv_cert", "pv_endings"]),

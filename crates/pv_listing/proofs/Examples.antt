@@ -7,9 +7,9 @@ use Rattle.pv_listing.specs.declared.line.Operands.TheVariants as operands
 use Rattle.pv_listing.specs.Mnemonics.{has_name}
 use Rattle.pv_listing.specs.Lines.{line_text}
 
--- accepted, and neither a call on a receiver nor wide
+-- accepted, and neither a store of a reference into an array, a call on a receiver, a cast or a type test, nor wide
 abbrev is_written : ℕ → Bool
-is_written op = is_opcode op && not (is_refused op) && not (is_among op ((182, 183) ∷ (185, 185) ∷ (196, 196) ∷ []))
+is_written op = is_opcode op && not (is_refused op) && not (is_among op ((83, 83) ∷ (182, 183) ∷ (185, 185) ∷ (192, 193) ∷ (196, 196) ∷ []))
 
 mnemonics : map has_name (range_with_len 0 256) ≡ map is_written (range_with_len 0 256)
 mnemonics = refl

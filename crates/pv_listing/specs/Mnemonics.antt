@@ -7,7 +7,8 @@ use Rattle.pv_listing.specs.declared.mnemonic.Kind.{Kind}
 use Rattle.pv_listing.specs.declared.mnemonic.Kind.TheVariants as kind
 use Rattle.pv_listing.specs.declared.mnemonic.Row.{Row}
 
--- each with its opcode; wide has none, since a listing has no wide operands, and no call on a receiver has one
+-- each with its opcode; wide has none, since a listing has no wide operands, and no call on a receiver, cast, type test or store of a reference into an
+-- array has one
 abbrev pub names : List (ℕ × List ℕ)
 names =
     (0, codes "nop")

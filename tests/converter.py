@@ -141,7 +141,9 @@ LOADS = {46 + number: kind for number, kind in ELEMENTS.items()}
 STORES = {79 + number: kind for number, kind in ELEMENTS.items() if kind != "Ref"}
 ON_RECEIVER = {182: "v", 183: "s", 185: "i"}
 RETURNS = (172, 173, 176, 177)
-ENDS_BLOCK = {*BRANCHES, 200, *SWITCHES, *RETURNS, *DIVISIONS, *LOADS, *STORES, *ON_RECEIVER, 180, 181, 184, 190, 191}
+# aastore, checkcast, instanceof
+BY_TYPE = (83, 192, 193)
+ENDS_BLOCK = {*BRANCHES, 200, *SWITCHES, *RETURNS, *DIVISIONS, *LOADS, *STORES, *ON_RECEIVER, *BY_TYPE, 180, 181, 184, 190, 191}
 
 # What a move of the operand stack takes from the top, and under that, in words; and whether what is taken first stays where it was.
 MOVES = {89: (1, 0, True), 90: (1, 1, True), 91: (1, 2, True), 92: (2, 0, True), 93: (2, 1, True), 94: (2, 2, True), 95: (1, 1, False)}
@@ -297,6 +299,8 @@ class Run:
             return [(of(("aeq",), x, null), self.throw("fnull")), (None, self.throw("thrown", x))]
         if op in LOADS or op in STORES:
             return self.element(op, after)
+        if op in BY_TYPE:
+            return self.store_ref(after) if op == 83 else self.test_type(op, args, after)
         if op in (180, 181, 190):
             return self.member(op, args, after)
         return self.call(op, args, after)
@@ -340,6 +344,40 @@ class Run:
         else:
             self.heap = of(("store", kind), self.heap, a, i, *value)
         return [(is_null, null), (is_low, index), (is_inside, self.to(after)), (None, index)]
+
+    def told(self, owner, name, *references):
+        """What the world tells at the heap with which the method starts."""
+        desc = "(" + "Ljava/lang/Object;" * len(references) + ")Z"
+        return self.table.of(("callres", owner, name, desc), self.table.of(("heap0",)), *references)
+
+    def literal_thrown(self, text):
+        return self.throw("thrown", self.table.of(("literal", text)))
+
+    def store_ref(self, after):
+        of, null = self.table.of, self.table.of(("null",))
+        a, i, v = self.pop(3)
+        below = of(("ilt",), i, of(("length",), a))
+        no_array, index, unfit = self.throw("fnull"), self.throw("findex"), self.literal_thrown("%FFstore")
+        self.heap = of(("store", "Ref"), self.heap, a, i, v)
+        tests = [(of(("aeq",), a, null), no_array), (of(("ilt",), i, self.table.int(0)), index), (of(("ieq",), below, self.table.int(0)), index)]
+        return tests + [(of(("aeq",), v, null), self.to(after)), (self.told("%FFarray", "%FFfits", a, v), self.to(after)), (None, unfit)]
+
+    def test_type(self, op, args, after):
+        """checkcast and instanceof, which goes on from each of its exits with the number that it gives there."""
+        pool = self.method.file.pool
+        (o,) = self.pop()
+        tests = [self.table.of(("aeq",), o, self.table.of(("null",))), self.told(shown(pool[pool[args[0]][1][0]][1]), "%FFis", o), None]
+        if op == 192:
+            unlike = self.literal_thrown("%FFcast")
+            self.push(o)
+            exits = [self.to(after), self.to(after), unlike]
+        else:
+            exits = []
+            for n in (0, 1, 0):
+                self.push(self.table.int(n))
+                exits.append(self.to(after))
+                self.pop()
+        return list(zip(tests, exits))
 
     def member(self, op, args, after):
         """getfield, putfield and arraylength."""

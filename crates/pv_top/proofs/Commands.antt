@@ -18,7 +18,7 @@ use Rattle.pv_top.specs.declared.words.Mode.{Mode}
 use Rattle.pv_top.specs.declared.words.Command.{Command}
 use Rattle.pv_top.specs.declared.words.Command.TheVariants.{Validate, Check, Compose, CheckChain, Refute, Make}
 use Rattle.pv_top.specs.Commands.{CanMake, named}
-use Rattle.pv_top.specs.Words.{AreOf, GiveCheck, IsCommand, IsLimit, IsMode, IsSet, IsWorkers, arguments_alone, check_words, set_word, refute_words, validate_words}
+use Rattle.pv_top.specs.Words.{AreOf, GiveCheck, IsCommand, IsLimit, IsMode, IsSet, arguments_alone, check_words, set_word, refute_words, validate_words}
 
 -- ---- the words are one command at most
 

@@ -1,8 +1,8 @@
 -- What is placed, one after the other.
-use Rattle.std.proofs.Common.{◌≡◌, ◌<◌, ◌≤◌, ◌+◌, ℕ, suc, List, [], ◌∷◌, ◌++◌, length, get_or, map, take, Option, Some, None, Result, Ok, Err, inl, inr, refl, sym, ap, subst, ◌∙◌, arith, add-one}
+use Rattle.std.proofs.Common.{◌≡◌, ◌<◌, ◌≤◌, ◌+◌, ℕ, suc, List, [], ◌∷◌, ◌++◌, length, get_or, map, take, Option, Some, None, Err, inl, inr, refl, sym, ap, subst, ◌∙◌, add-one}
 use Rattle.std.specs.Prelude.{slice_get, option_map}
 use Rattle.std.specs.FinMap.{insert}
-use Rattle.std.proofs.lemmas.List.{append-nil, map-append, take-map}
+use Rattle.std.proofs.lemmas.List.{map-append, take-map}
 use Rattle.std.proofs.lemmas.Option.{slice_get-get_or, slice_get-map}
 use Rattle.pv_base.specs.Stored.{Stored}
 use Rattle.pv_base.specs.Outside.{Rose, more, rose_earlier}
@@ -13,7 +13,7 @@ use Rattle.pv_report.specs.declared.status.Status.TheVariants as status
 use Rattle.pv_report.proofs.Cited.{take_next}
 use Rattle.pv_top.specs.declared.top.Placed.{Placed}
 use Rattle.pv_top.specs.Run.{GrewBy, insert_each}
-use Rattle.pv_top.specs.Fetching.{AllPlaced, Asks, ChangesAt, PlaceCalls, PlaceCallsTo, PlaceCut, PlaceFailed, PlacesEach, PlacesIn, bytes_in, contents_of, names_in, placed_of}
+use Rattle.pv_top.specs.Fetching.{AllPlaced, Asks, ChangesAt, PlaceCalls, PlaceCallsTo, PlaceCut, PlaceFailed, PlacesIn, bytes_in, contents_of, names_in, placed_of}
 use Rattle.pv_top.proofs.Asking.{grew_more, more_nothing}
 
 -- a count that rose since, rose since before
@@ -56,11 +56,13 @@ one_called old mid new front p so one = subst (GrewBy old new) (sym (calls_last 
 contents_next : (all : List Placed) (k : ℕ) (w : Placed) → slice_get all k ≡ Some w → contents_of (take (k + 1) all) ≡ contents_of (take k all) ++ placed_of w ∷ []
 contents_next all k w at = ap contents_of (take_next all k w at) ∙ map-append placed_of (take k all) (w ∷ [])
 
-pub placed_next : (held mid now : Option Stored) (old asked new : Option (List Asked)) (all : List Placed) (k : ℕ) (d : Placed) → k < length all → AllPlaced held mid old asked (contents_of (take k all)) → PlacesIn mid now (placed_of (get_or all k d) ∷ [])
-    → new ≡ more asked (Place (get_or all k d).name.now ∷ []) → AllPlaced held now old new (contents_of (take (k + 1) all))
-placed_next held mid now old asked new all k d lt so holds call =
-    let w = get_or all k d in
-    let next = contents_next all k w (slice_get-get_or all k d lt) in
+item_at : (all : List Placed) (k : ℕ) (w : Placed) → w ≡ get_or all k w → k < length all → slice_get all k ≡ Some w
+item_at all k w is lt = slice_get-get_or all k w lt ∙ ap (λ (x : Placed). Some x) (sym is)
+
+pub placed_next : (held mid now : Option Stored) (old asked new : Option (List Asked)) (all : List Placed) (k : ℕ) (w : Placed) → w ≡ get_or all k w → k < length all → AllPlaced held mid old asked (contents_of (take k all)) → PlacesIn mid now (placed_of w ∷ [])
+    → new ≡ more asked (Place w.name.now ∷ []) → AllPlaced held now old new (contents_of (take (k + 1) all))
+placed_next held mid now old asked new all k w is lt so holds call =
+    let next = contents_next all k w (item_at all k w is lt) in
     let front : List (List ℕ × List ℕ) = contents_of (take k all) in
     record {
       holds = subst (PlacesIn held now) (sym next) (one_in held mid now front (placed_of w) so.holds holds);
@@ -76,11 +78,10 @@ cut_calls T old asked new all k p status.Memory rose so next failed (inl e) = in
 cut_calls T old asked new all k p status.Memory rose so next failed (inr e) = inr (subst (PlaceCalls old new) (sym next) (one_called old asked new (take k all) p so e))
 cut_calls T old asked new all k p _ rose so next failed asks = absurd failed
 
-pub place_cut : (T : Type 0) (held mid now : Option Stored) (old asked new : Option (List Asked)) (all : List Placed) (k : ℕ) (d : Placed) (s : Status) (before between after : ℕ) → k < length all → before ≤ between → AllPlaced held mid old asked (contents_of (take k all))
-    → PlaceFailed s (Rose between after) → ChangesAt mid now (get_or all k d).name.now → Asks {T = T} asked new (Place (get_or all k d).name.now) (Err s) → PlaceCut held now old new (contents_of all) s (Rose before after)
-place_cut T held mid now old asked new all k d s before between after lt le so failed changes asks =
-    let w = get_or all k d in
-    let at = slice_get-get_or all k d lt in
+pub place_cut : (T : Type 0) (held mid now : Option Stored) (old asked new : Option (List Asked)) (all : List Placed) (k : ℕ) (w : Placed) (s : Status) (before between after : ℕ) → w ≡ get_or all k w → k < length all → before ≤ between → AllPlaced held mid old asked (contents_of (take k all))
+    → PlaceFailed s (Rose between after) → ChangesAt mid now w.name.now → Asks {T = T} asked new (Place w.name.now) (Err s) → PlaceCut held now old new (contents_of all) s (Rose before after)
+place_cut T held mid now old asked new all k w s before between after is lt le so failed changes asks =
+    let at = item_at all k w is lt in
     let front : contents_of (take k all) ≡ take k (contents_of all) = sym (take-map placed_of k all) in
     let next : take (suc k) (contents_of all) ≡ take k (contents_of all) ++ placed_of w ∷ [] =
     ap (λ (n : ℕ). take n (contents_of all)) (sym (add-one k)) ∙ take-map placed_of (k + 1) all ∙ contents_next all k w at ∙ ap (λ (x : List (List ℕ × List ℕ)). x ++ placed_of w ∷ []) front

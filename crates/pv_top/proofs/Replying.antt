@@ -9,19 +9,25 @@ use Rattle.pv_base.specs.Stored.{Stored}
 use Rattle.pv_base.specs.Outside.{Rose}
 use Rattle.pv_base.specs.declared.outside.Asked.{Asked}
 use Rattle.pv_base.specs.declared.outside.Asked.TheVariants.{Fetch, Place}
-use Rattle.pv_report.specs.Options.{Options}
+use Rattle.pv_class.specs.declared.class.TheConstants.{LONGEST_FILE}
+use Rattle.pv_report.specs.Options.{AxiomSet, Limits, Options, in_least}
 use Rattle.pv_report.specs.declared.pair.Fetched.{Fetched}
 use Rattle.pv_report.specs.declared.status.Status.{Status}
 use Rattle.pv_report.specs.declared.status.Status.TheVariants as status
+use Rattle.pv_report.specs.Judging.{IsFetchedWithin, JudgesFetched}
 use Rattle.pv_report.specs.Report.{Judged}
+use Rattle.pv_sections.specs.declared.certificate.TheConstants.{LONGEST_CERT}
+use Rattle.pv_sections.specs.Reading.{RulesFetched}
+use Rattle.pv_links.specs.declared.chain.TheConstants.{LONGEST_CHAIN}
 use Rattle.pv_links.specs.Composed.{Composed}
-use Rattle.pv_links.specs.Reading.{AreContents, ComposesFetched}
+use Rattle.pv_links.specs.Reading.{AreContents, ChainRulesFetched, ComposesFetched}
 use Rattle.pv_top.specs.declared.top.Reply.{Reply}
 use Rattle.pv_top.specs.declared.words.Command.{Command}
-use Rattle.pv_top.specs.declared.words.Command.TheVariants.{Validate, Compose, Make}
+use Rattle.pv_top.specs.declared.words.Command.TheVariants.{Validate, Check, Compose, CheckChain, Make}
+use Rattle.pv_top.specs.declared.words.Mode.TheVariants.{Cert}
 use Rattle.pv_top.specs.Words.{fetches, made_line, names_of, placed_names}
 use Rattle.pv_top.specs.Run.{AreContents as AreHeld, Says, Answered, IsAnswer, graphs_in, all_calls, fetch_calls, GrewBy, HasBadFile, IsBad, AskedFor, CallsFor, HoldsFront, HoldsPlaced, IsCutOff, IsPlaced, LeavesAt, LeavesKnown, LeavesBy, Leaves, insert_each}
-use Rattle.pv_top.specs.Fetching.{HoldAll, AllPlaced, AnswersFetched, AreFetched, ChangesAt, ComposesIn, FetchesOf, Gives, IsMadeAnswer, MakesIn, PlaceCallsTo, PlaceCut, PlaceFailed, Places, PlacesFetched, PlacesIn, ReadFailed, bytes_in, contents_of, names_in}
+use Rattle.pv_top.specs.Fetching.{HoldAll, AnswersFetched, AreFetched, ChangesAt, ComposesIn, FetchesOf, Gives, IsMadeAnswer, MakesIn, PlaceCallsTo, PlaceCut, PlaceFailed, Places, PlacesFetched, PlacesIn, ReadFailed, ShowsIn, bytes_in, contents_of, names_in}
 use Rattle.pv_top.proofs.Answering.{Contents, contents_of as fetched_bytes, said_of, said_result}
 use Rattle.pv_top.proofs.Asking.{grew_more, more_nothing}
 use Rattle.pv_top.proofs.Placing.{place_failed_since}
@@ -107,6 +113,74 @@ module _ (command : Command (List ℕ)) (fetched : List Fetched) (name a b c x y
       let all = chain_places name a b c x y first second third one two reply.answer.text.items s p answers makes in
       subst (λ (k : Command (List ℕ)). PlacesFetched k fetched s p) (sym is) (subst (λ (f : List Fetched). PlacesFetched (Compose a b c x y name) f s p) items all)
 
+-- ---- a certificate or a chain that is checked
+
+-- two and three that were fetched, by their places
+pub two_items : (fetched : List Fetched) (a b : Fetched) → length fetched ≡ 2 → a ≡ get_or fetched 0 a → b ≡ get_or fetched 1 b → a ∷ b ∷ [] ≡ fetched
+two_items (v ∷ w ∷ []) a b n p q = cc (p, q)
+two_items [] a b n p q = absurd (omega (arith, n))
+two_items (v ∷ []) a b n p q = absurd (omega (arith, n))
+two_items (v ∷ w ∷ x ∷ more) a b n p q = absurd (omega (arith, n))
+
+pub three_items : (fetched : List Fetched) (a b c : Fetched) → length fetched ≡ 3 → a ≡ get_or fetched 0 a → b ≡ get_or fetched 1 b → c ≡ get_or fetched 2 c → a ∷ b ∷ c ∷ [] ≡ fetched
+three_items (v ∷ w ∷ x ∷ []) a b c n p q r = cc (p, q, r)
+three_items [] a b c n p q r = absurd (omega (arith, n))
+three_items (v ∷ []) a b c n p q r = absurd (omega (arith, n))
+three_items (v ∷ w ∷ []) a b c n p q r = absurd (omega (arith, n))
+three_items (v ∷ w ∷ x ∷ y ∷ more) a b c n p q r = absurd (omega (arith, n))
+
+-- what holds of the bytes of three files, holds of all contents that were fetched for them
+three_contents : (P : List (List ℕ) → Type 0) (f g h : List ℕ × ℕ) (first second third : Fetched) → ((x y z : List ℕ) → IsFetchedWithin f.1 first x → IsFetchedWithin g.1 second y → IsFetchedWithin h.1 third z → P (x ∷ y ∷ z ∷ [])) → (contents : List (List ℕ))
+    → AreFetched (f ∷ g ∷ h ∷ []) (first ∷ second ∷ third ∷ []) contents → P contents
+three_contents P f g h first second third so (x ∷ y ∷ z ∷ []) are = so x y z are.0 are.1.0 are.1.1.0
+three_contents P f g h first second third so [] are = absurd are
+three_contents P f g h first second third so (x ∷ []) are = absurd are.1
+three_contents P f g h first second third so (x ∷ y ∷ []) are = absurd are.1.1
+three_contents P f g h first second third so (x ∷ y ∷ z ∷ w ∷ more) are = absurd are.1.1.1
+
+module _ (command : Command (List ℕ)) (fetched : List Fetched) (a b cert : List ℕ) (first second third : Fetched) (text : List ℕ) (s : Status) (items : first ∷ second ∷ third ∷ [] ≡ fetched) where
+  pub check_answers : command ≡ Check a b cert → RulesFetched first second third text s → AnswersFetched command fetched text s
+  check_answers is rules =
+      let all : AnswersFetched (Check a b cert) (first ∷ second ∷ third ∷ []) text s =
+      three_contents (λ (contents : List (List ℕ)). IsAnswer (Check a b cert) contents text s) (a, LONGEST_FILE) (b, LONGEST_FILE) (cert, LONGEST_CERT) first second third rules
+      in
+      subst (λ (k : Command (List ℕ)). AnswersFetched k fetched text s) (sym is) (subst (λ (f : List Fetched). AnswersFetched (Check a b cert) f text s) items all)
+
+  pub chain_rules : command ≡ CheckChain a b cert → ChainRulesFetched first second third text s → AnswersFetched command fetched text s
+  chain_rules is rules =
+      let all : AnswersFetched (CheckChain a b cert) (first ∷ second ∷ third ∷ []) text s =
+      three_contents (λ (contents : List (List ℕ)). IsAnswer (CheckChain a b cert) contents text s) (a, LONGEST_FILE) (b, LONGEST_FILE) (cert, LONGEST_CHAIN) first second third rules
+      in
+      subst (λ (k : Command (List ℕ)). AnswersFetched k fetched text s) (sym is) (subst (λ (f : List Fetched). AnswersFetched (CheckChain a b cert) f text s) items all)
+
+-- ---- a certificate that is placed
+
+judged_good : (options : Options) (a b text : List ℕ) (s : Status) → s ≢ status.BadClass → Judged options a b text s → IsBad s → ⊥
+judged_good options a b text status.BadClass other h bad = other refl
+judged_good options a b text status.BadCert other h bad = absurd h.2
+judged_good options a b text _ other h bad = absurd bad
+
+module _ (command : Command (List ℕ)) (fetched : List Fetched) (name a b : List ℕ) (axioms : AxiomSet) (rounds budget : ℕ) (first second : Fetched) (is : command ≡ Validate a b axioms rounds budget (Cert name)) (items : first ∷ second ∷ [] ≡ fetched) where
+  abbrev limits : Limits
+  limits = record { axioms = axioms; rounds = rounds; budget = budget }
+
+  shown_places : (text : List ℕ) (s : Status) (placed : List (List ℕ × List ℕ)) → JudgesFetched (in_least limits) first second text s → ShowsIn limits name first second s placed → PlacesFetched (Validate a b axioms rounds budget (Cert name)) (first ∷ second ∷ []) s placed
+  shown_places text s [] judges shows contents f = inr (subst IsBad (sym shows) tt)
+  shown_places text s (p ∷ q ∷ more) judges shows contents f = absurd shows
+  shown_places text s (p ∷ []) judges shows (x ∷ y ∷ []) f = (ap (λ (w : List ℕ). w ∷ []) (sym shows.0), shows.1 x y f.0 f.1.0, judged_good (in_least limits) x y text s shows.2 (judges x y f.0 f.1.0))
+  shown_places text s (p ∷ []) judges shows [] f = absurd f
+  shown_places text s (p ∷ []) judges shows (x ∷ []) f = absurd f.1
+  shown_places text s (p ∷ []) judges shows (x ∷ y ∷ z ∷ more) f = absurd f.1.1
+
+  pub show_places : {E : Type 0} (r : Result Reply E) → IfOk r (λ reply. JudgesFetched (in_least limits) first second reply.answer.text.items reply.answer.status) → IfOk r (λ reply. ShowsIn limits name first second reply.answer.status (contents_of reply.placed.items))
+      → IfOk r (λ reply. PlacesFetched command fetched reply.answer.status (contents_of reply.placed.items))
+  show_places (Err e) judges shows = tt
+  show_places (Ok reply) judges shows =
+      let s = reply.answer.status in
+      let p = contents_of reply.placed.items in
+      let all = shown_places reply.answer.text.items s p judges shows in
+      subst (λ (k : Command (List ℕ)). PlacesFetched k fetched s p) (sym is) (subst (λ (f : List Fetched). PlacesFetched (Validate a b axioms rounds budget (Cert name)) f s p) items all)
+
 -- ---- two classes that were made
 
 module _ (command : Command (List ℕ)) (seed count : ℕ) (first second : List ℕ) (is : command ≡ Make seed count first second) where
@@ -119,7 +193,7 @@ module _ (command : Command (List ℕ)) (seed count : ℕ) (first second : List 
   made_places fetched s [] same makes contents f = absurd makes
   made_places fetched s (p ∷ []) same makes contents f = absurd makes
   made_places fetched s (p ∷ q ∷ r ∷ more) same makes contents f = absurd makes
-  made_places [] s (p ∷ q ∷ []) same makes [] f = (ap (λ (w : List ℕ). w ∷ second ∷ []) (sym makes.0) ∙ ap (λ (w : List ℕ). p.0 ∷ w ∷ []) (sym makes.1), makes.2, λ bad. subst IsBad same bad)
+  made_places [] s (p ∷ q ∷ []) same makes [] f = (ap (λ (w : List ℕ). w ∷ second ∷ []) (sym makes.0) ∙ ap (λ (w : List ℕ). p.0 ∷ w ∷ []) (sym makes.1), (makes.2, makes.3), λ bad. subst IsBad same bad)
   made_places [] s (p ∷ q ∷ []) same makes (bytes ∷ contents) f = absurd f
   made_places (x ∷ fetched) s (p ∷ q ∷ []) same makes contents f = absurd f
 

@@ -27,7 +27,6 @@ use Rattle.pv_sections.specs.Ruled.{IsCertReport, Ruled}
 use Rattle.pv_sections.proofs.Cited.{accepted_meaning, bad_certificate_other, bad_certificate_whole, only_accepted, whole_section}
 use Rattle.pv_sections.specs.declared.flaw.Flaw.{Flaw}
 use Rattle.pv_links.specs.declared.finding.LinkFinding.{LinkFinding}
-use Rattle.pv_links.specs.declared.finding.LinkFinding.TheVariants as link
 use Rattle.pv_links.specs.Composed.{Composed}
 use Rattle.pv_links.specs.Findings as links
 use Rattle.pv_links.specs.Lines.{bad_link_words, chain_flaw_words, link_line}

@@ -103,7 +103,7 @@ fn execute<R: Threads + Sync, F: Files, K: Sink, G: Gate>(
     files: &mut F,
     out: &mut K,
 ) -> Status
-    requires { CanMake (named command) }
+    requires count { CanMake (named command) }
     ensures answered { Answered (F.held files.old) (Some (named command.entry)) (K.sent out.old) (K.sent out.new) (Rose (F.failures files.old) (F.failures files.new)) (Rose (K.failures out.old) (K.failures out.new)) result }
     ensures asked { CallsFor (F.held files.old) (Some (named command.entry)) (F.asked files.old) (F.asked files.new) (Rose (K.failures out.old) (K.failures out.new)) result }
     ensures held { Leaves (Some (named command.entry)) (F.held files.old) (F.held files.new) (Rose (F.failures files.old) (F.failures files.new)) (Rose (K.failures out.old) (K.failures out.new)) result }

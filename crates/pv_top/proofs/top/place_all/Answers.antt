@@ -20,7 +20,7 @@ returns-in_err-place-clause-placed g c =
     let s = c.in_err-place.field-0.0 in
     let is : c.from_residual.result ≡ Err s = search rules in
     subst (λ (r : Result (Unit {0}) Status). PlacesEach held now old new (contents_of c.args.all.now) r (Rose before after)) (sym is)
-    (place_cut (Unit {0}) held (g.F.Files.held c.loop-placed.files) now old (g.F.Files.asked c.loop-placed.files) new c.args.all.now c.loop-placed.placed-index _ s before between after c.loop-placed-test.true c.loop-placed.invariant.1 c.loop-placed.invariant.0
+    (place_cut (Unit {0}) held (g.F.Files.held c.loop-placed.files) now old (g.F.Files.asked c.loop-placed.files) new c.args.all.now c.loop-placed.placed-index c.placed-item.result s before between after c.placed-item.is c.loop-placed-test.true c.loop-placed.invariant.1 c.loop-placed.invariant.0
     c.in_err-place.ensures.failure c.in_err-place.ensures.err c.in_err-place.ensures.asked)
 
 pub loop-placed-preserved : goal.loop-placed-preserved
@@ -29,6 +29,6 @@ loop-placed-preserved g c =
     let now = g.F.Files.held c.place.new.files in
     let old = g.F.Files.asked c.args.files.now in
     let new = g.F.Files.asked c.place.new.files in (
-      placed_next held (g.F.Files.held c.loop-placed.files) now old (g.F.Files.asked c.loop-placed.files) new c.args.all.now c.loop-placed.placed-index _ c.loop-placed-test.true c.loop-placed.invariant.0 c.in_ok-place.ensures.ok c.in_ok-place.ensures.asked,
+      placed_next held (g.F.Files.held c.loop-placed.files) now old (g.F.Files.asked c.loop-placed.files) new c.args.all.now c.loop-placed.placed-index c.placed-item.result c.placed-item.is c.loop-placed-test.true c.loop-placed.invariant.0 c.in_ok-place.ensures.ok c.in_ok-place.ensures.asked,
       omega (arith, c.loop-placed.invariant.1, c.in_ok-place.ensures.later),
     )

@@ -54,10 +54,10 @@ returns-in-Ok-Some-clause-equivalent g c o is =
 pub returns-in-Err-clause-equivalent : goal.returns-in-Err-clause-equivalent
 returns-in-Err-clause-equivalent g c o is = silent (g.F.Files.held c.args.files.now) (first_of o) (second_of o) (g.K.Sink.sent c.args.out.now) (g.K.Sink.sent c.args.out.now) refl
 
-pub execute-requires : goal.execute-requires
-execute-requires g c =
+pub execute-requires-clause-count : goal.execute-requires-clause-count
+execute-requires-clause-count g c lifetimes within =
     let words = texts c.args.words.now in
-    let command = named c.in-Ok-Some.command in
+    let command = named c.in-Ok-Some.order.command in
     let read : IsCommand words (Some command) = rw c.in-Ok-Some.field-0-is at c.in-Ok-Some.ensures in
     can_make words command read
 

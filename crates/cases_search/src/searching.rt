@@ -15,6 +15,8 @@
 //! | `matches LIMIT WORKERS`, `scalar LIMIT WORKERS` | the same, by this many pieces at once, of which there is one at least |
 //! | `scalar-meets LIMIT WORKERS MEETINGS` | what `scalar` answers, and before it whether at a gate for this many meetings (`MeetGate`) no call looked for its partner in vain, and how often the gate was passed |
 //! | `scalar-starts LIMIT` | at how many nodes matching by these looked: how often one worker passed the gate as piece 0 |
+//! | `scalar-again LIMIT NODE ..` | the same matches as `scalar` gives, found by `rematch`, where all are known and these nodes are touched, and before them how often one worker passed the gate |
+//! | `scalar-anew LIMIT` | the same, where none is known and all nodes are touched |
 //! | `look` | `over` and one more than the greatest number of matches; `saturated`, where no match joins more; or `open` and how many matches there are |
 //! | `round` | what `look` answers; after `open` it makes a round |
 //! | `joined FIRST SECOND` | whether two nodes are in one class |
@@ -46,7 +48,7 @@ use pv_base::{Gate, MeetGate, OpenGate};
 use pv_classes::Classes;
 use pv_endings::endings;
 use pv_graph::{Graph, NodeId};
-use pv_match::{Matches, matches};
+use pv_match::{Match, Matches, matches, rematch};
 use pv_pattern::Axiom;
 use pv_pieces::Workers;
 use pv_rounds::{Looked, Search};
@@ -54,6 +56,9 @@ use pv_scalar::scalar_axioms;
 use pv_value::Memory;
 use std::alloc::Global;
 use std::thread::Threads;
+
+// More matches than there are.
+const MOST_MATCHES: &str = "1000000";
 
 /// `search FIRST SECOND; STEP; .. | BEGINNING; STEP; ..`
 pub fn search<R: Threads + Sync>(rt: &R, bench: &Bench, rest: &str) -> Answer {
@@ -161,6 +166,14 @@ fn asked<R: Threads + Sync, G: Gate>(
             meetings,
         ),
         ["scalar-starts", limit] => scalar_starts(&workers.alone(), alloc, search, limit),
+        ["scalar-again", limit, ref nodes @ ..] => scalar_again(
+            &workers.alone(),
+            alloc,
+            search,
+            limit,
+            nodes,
+        ),
+        ["scalar-anew", limit] => scalar_anew(&workers.alone(), alloc, search, limit),
         ["endings"] => nodes_text(alloc, &search.endings),
         ["numbers"] => nodes_text(alloc, &search.classes.numbers(alloc)?),
         ["joined", first, second] => joined_text(alloc, &search.classes, first, second),
@@ -270,6 +283,74 @@ fn scalar_starts<R: Threads + Sync, G: Gate>(
     let counting = Workers::new(workers.rt, &gate, workers.count());
     let _answer = matches_by_scalar(&counting, alloc, search, limit)?;
     shown(alloc, gate.count())
+}
+
+// All matches by these axioms, where all are known and some nodes are touched.
+fn scalar_again<R: Threads + Sync, G: Gate>(
+    workers: &Workers<R, G>,
+    alloc: Global,
+    search: &Search,
+    limit: &str,
+    nodes: &[&str],
+) -> Answer
+    requires { IsBegun search.now }
+{
+    let mut touched = Vec::new(alloc);
+    for node in nodes {
+        touched.push(read_node(&search.graph, node)?)?;
+    }
+    match matches_by_scalar(workers, alloc, search, MOST_MATCHES)? {
+        Matches::All(known) => rematched(workers, alloc, search, limit, &known, &touched),
+        Matches::More(_) => Err(NoAnswer::Unreadable),
+    }
+}
+
+// All matches by these axioms, where none is known and all nodes are touched.
+fn scalar_anew<R: Threads + Sync, G: Gate>(
+    workers: &Workers<R, G>,
+    alloc: Global,
+    search: &Search,
+    limit: &str,
+) -> Answer
+    requires { IsBegun search.now }
+{
+    let mut touched = Vec::new(alloc);
+    for n in 0..search.graph.len() {
+        touched.push(n)?;
+    }
+    rematched(workers, alloc, search, limit, &[], &touched)
+}
+
+// How often the gate is passed where these matches are known and these nodes are touched, and all matches by the axioms on numbers, choices
+// and tokens.
+fn rematched<R: Threads + Sync, G: Gate>(
+    workers: &Workers<R, G>,
+    alloc: Global,
+    search: &Search,
+    limit: &str,
+    known: &[Match],
+    touched: &[NodeId],
+) -> Answer
+    requires { IsBegun search.now }
+{
+    let gate = MeetGate::new(0);
+    let counting = Workers::new(workers.rt, &gate, workers.count());
+    let table = scalar_axioms(alloc)?;
+    let limit = number(limit)?;
+    let _count = search.graph.len();
+    let answer = rematch(
+        &counting,
+        alloc,
+        &search.graph,
+        &search.classes,
+        &search.marks,
+        &table,
+        known,
+        touched,
+        limit,
+    )?;
+    let text = matches_answer(alloc, &answer)?;
+    Ok(format!(in alloc; "{} {text}", gate.calls())?)
 }
 
 fn matches_by_scalar<R: Threads + Sync, G: Gate>(

@@ -11,6 +11,7 @@ pub mod OneMore
 pub mod Numbers
 pub mod Joined
 -- 4. A round as a whole.
+pub mod Keeping
 pub mod Rounding
 pub mod Searching
 -- 5. What other crates cite.

@@ -1,7 +1,7 @@
 -- What is known of a search that has made some rounds.
-use Rattle.std.specs.Prelude.{◌≡◌, ◌↔◌, ℕ, zero, suc, ◌<◌, ◌≤◌, Bool, false, List, map, length, take, Some, slice_get, refl}
+use Rattle.std.specs.Prelude.{◌≡◌, ◌↔◌, ℕ, zero, suc, ◌<◌, ◌≤◌, Bool, false, List, [], map, length, take, Option, Some, None, IfSome, slice_get, refl}
 use Rattle.std.specs.List.{AllZip}
-use Rattle.std.proofs.Common.{sym, ap, ◌∙◌, subst, arith}
+use Rattle.std.proofs.Common.{inl, sym, ap, ◌∙◌, subst, arith}
 use Rattle.pv_graph.specs.Forms.{form}
 use Rattle.pv_graph.specs.Walks.{In}
 use Rattle.pv_graph.specs.declared.node.Node.{Node}
@@ -13,7 +13,7 @@ use Rattle.pv_pattern.specs.Binding.{BindsItsNames}
 use Rattle.pv_steps.specs.Facts.{View}
 use Rattle.pv_axioms.specs.Entries.{AreAxioms, axioms}
 use Rattle.pv_axioms.proofs.Cited.{binds_names}
-use Rattle.pv_heights.specs.Systems.{System, Subset, Relation}
+use Rattle.pv_heights.specs.Systems.{System, Subset, Relation, given}
 use Rattle.pv_heights.specs.Sides.{Match}
 use Rattle.pv_heights.specs.Matches.{IsMatch}
 use Rattle.pv_heights.specs.SameClasses.{IsCongruence}
@@ -34,7 +34,9 @@ use Rattle.pv_match.specs.declared.found.Match as found
 use Rattle.pv_match.specs.declared.found.Matches.{Matches}
 use Rattle.pv_match.specs.AllMatches.{Shows, AreAllMatches, IsAnswer}
 use Rattle.pv_match.specs.Reading.{AreReadable}
-use Rattle.pv_match.proofs.Cited.{tested}
+use Rattle.pv_match.specs.Agreeing.{AreLeast}
+use Rattle.pv_match.proofs.Cited.{all_known, tested}
+use Rattle.pv_touched.specs.Earlier.{WasSeen}
 use Rattle.pv_saturate.specs.declared.decoding.Decoded.{Decoded}
 use Rattle.pv_saturate.specs.Decoding.{IsDecoded, decoded_seen}
 use Rattle.pv_saturate.proofs.Cited.{each_shown, decoded_are_all}
@@ -44,9 +46,12 @@ use Rattle.pv_rounds.specs.Standing.{AllStand, AreOver}
 use Rattle.pv_rounds.specs.declared.owed.Owed.{Owed}
 use Rattle.pv_rounds.specs.Owed.{AreMatches, IsOwed, AddsAll}
 use Rattle.pv_rounds.specs.Joining.{AreWithin, JoinsAll}
-use Rattle.pv_rounds.specs.Searching.{IsLeastGraph, axioms_of, IsSearch, IsOver, IsSaturatedNow}
+use Rattle.pv_rounds.specs.declared.last.Last.{Last}
+use Rattle.pv_rounds.specs.Last.{look_in, Keeps}
+use Rattle.pv_rounds.specs.Searching.{IsLeastGraph, axioms_of, IsSearch, IsOver, IsSaturatedNow, WasLast}
+use Rattle.pv_rounds.proofs.Keeping.{seen_later}
 use Rattle.pv_rounds.proofs.Numbers.{one_of}
-use Rattle.pv_rounds.proofs.Rounding.{zip_second, all_numbered, sorts_after, next_reached}
+use Rattle.pv_rounds.proofs.Rounding.{zip_second, all_numbered, joined_there, sorts_after, next_reached}
 
 -- ---- the axioms
 
@@ -113,6 +118,15 @@ module _ (g : Graph) (k : ℕ) (s : Search) (is : IsSearch g k s) where
   pub marks_here : AreNodeMarks h ends s.marks.items
   marks_here = marks_stay g h is.least.made.graph is.grown is.least.base ends s.marks.items is.base is.marks_
 
+  -- its class numbers are the least nodes of their classes
+  pub least_numbers : AreLeast h numbers
+  least_numbers = record {
+    graph = is.graph_;
+    long = is.knows.long;
+    low = λ n lt. is.classes_.low n (let z = is.knows.long in omega (arith, z, lt));
+    least = λ n lt. is.classes_.least n (let z = is.knows.long in omega (arith, z, lt));
+  }
+
   -- matches that are no more than the budget
   pub not_over : (list : List found.Match) → AreAllMatches h numbers ends table list → length list ≤ s.budget → IsOver s → ⊥
   not_over list all few over =
@@ -171,8 +185,8 @@ module _ (g : Graph) (k : ℕ) (s : Search) (is : IsSearch g k s) where
 -- ---- at the beginning
 
 pub begun : (g : Graph) (s : Search) (old : Classes) (found : Bool) → IsLeastGraph g → IsSame g s.graph → IsGraph s.graph → AreAxioms (axioms_of s) → AreNodeMarks g s.endings.items s.marks.items → IsNew s.graph.nodes old
-    → Inducts s.graph.nodes old s.classes found → IsSearch g zero s
-begun g s old found least e is are marks fresh inducts =
+    → Inducts s.graph.nodes old s.classes found → s.last ≡ None → IsSearch g zero s
+begun g s old found least e is are marks fresh inducts none_yet =
     let h : Graph = s.graph in
     let nodes_same : h.nodes ≡ g.nodes = ap (λ (k : Graph). k.nodes) e in
     let sorts_same : h.sorts ≡ g.sorts = ap (λ (k : Graph). k.sorts) e in
@@ -191,6 +205,7 @@ begun g s old found least e is are marks fresh inducts =
       classes_ = inducts.classes;
       sorts = beginning_has_sorts h s.classes.numbers is sealed_ joined;
       reached = begin h s.classes.numbers nodes_same joined;
+      last_ = subst (λ (o : Option Last). IfSome o (WasLast s)) (sym none_yet) tt;
     }
 
 -- ---- a round
@@ -222,6 +237,7 @@ module _ (g : Graph) (k : ℕ) (s : Search) (is : IsSearch g k s) (i : Graph) (m
 module _ (g : Graph) (k : ℕ) (s t : Search) (is : IsSearch g k s) (ms : List (Match ℕ)) (owed : List Owed) (grown joins : Classes) (found_ : Bool) (ii : IsGraph t.graph)
     (all : AreAllAt (base_view s.graph) s.endings.items (axioms_of s) s.graph s.classes.numbers ms) (adds : AddsAll (numbered s.graph s.classes.numbers) s.graph t.graph s.classes.numbers s.endings.items ms owed)
     (grows : Grows t.graph.nodes s.classes grown) (joined : JoinsAll grown joins owed) (inducts : Inducts t.graph.nodes joins t.classes found_)
+    (list : List found.Match) (listed : AreAllMatches s.graph s.classes.numbers s.endings.items (axioms_of s) list) (last : Last) (keeps : Keeps s.graph s.classes.numbers s.marks.items list last) (is_last : t.last ≡ Some last)
     (same_table : axioms_of t ≡ axioms_of s) (ends_same : t.endings.items ≡ s.endings.items) (marks_same : t.marks.items ≡ s.marks.items) where
   long : length s.classes.numbers ≡ length s.graph.nodes
   long = is.knows.long
@@ -237,6 +253,24 @@ module _ (g : Graph) (k : ℕ) (s t : Search) (is : IsSearch g k s) (ms : List (
 
   sorts_of : (o : Owed) → In owed o → slice_get t.graph.sorts o.left ≡ slice_get t.graph.sorts o.right
   sorts_of o i = let m = zip_second (IsOwed (numbered s.graph s.classes.numbers) t.graph s.classes.numbers s.endings.items) ms owed adds.joins o i in m.2.one_sort
+
+  numbers_least : AreLeast s.graph s.classes.numbers
+  numbers_least = least_numbers g k s is
+
+  -- nodes of one class stay in one
+  joined_on : (a b : ℕ) → OneClass s.classes.numbers a b → OneClass t.classes.numbers a b
+  joined_on a b o = closed.full a b (given [] a b (joined_there s.graph t.graph s.classes grown joins owed few is.classes_.low grows joined a b (inl o)))
+
+  seen_on : WasSeen s.graph t.graph t.classes.numbers s.endings.items (axioms_of s) (look_in last)
+  seen_on = seen_later s.graph t.graph s.classes.numbers t.classes.numbers s.marks.items s.endings.items (axioms_of s) list last numbers_least adds.grows.extends_ adds.grows.base (marks_here g k s is)
+      (all_known s.graph s.classes.numbers s.endings.items (axioms_of s) list numbers_least (congruence g k s is) (readable g k s is) listed) joined_on keeps
+
+  was_last : WasLast t last
+  was_last = (
+    s.graph,
+    subst (λ (es : List ℕ). WasSeen s.graph t.graph t.classes.numbers es (axioms_of t) (look_in last)) (sym ends_same)
+        (subst (λ (ts : List Axiom). WasSeen s.graph t.graph t.classes.numbers s.endings.items ts (look_in last)) (sym same_table) seen_on),
+  )
 
   pub next_search : IsSearch g (suc k) t
   next_search = record {
@@ -254,4 +288,5 @@ module _ (g : Graph) (k : ℕ) (s t : Search) (is : IsSearch g k s) (ms : List (
     reached = subst (λ (es : List ℕ). Reached g es (axioms_of t) (suc k) t.graph t.classes.numbers) (sym ends_same)
         (subst (λ (ts : List Axiom). Reached g s.endings.items ts (suc k) t.graph t.classes.numbers) (sym same_table)
         (next_reached g s.endings.items (axioms_of s) (binds g k s is) k s.graph t.graph s.classes grown joins t.classes.numbers ms owed is.least.made.graph ii adds.grows.extends_ long few is.classes_.low all_here adds grows joined closed is.reached));
+    last_ = subst (λ (o : Option Last). IfSome o (WasLast t)) (sym is_last) was_last;
   }

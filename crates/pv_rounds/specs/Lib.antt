@@ -1,5 +1,6 @@
 -- what public contracts say
 pub mod Searching
+pub mod Last
 -- the parts of a round
 pub mod Decoded
 pub mod Standing

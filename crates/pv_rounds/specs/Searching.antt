@@ -1,5 +1,5 @@
 -- A search over a least graph: what it is after some rounds, and what its calls do.
-use Rattle.std.specs.Prelude.{◌≡◌, ℕ, zero, suc, Bool, false, List, map, length}
+use Rattle.std.specs.Prelude.{◌≡◌, ℕ, zero, suc, Bool, false, List, map, length, IfSome}
 use Rattle.pv_graph.specs.Graphs.{Graph, IsGraph, IsWellMade, Extends}
 use Rattle.pv_graph.specs.Calls.{IsDistinct}
 use Rattle.pv_pattern.specs.Patterns.{Axiom}
@@ -12,6 +12,9 @@ use Rattle.pv_heights.specs.Searches.{OneClass, base_view, AtLeastAt, IsSaturate
 use Rattle.pv_instances.specs.Classes.{JoinedHaveOneSort}
 use Rattle.pv_marks.specs.Marks.{AreNodeMarks}
 use Rattle.pv_match.specs.AllMatches.{AreAllMatches}
+use Rattle.pv_touched.specs.Earlier.{WasSeen}
+use Rattle.pv_rounds.specs.declared.last.Last.{Last}
+use Rattle.pv_rounds.specs.Last.{look_in}
 use Rattle.pv_rounds.specs.declared.owed.Owed.{Owed}
 use Rattle.pv_rounds.specs.Owed.{AddsAll}
 use Rattle.pv_rounds.specs.Joining.{JoinsAll}
@@ -30,6 +33,10 @@ pub record IsLeastGraph (g : Graph) : Type 0 where
 abbrev pub axioms_of : Search → List Axiom
 axioms_of s = map axiom_seen s.table.now
 
+-- this was seen before its last round
+abbrev pub WasLast : Search → Last → Type 0
+WasLast s l = (earlier : Graph) × WasSeen earlier s.graph s.classes.numbers s.endings.items (axioms_of s) (look_in l)
+
 -- the search began with the least graph g and has made k rounds, by its axioms
 pub record IsSearch (g : Graph) (k : ℕ) (s : Search) : Type 0 where
   pub least : IsLeastGraph g
@@ -44,6 +51,7 @@ pub record IsSearch (g : Graph) (k : ℕ) (s : Search) : Type 0 where
   pub classes_ : IsClasses s.classes
   pub sorts : JoinedHaveOneSort s.graph (OneClass s.classes.numbers)
   pub reached : Reached g s.endings.items (axioms_of s) k s.graph s.classes.numbers
+  pub last_ : IfSome s.last (WasLast s)
 
 -- .. with some least graph, and some rounds
 abbrev pub IsBegun : Search → Type 0

@@ -13,6 +13,10 @@
 //! (`Looks`); and `grow` makes a round by that list (`GoesOn`), after which the search stands one height further on. So the last look
 //! needs no round.
 //!
+//! A round keeps the matches that it went by, with the class numbers and the marks of the classes then (`Last`, `specs/Last`). The next look
+//! takes them over, and looks at the nodes alone that `pv_touched` gives, by `rematch` of `pv_match`. That they can be taken over is a part of what a
+//! search is (`WasLast` in `IsSearch`).
+//!
 //! The rest is private to this crate. `decoded` decodes the matches (`specs/Decoded`), and `standing` tests them
 //! (`specs/Standing`). Which conditions they ask (`asking`, `specs/Asking`) says which tables of witnesses are made (`tables`,
 //! `specs/Tables`), each once a round. `owed` adds the instances one after another (`specs/Owed`), and `joining` joins their sides
@@ -22,10 +26,12 @@
 mod asking;
 mod decoded;
 mod joining;
+mod last;
 mod owed;
 mod search;
 mod standing;
 mod tables;
 
+pub use last::Last;
 pub use owed::Owed;
 pub use search::{Looked, Search};

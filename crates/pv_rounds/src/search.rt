@@ -2,28 +2,30 @@
 
 ghost use Rattle.std.specs.Prelude.{◌↔◌, IfOk, IsTrue, OnOk, map};
 ghost use Rattle.pv_axioms.specs.Entries.{AreAxioms};
-ghost use Rattle.pv_match.specs.AllMatches.{AreAllMatches};
+ghost use Rattle.pv_match.specs.AllMatches.{AreAllMatches, IsAnswer};
 ghost use Rattle.pv_pattern.specs.Seen.{axiom_seen};
-ghost use Rattle.pv_rounds.specs.Searching.{Begins, GoesOn, IsBegun, IsLeastGraph, IsSaturatedNow, Looks, MakesRound, axioms_of};
+ghost use Rattle.pv_rounds.specs.Searching.{Begins, GoesOn, IsBegun, IsLeastGraph, IsSaturatedNow, Looks, MakesRound, WasLast, axioms_of};
 
 use crate::decoded::decode_all;
 use crate::joining::join_all;
+use crate::last::{Last, keep};
 use crate::owed::add_all;
 use crate::standing::all_stand;
 use pv_base::Gate;
 use pv_classes::Classes;
 use pv_graph::{Graph, NodeId};
 use pv_induct::induct;
-use pv_marks::node_marks;
-use pv_match::{Match, Matches, matches};
+use pv_marks::{class_marks, node_marks};
+use pv_match::{Match, Matches, matches, rematch};
 use pv_pattern::Axiom;
 use pv_pieces::Workers;
+use pv_touched::{Since, touched};
 use pv_value::Memory;
 use std::alloc::Global;
 use std::thread::Threads;
 
-/// A search: its graph, the classes of its nodes, the axioms by which it goes, the nodes that count as ending, the marks of the base, and how
-/// many matches a round may have. Its classes are closed, with all inductions.
+/// A search: its graph, the classes of its nodes, the axioms by which it goes, the nodes that count as ending, the marks of the base, how
+/// many matches a round may have, and what it keeps of its last round. Its classes are closed, with all inductions.
 #[derive(Drop)]
 pub struct Search<'a> {
     pub graph: Graph,
@@ -32,6 +34,7 @@ pub struct Search<'a> {
     pub endings: Vec<NodeId>,
     pub marks: Vec<u32>,
     pub budget: u32,
+    last: Option<Last>,
 }
 
 /// What is seen of a search before a round.
@@ -70,11 +73,73 @@ impl<'a> Search<'a> {
             endings,
             marks,
             budget,
+            last: None,
         })
     }
 
-    /// What there is to do. It passes the gate before each node at which a left side may start, with the number of the piece. It is the
-    /// same for every number of workers.
+    // All matches, where these were seen before the last round: the touched nodes alone are looked at.
+    fn matches_since<R: Threads + Sync, G: Gate>(
+        &self,
+        workers: &Workers<R, G>,
+        alloc: Global,
+        last: &Last,
+    ) -> Result<Matches, Memory>
+        requires begun { IsBegun self.now }
+        requires last { WasLast self.now last.now }
+        ensures { IfOk result (λ answer. IsAnswer self.now.graph self.now.classes.numbers self.now.endings.items (axioms_of self.now) self.now.budget answer) }
+    {
+        let _count = self.graph.len();
+        let numbers = self.classes.numbers(alloc)?;
+        let marks = class_marks(alloc, &self.graph, &numbers, &self.marks)?;
+        let since = Since {
+            old_numbers: &last.numbers,
+            old_marks: &last.marks,
+            numbers: &numbers,
+            marks: &marks,
+        };
+        let nodes = touched(alloc, &self.graph, self.table, &since)?;
+        let answer = rematch(
+            workers,
+            alloc,
+            &self.graph,
+            &self.classes,
+            &self.marks,
+            self.table,
+            &last.list,
+            &nodes,
+            self.budget as usize,
+        )?;
+        Ok(answer)
+    }
+
+    // All matches, or that there are more than the budget.
+    fn all_matches<R: Threads + Sync, G: Gate>(
+        &self,
+        workers: &Workers<R, G>,
+        alloc: Global,
+    ) -> Result<Matches, Memory>
+        requires { IsBegun self.now }
+        ensures { IfOk result (λ answer. IsAnswer self.now.graph self.now.classes.numbers self.now.endings.items (axioms_of self.now) self.now.budget answer) }
+    {
+        if let Some(last) = &self.last {
+            let answer = self.matches_since(workers, alloc, last)?;
+            return Ok(answer);
+        }
+        let _count = self.graph.len();
+        let answer = matches(
+            workers,
+            alloc,
+            &self.graph,
+            &self.classes,
+            &self.marks,
+            self.table,
+            self.budget as usize,
+        )?;
+        Ok(answer)
+    }
+
+    /// What there is to do. Before the first round it passes the gate before each node at which a left side may start, with the number of the
+    /// piece, and later before each node that the last round touched. It is the same for every number of workers.
     pub fn look<R: Threads + Sync, G: Gate>(
         &self,
         workers: &Workers<R, G>,
@@ -83,16 +148,7 @@ impl<'a> Search<'a> {
         requires { IsBegun self.now }
         ensures { IfOk result (λ looked. Looks self.now looked) }
     {
-        let _count = self.graph.len();
-        match matches(
-            workers,
-            alloc,
-            &self.graph,
-            &self.classes,
-            &self.marks,
-            self.table,
-            self.budget as usize,
-        )? {
+        match self.all_matches(workers, alloc)? {
             Matches::More(n) => Ok(Looked::Over(n)),
             Matches::All(list) => {
                 if self.is_saturated(alloc, &list)? {
@@ -125,11 +181,13 @@ impl<'a> Search<'a> {
         let _count = self.graph.len();
         let all = decode_all(alloc, self.table, list)?;
         let numbers = self.classes.numbers(alloc)?;
+        let last = keep(alloc, &self.graph, &numbers, &self.marks, list)?;
         let owed = add_all(alloc, &mut self.graph, &numbers, &self.endings, &all)?;
         let _here = self.graph.len();
         self.classes.grow(alloc, &self.graph)?;
         join_all(alloc, &mut self.classes, &owed)?;
         induct(alloc, &self.graph, &mut self.classes)?;
+        self.last = Some(last);
         Ok(())
     }
 }

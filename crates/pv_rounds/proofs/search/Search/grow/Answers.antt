@@ -1,10 +1,11 @@
-use Rattle.std.proofs.Common.{ℕ, List, map, length, refl, sym, ◌∙◌, subst}
+use Rattle.std.proofs.Common.{ℕ, List, Some, map, length, refl, sym, ◌∙◌, subst}
 use Rattle.pv_heights.specs.Searches.{OneClass}
 use Rattle.pv_instances.specs.Classes.{JoinedHaveOneSort}
 use Rattle.pv_witness.specs.Numbered.{numbered}
 use Rattle.pv_saturate.specs.declared.decoding.Decoded.{Decoded}
 use Rattle.pv_saturate.specs.Decoding.{decoded_seen}
 use Rattle.pv_rounds.specs.declared.owed.Owed.{Owed}
+use Rattle.pv_rounds.specs.Last.{Keeps}
 use Rattle.pv_rounds.specs.Owed.{AreMatches}
 use Rattle.pv_rounds.specs.Joining.{AreWithin, JoinsAll}
 use Rattle.pv_rounds.specs.Searching.{axioms_of}
@@ -26,7 +27,7 @@ pub add_all-requires-clause-sorts : goal.add_all-requires-clause-sorts
 add_all-requires-clause-sorts c =
     let (g, k, is) = c.requires.begun in
     let s = c.args.self.now in
-    subst (λ (ns : List ℕ). JoinedHaveOneSort (numbered s.graph ns) (OneClass ns)) (sym (c.deref.ensures.value ∙ c.in_ok-numbers.ensures)) (sorts_numbered g k s is)
+    subst (λ (ns : List ℕ). JoinedHaveOneSort (numbered s.graph ns) (OneClass ns)) (sym (c.deref-3.ensures.value ∙ c.in_ok-numbers.ensures)) (sorts_numbered g k s is)
 
 pub add_all-requires-clause-matches : goal.add_all-requires-clause-matches
 add_all-requires-clause-matches c =
@@ -34,16 +35,16 @@ add_all-requires-clause-matches c =
     let s = c.args.self.now in
     let ds = c.in_ok-all.all.items in
     let are = are_matches g k s is (map decoded_seen ds) (all_decoded g k s is c.args.list.now (map decoded_seen ds) c.requires.all c.in_ok-all.ensures.same) in
-    subst (λ (ns : List ℕ). AreMatches (numbered s.graph ns) ns c.deref-2.result.now (map decoded_seen c.deref-3.result.now)) (sym (c.deref.ensures.value ∙ c.in_ok-numbers.ensures))
-    (subst (λ (es : List ℕ). AreMatches (numbered s.graph s.classes.numbers) s.classes.numbers es (map decoded_seen c.deref-3.result.now)) (sym c.deref-2.ensures.value)
-    (subst (λ (xs : List Decoded). AreMatches (numbered s.graph s.classes.numbers) s.classes.numbers s.endings.items (map decoded_seen xs)) (sym c.deref-3.ensures.value) are))
+    subst (λ (ns : List ℕ). AreMatches (numbered s.graph ns) ns c.deref-4.result.now (map decoded_seen c.deref-5.result.now)) (sym (c.deref-3.ensures.value ∙ c.in_ok-numbers.ensures))
+    (subst (λ (es : List ℕ). AreMatches (numbered s.graph s.classes.numbers) s.classes.numbers es (map decoded_seen c.deref-5.result.now)) (sym c.deref-4.ensures.value)
+    (subst (λ (xs : List Decoded). AreMatches (numbered s.graph s.classes.numbers) s.classes.numbers s.endings.items (map decoded_seen xs)) (sym c.deref-5.ensures.value) are))
 
 pub grow-requires : goal.grow-requires
 grow-requires c =
     let (g, k, is) = c.requires.begun in
     let s = c.args.self.now in
     let ds = c.in_ok-all.all.items in
-    let adds = adds_here s.graph c.add_all.new.graph s.classes.numbers c.deref.result.now s.endings.items c.deref-2.result.now ds c.deref-3.result.now c.in_ok-owed.owed.items (c.deref.ensures.value ∙ c.in_ok-numbers.ensures) c.deref-2.ensures.value c.deref-3.ensures.value c.in_ok-owed.ensures in
+    let adds = adds_here s.graph c.add_all.new.graph s.classes.numbers c.deref-3.result.now s.endings.items c.deref-4.result.now ds c.deref-5.result.now c.in_ok-owed.owed.items (c.deref-3.ensures.value ∙ c.in_ok-numbers.ensures) c.deref-4.ensures.value c.deref-5.ensures.value c.in_ok-owed.ensures in
     first_known g k s is c.add_all.new.graph (map decoded_seen ds) c.in_ok-owed.owed.items adds
 
 pub join_all-requires-clause-within : goal.join_all-requires-clause-within
@@ -51,20 +52,23 @@ join_all-requires-clause-within c =
     let (g, k, is) = c.requires.begun in
     let s = c.args.self.now in
     let ds = c.in_ok-all.all.items in
-    let adds = adds_here s.graph c.add_all.new.graph s.classes.numbers c.deref.result.now s.endings.items c.deref-2.result.now ds c.deref-3.result.now c.in_ok-owed.owed.items (c.deref.ensures.value ∙ c.in_ok-numbers.ensures) c.deref-2.ensures.value c.deref-3.ensures.value c.in_ok-owed.ensures in
-    subst (λ (os : List Owed). AreWithin (length c.grow.new.self.numbers) os) (sym c.deref-4.ensures.value) (sides_within g k s is c.add_all.new.graph (map decoded_seen ds) c.in_ok-owed.owed.items adds c.grow.new.self c.in_ok-grow.ensures)
+    let adds = adds_here s.graph c.add_all.new.graph s.classes.numbers c.deref-3.result.now s.endings.items c.deref-4.result.now ds c.deref-5.result.now c.in_ok-owed.owed.items (c.deref-3.ensures.value ∙ c.in_ok-numbers.ensures) c.deref-4.ensures.value c.deref-5.ensures.value c.in_ok-owed.ensures in
+    subst (λ (os : List Owed). AreWithin (length c.grow.new.self.numbers) os) (sym c.deref-6.ensures.value) (sides_within g k s is c.add_all.new.graph (map decoded_seen ds) c.in_ok-owed.owed.items adds c.grow.new.self c.in_ok-grow.ensures)
 
 pub returns-clause-goes : goal.returns-clause-goes
 returns-clause-goes c =
     let s = c.args.self.now in
     let ds = c.in_ok-all.all.items in
     let owed : List Owed = c.in_ok-owed.owed.items in
-    let adds = adds_here s.graph c.add_all.new.graph s.classes.numbers c.deref.result.now s.endings.items c.deref-2.result.now ds c.deref-3.result.now owed (c.deref.ensures.value ∙ c.in_ok-numbers.ensures) c.deref-2.ensures.value c.deref-3.ensures.value c.in_ok-owed.ensures in
-    let joined : JoinsAll c.grow.new.self c.join_all.new.classes owed = subst (λ (os : List Owed). JoinsAll c.grow.new.self c.join_all.new.classes os) c.deref-4.ensures.value c.in_ok-join_all.ensures in
+    let adds = adds_here s.graph c.add_all.new.graph s.classes.numbers c.deref-3.result.now s.endings.items c.deref-4.result.now ds c.deref-5.result.now owed (c.deref-3.ensures.value ∙ c.in_ok-numbers.ensures) c.deref-4.ensures.value c.deref-5.ensures.value c.in_ok-owed.ensures in
+    let keeps : Keeps s.graph s.classes.numbers s.marks.items c.args.list.now c.in_ok-last.last =
+    subst (λ (ns : List ℕ). Keeps s.graph ns s.marks.items c.args.list.now c.in_ok-last.last) (c.deref.ensures.value ∙ c.in_ok-numbers.ensures)
+    (subst (λ (ms : List ℕ). Keeps s.graph c.deref.result.now ms c.args.list.now c.in_ok-last.last) c.deref-2.ensures.value c.in_ok-last.ensures) in
+    let joined : JoinsAll c.grow.new.self c.join_all.new.classes owed = subst (λ (os : List Owed). JoinsAll c.grow.new.self c.join_all.new.classes os) c.deref-6.ensures.value c.in_ok-join_all.ensures in
     record {
       next = λ g k is.
-          next_search g k s (record { graph = c.add_all.new.graph; classes = c.induct.new.c; table = s.table; endings = s.endings; marks = s.marks; budget = s.budget }) is (map decoded_seen ds) owed c.grow.new.self c.join_all.new.classes c.in_ok-induct.field-0
-          c.len-here.ensures.graph (all_decoded g k s is c.args.list.now (map decoded_seen ds) c.requires.all c.in_ok-all.ensures.same) adds c.in_ok-grow.ensures joined c.in_ok-induct.ensures refl refl refl;
+          next_search g k s (record { graph = c.add_all.new.graph; classes = c.induct.new.c; table = s.table; endings = s.endings; marks = s.marks; budget = s.budget; last = Some c.in_ok-last.last }) is (map decoded_seen ds) owed c.grow.new.self c.join_all.new.classes c.in_ok-induct.field-0
+          c.len-here.ensures.graph (all_decoded g k s is c.args.list.now (map decoded_seen ds) c.requires.all c.in_ok-all.ensures.same) adds c.in_ok-grow.ensures joined c.in_ok-induct.ensures c.args.list.now c.requires.all c.in_ok-last.last keeps refl refl refl refl;
       table_ = refl;
       endings_ = refl;
       budget_ = refl;
@@ -83,8 +87,8 @@ returns-clause-made c =
       grown = c.grow.new.self;
       joined = c.join_all.new.classes;
       found = c.in_ok-induct.field-0;
-      adds = adds_here s.graph c.add_all.new.graph s.classes.numbers c.deref.result.now s.endings.items c.deref-2.result.now ds c.deref-3.result.now owed (c.deref.ensures.value ∙ c.in_ok-numbers.ensures) c.deref-2.ensures.value c.deref-3.ensures.value c.in_ok-owed.ensures;
+      adds = adds_here s.graph c.add_all.new.graph s.classes.numbers c.deref-3.result.now s.endings.items c.deref-4.result.now ds c.deref-5.result.now owed (c.deref-3.ensures.value ∙ c.in_ok-numbers.ensures) c.deref-4.ensures.value c.deref-5.ensures.value c.in_ok-owed.ensures;
       grows = c.in_ok-grow.ensures;
-      joins = subst (λ (os : List Owed). JoinsAll c.grow.new.self c.join_all.new.classes os) c.deref-4.ensures.value c.in_ok-join_all.ensures;
+      joins = subst (λ (os : List Owed). JoinsAll c.grow.new.self c.join_all.new.classes os) c.deref-6.ensures.value c.in_ok-join_all.ensures;
       inducts = c.in_ok-induct.ensures;
     }

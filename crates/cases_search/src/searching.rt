@@ -336,21 +336,39 @@ fn rematched<R: Threads + Sync, G: Gate>(
     let gate = MeetGate::new(0);
     let counting = Workers::new(workers.rt, &gate, workers.count());
     let table = scalar_axioms(alloc)?;
+    let answer = rematched_by(&counting, alloc, search, &table, limit, known, touched)?;
+    let text = matches_answer(alloc, &answer)?;
+    Ok(format!(in alloc; "{} {text}", gate.calls())?)
+}
+
+// All matches by a table, or that there are more than a limit, where these matches are known and these nodes are touched.
+fn rematched_by<R: Threads + Sync, G: Gate>(
+    workers: &Workers<R, G>,
+    alloc: Global,
+    search: &Search,
+    table: &[Axiom],
+    limit: &str,
+    known: &[Match],
+    touched: &[NodeId],
+) -> Result<Matches, NoAnswer>
+    requires begun { IsBegun search.now }
+    requires readable { AreReadable (map axiom_seen table.now) }
+    requires once { NumbersOnce (map axiom_seen table.now) }
+{
     let limit = number(limit)?;
     let _count = search.graph.len();
     let answer = rematch(
-        &counting,
+        workers,
         alloc,
         &search.graph,
         &search.classes,
         &search.marks,
-        &table,
+        table,
         known,
         touched,
         limit,
     )?;
-    let text = matches_answer(alloc, &answer)?;
-    Ok(format!(in alloc; "{} {text}", gate.calls())?)
+    Ok(answer)
 }
 
 fn matches_by_scalar<R: Threads + Sync, G: Gate>(

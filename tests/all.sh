@@ -3,7 +3,7 @@
 #
 #   tests/all.sh [--long]     with --long the sizes are those of docs/PROVED.md; else each script is done within some minutes
 #
-# It needs both programs (`cd crates/punthizha && rt run`, `cd crates/cases && rt run < stdin`), a JDK 17, ProGuard (Debian: proguard-cli), unzip and zip. The edits that
+# It needs the programs (`rt run` in crates/punthizha and in crates/graphs, `rt run < stdin` in crates/cases), a JDK 17, ProGuard (Debian: proguard-cli), unzip and zip. The edits that
 # the prover must refuse are tried by tests/edits.sh, which proves crates anew; the price of the gate is told by tests/price.py.
 set -u
 cd "$(dirname "$0")/.." || exit 2

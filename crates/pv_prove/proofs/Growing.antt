@@ -60,6 +60,7 @@ module _ (g : Graph) (k : ℕ) (s : Search) (is : IsSearch g k s) where
     classes_ = is.classes_;
     sorts = is.sorts;
     reached = saturated_reached g (graph_whole g is.least.made.graph) s.endings.items (axioms_of s) k s.graph s.classes.numbers is.reached (saturated_there s.endings.items refl (axioms_of s) refl h);
+    last_ = is.last_;
   }
 
 pub stays : (s : Search) → IsSaturatedNow s → GoesOn s s

@@ -97,7 +97,8 @@ impl<'a> Search<'a> {
             numbers: &numbers,
             marks: &marks,
         };
-        let nodes = touched(alloc, &self.graph, self.table, &since)?;
+        let kept = self.classes.first_of_forms(alloc, &self.graph)?;
+        let nodes = touched(alloc, &self.graph, self.table, &since, &kept)?;
         let answer = rematch(
             workers,
             alloc,

@@ -11,6 +11,7 @@ use Rattle.pv_graph.specs.Walks.{In}
 use Rattle.pv_graph.specs.Graphs.{Graph, form_at}
 use Rattle.pv_graph.proofs.Cited.{equal_or_not, in_cases, in_front, in_last, node_at, push_cases, set_same, set_other}
 use Rattle.pv_marks.specs.Classes.{class_of}
+use Rattle.pv_match.specs.Kept.{IsKept}
 use Rattle.pv_touched.specs.declared.since.Since.{Since}
 use Rattle.pv_touched.specs.Far.{Stayed, IsFar, IsClear, AreFar, AllClear, HaveMarks, StayedBelow, SpreadsBelow, Spreads, IsOld, ListsNearBelow}
 
@@ -122,20 +123,17 @@ module _ (g : Graph) (s : Since) where
 
 -- ---- nodes
 
-module _ (g : Graph) (s : Since) (near : List Bool) (n : ℕ) (touched : List ℕ) (is : ListsNearBelow n g s near touched) where
-  pub lists_pushed : ListsNearBelow (n + 1) g s near (touched ++ n ∷ [])
-  lists_pushed k lt = elim (below_or_at k n lt) [
-    | inl before ↦ elim (is k before) [ inl i ↦ inl (in_front touched n k i) | inr u ↦ inr u ]
+module _ (g : Graph) (s : Since) (kept near : List Bool) (n : ℕ) (touched : List ℕ) (is : ListsNearBelow n g s kept near touched) where
+  pub lists_pushed : ListsNearBelow (n + 1) g s kept near (touched ++ n ∷ [])
+  lists_pushed k lt keep = elim (below_or_at k n lt) [
+    | inl before ↦ elim (is k before keep) [ inl i ↦ inl (in_front touched n k i) | inr u ↦ inr u ]
     | inr here ↦ inl (subst (In (touched ++ n ∷ [])) (sym here) (in_last touched n))
   ]
 
-  pub lists_kept : IsOld g s near n → ListsNearBelow (n + 1) g s near touched
-  lists_kept u k lt = elim (below_or_at k n lt) [
-    | inl before ↦ is k before
-    | inr here ↦ inr (
-      subst (λ (j : ℕ). j < length s.old_numbers.now) (sym here) u.0,
-      (λ o ks at. u.1 o ks (subst (λ (j : ℕ). form_at g.nodes j ≡ Some (form o ks)) here at)),
-    )
+  pub lists_kept : (IsKept kept n → IsOld g s near n) → ListsNearBelow (n + 1) g s kept near touched
+  lists_kept old k lt keep = elim (below_or_at k n lt) [
+    | inl before ↦ is k before keep
+    | inr here ↦ inr (subst (λ (j : ℕ). IsOld g s near j) (sym here) (old (subst (IsKept kept) here keep)))
   ]
 
 pub all_pushed : (all : List ℕ) (n : ℕ) → ((k : ℕ) → k < n → In all k) → (k : ℕ) → k < n + 1 → In (all ++ n ∷ []) k

@@ -5,6 +5,7 @@ use Rattle.pv_graph.specs.Forms.{form}
 use Rattle.pv_graph.specs.Walks.{In}
 use Rattle.pv_graph.specs.Graphs.{Graph, form_at}
 use Rattle.pv_marks.specs.Classes.{class_of}
+use Rattle.pv_match.specs.Kept.{IsKept}
 use Rattle.pv_touched.specs.declared.since.Since.{Since}
 
 -- each node of the class was in the class with this number, and its mark is as it was
@@ -62,14 +63,14 @@ Spreads g numbers old new = SpreadsBelow (length g.nodes) g numbers old new
 abbrev pub IsOld : Graph → Since → List Bool → ℕ → Type 0
 IsOld g s near n = (n < length s.old_numbers.now) × ((o : Op) (ks : List ℕ) → form_at g.nodes n ≡ Some (form o ks) → AllClear s.numbers.now near ks)
 
--- each of the first nodes is listed, or is so
-abbrev pub ListsNearBelow : ℕ → Graph → Since → List Bool → List ℕ → Type 0
-ListsNearBelow bound g s near touched = (n : ℕ) → n < bound → In touched n ⊎ IsOld g s near n
+-- each of the first nodes that are kept is listed, or is so
+abbrev pub ListsNearBelow : ℕ → Graph → Since → List Bool → List Bool → List ℕ → Type 0
+ListsNearBelow bound g s kept near touched = (n : ℕ) → n < bound → IsKept kept n → In touched n ⊎ IsOld g s near n
 
--- each node is
-abbrev pub ListsNear : Graph → Since → List Bool → List ℕ → Type 0
-ListsNear g s near touched = ListsNearBelow (length g.nodes) g s near touched
+-- each node that is kept is
+abbrev pub ListsNear : Graph → Since → List Bool → List Bool → List ℕ → Type 0
+ListsNear g s kept near touched = ListsNearBelow (length g.nodes) g s kept near touched
 
--- each node of the graph is listed or untouched
-abbrev pub ListsTouched : Graph → Since → ℕ → List ℕ → Type 0
-ListsTouched g s d touched = (n : ℕ) → n < length g.nodes → In touched n ⊎ IsUntouched g s d n
+-- each node of the graph that is kept is listed or untouched
+abbrev pub ListsTouched : Graph → Since → ℕ → List Bool → List ℕ → Type 0
+ListsTouched g s d kept touched = (n : ℕ) → n < length g.nodes → IsKept kept n → In touched n ⊎ IsUntouched g s d n

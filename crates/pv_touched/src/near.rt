@@ -4,6 +4,7 @@ ghost use Rattle.std.specs.Prelude.{◌≡◌, ◌↔◌, ◌<◌, IfOk, IsTrue,
 ghost use Rattle.std.specs.Bool.{OnTrue};
 ghost use Rattle.pv_marks.specs.Classes.{class_of};
 ghost use Rattle.pv_marks.specs.Marks.{AreClasses};
+ghost use Rattle.pv_match.specs.Kept.{IsKept};
 ghost use Rattle.pv_touched.specs.Far.{AllClear, AreFar, IsClear, IsOld, ListsNear, Spreads};
 
 use crate::changed::changed;
@@ -92,18 +93,29 @@ fn is_untouched(graph: &Graph, since: &Since, near: &[bool], n: NodeId) -> bool
     all_clear(near, since.numbers, graph.node(n).kids.as_slice())
 }
 
-/// The nodes that are new, or have a kid in a class that is near.
+// Whether a node is kept.
+fn is_kept(kept: &[bool], n: NodeId) -> bool
+    ensures { IsTrue result ↔ IsKept kept.now n }
+{
+    match kept.get(n as usize) {
+        Some(is_kept) => *is_kept,
+        None => false,
+    }
+}
+
+/// Of the nodes that are kept those that are new, or have a kid in a class that is near.
 pub(crate) fn nodes_near(
     alloc: Global,
     graph: &Graph,
     since: &Since,
+    kept: &[bool],
     near: &[bool],
 ) -> Result<Vec<NodeId>, AllocError>
-    ensures { IfOk result (λ touched. ListsNear graph.now since.now near.now touched.items) }
+    ensures { IfOk result (λ touched. ListsNear graph.now since.now kept.now near.now touched.items) }
 {
     let mut touched = Vec::new(alloc);
     for n in 0..graph.len() {
-        if !is_untouched(graph, since, near, n) {
+        if is_kept(kept, n) && !is_untouched(graph, since, near, n) {
             touched.push(n)?;
         }
     }

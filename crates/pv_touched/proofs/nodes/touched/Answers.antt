@@ -14,8 +14,8 @@ returns-in_ok-list-in-Some c earlier assumed known now_ seen =
     let near = c.in_ok-near-in-Some.near.items in
     let list = c.in_ok-list-in-Some.list.items in
     let within : TableWithin steps (map axiom_seen c.args.table.now) = subst (λ (o : Option ℕ). IfSome o (λ d. TableWithin d (map axiom_seen c.args.table.now))) c.in-Some.is c.steps_of.ensures in
-    let lists : ListsNear g s near list = subst (λ (xs : List Bool). ListsNear g s xs list) c.deref.ensures.value c.in_ok-list-in-Some.ensures in
-    can_take_over earlier g s assumed (map axiom_seen c.args.table.now) known c.requires.readable now_ seen steps list within (near_touched g s steps near list c.in_ok-near-in-Some.ensures lists)
+    let lists : ListsNear g s c.args.kept.now near list = subst (λ (xs : List Bool). ListsNear g s c.args.kept.now xs list) c.deref.ensures.value c.in_ok-list-in-Some.ensures in
+    can_take_over earlier g s assumed (map axiom_seen c.args.table.now) known c.requires.readable now_ seen steps c.args.kept.now list c.requires.kept within (near_touched g s steps c.args.kept.now near list c.in_ok-near-in-Some.ensures lists)
 
 pub returns-in_ok-all-in-None : goal.returns-in_ok-all-in-None
 returns-in_ok-all-in-None c earlier assumed known now_ seen =

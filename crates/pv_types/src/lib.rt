@@ -6,7 +6,7 @@
 //!
 //! The layers above use `is` and `fits`, which decide a fact, `is_sym` and `fits_sym`, under which conversion asks for it, and `cast_text` and `store_text`, the
 //! literals whose objects a failed cast and a failed store throw. `set_is` and `set_fits` tell a fact; after that it holds, and every other call is as it was
-//! (`laws`). No command uses them so far: casts, type tests and reference stores are refused.
+//! (`laws`). No command tells facts: the machine and the blocks ask for them.
 #![tactic(auto)]
 
 mod facts;

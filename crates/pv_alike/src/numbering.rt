@@ -40,7 +40,7 @@ pub(crate) fn numbers_of(
     requires { (k : ℕ) → In nodes.now k → k < length numbers.now }
     ensures { IfOk result (λ found. found.items ≡ map (number_at numbers.now) nodes.now) }
 {
-    let mut found = Vec::new(alloc);
+    let mut found = Vec::with_capacity(alloc, nodes.len())?;
     for k in nodes {
         found.push(numbers[*k as usize])?;
     }
@@ -55,7 +55,7 @@ pub(crate) fn over_numbers(alloc: Global, numbers: &[NodeId], node: &Node) -> Re
     let kids = numbers_of(alloc, numbers, node.kids.as_slice())?;
     Ok(Node {
         op: node.op.copy(alloc)?,
-        kids: Kids::new(alloc, &kids)?,
+        kids: Kids::from(kids),
     })
 }
 
@@ -74,7 +74,7 @@ pub(crate) fn over_class(
     over.append(&mut numbers_of(alloc, numbers, kids)?)?;
     Ok(Node {
         op: op.copy(alloc)?,
-        kids: Kids::new(alloc, &over)?,
+        kids: Kids::from(over),
     })
 }
 

@@ -15,11 +15,11 @@ fn places(alloc: Global, order: &Order, nodes: &[NodeId]) -> Result<Kids, Memory
     requires small { length order.now < 2 ^ 32 }
     ensures { IfOk result (λ kids. ArePlaces order.now kids nodes.now) }
 {
-    let mut places = Vec::new(alloc);
+    let mut places = Vec::with_capacity(alloc, nodes.len())?;
     for n in nodes {
         places.push(order.place(*n))?;
     }
-    Kids::new(alloc, &places)
+    Ok(Kids::from(places))
 }
 
 // A copy of a node over the places of its kids.

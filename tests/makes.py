@@ -1,13 +1,13 @@
 #!/usr/bin/env python3
 """Looks at what `make` writes: by `javap`, and by `validate`.
 
-For each seed from 1 on, `make SEED N A B` must print `made N methods` and end with 0, the same words must give the same two files again, `javap -c`
-must read both, with the instructions of the listing that tests/listings.py makes from its own draws, and `validate A B` must say `equivalent` of each method, in order.
+For each seed from 1 on, `make SEED N A.class B.class` must print `made N methods` and end with 0, the same words must give the same two files again, `javap -c`
+must read both, with the instructions of the listing that tests/listings.py makes from its own draws, and `validate` must say `equivalent` of each method, in order.
 
     tests/makes.py [SEEDS [COUNT]]      by default 20 seeds, with 100 methods each
 
 It works on the program that `cd crates/punthizha && rt run` leaves, or on the one that the environment variable PUNTHIZHA names, and takes a JDK. In the end it prints how
-long `make 7 2000 A B` takes.
+long `make 7 2000` takes.
 """
 
 import os
@@ -20,6 +20,7 @@ import time
 from listings import made
 from programs import punthizha
 
+FILES = ["A.class", "B.class"]
 INSN = re.compile(r"^\s+\d+: (\w+)(?:\s+(.*))?$")
 
 
@@ -56,10 +57,10 @@ def listed(text):
 
 def wrong(seed, count, folder):
     """What is wrong with a seed; None for nothing."""
-    paths = [os.path.join(folder, name) for name in "AB"]
+    paths = [os.path.join(folder, name) for name in FILES]
     seen = []
     for _ in range(2):
-        ran = run(["make", str(seed), str(count), "A", "B"], folder)
+        ran = run(["make", str(seed), str(count), *FILES], folder)
         if (ran.returncode, ran.stdout, ran.stderr) != (0, f"made {count} methods\n", ""):
             return f"status {ran.returncode}: {ran.stdout} {ran.stderr}"
         seen.append([open(path, "rb").read() for path in paths])
@@ -68,7 +69,7 @@ def wrong(seed, count, folder):
     for path, twin in zip(paths, (False, True)):
         if shown(path) != listed(made(seed, count, twin)):
             return f"javap shows other instructions in {path}"
-    ran = run(["validate", "A", "B"], folder)
+    ran = run(["validate", *FILES], folder)
     if ran.returncode or ran.stdout != "".join(f"m{i} (II)I equivalent\n" for i in range(count)):
         return f"validate ends with {ran.returncode}: {[line for line in ran.stdout.splitlines() if not line.endswith(' equivalent')][:3]}"
     return None
@@ -85,9 +86,9 @@ def main(args):
                 failed += 1
                 print(f"seed {seed}: {found}")
         begin = time.time()
-        run(["make", "7", "2000", "A", "B"], folder)
+        run(["make", "7", "2000", *FILES], folder)
         taken = time.time() - begin
-        size = os.path.getsize(os.path.join(folder, "A"))
+        size = os.path.getsize(os.path.join(folder, FILES[0]))
     print(f"{seeds} seeds of {count} methods, {failed} wrong; make 7 2000 takes {taken:.2f} s and writes {size} bytes each")
     return failed > 0
 

@@ -60,6 +60,7 @@ BAD = {
     "compose": rf"bad link [12] {TEXT}|digest)",
     "check-chain": r"bad chain (?:too-long|truncated|header|first|second|digest)",
 }
+BOTH = re.compile(r'(\w+ "(?:[^"\\]|\\.)*"); (\w+ "(?:[^"\\]|\\.)*")')
 ANSWER = re.compile(r'(\w+) ("(?:[^"\\]|\\.)*")(?:; (asked(?: fetch \S+| place \S+)*|asked nothing); (held|changed))?')
 
 
@@ -101,7 +102,7 @@ class Seeds:
         given = [f"placed C validate --rounds 3 --budget 20000 --cert C A B; A={hexed(one)} B={hexed(other)}" for one, other in self.pairs]
         found = []
         for (one, other), said in zip(self.pairs, answers(given)):
-            text = unquoted(said.split("; ", 1)[1]) if said and '; "peggy-cert' in said else ""
+            text = unquoted(said[said.index('; "peggy-cert') + 2 :]) if said and '; "peggy-cert' in said else ""
             if text.count("\n") > 4:
                 found.append((one, other, text.split("\n", 3)[3].encode()))
         return found
@@ -278,8 +279,8 @@ def answers(lines):
 def is_right(answer, command):
     """Whether the program may answer this, and its status."""
     if command == "certified":
-        made, _, checked = answer.partition("; ")
-        ones = [ANSWER.fullmatch(it) for it in (made, checked)]
+        both = BOTH.fullmatch(answer)
+        ones = [ANSWER.fullmatch(it) for it in both.groups()] if both else [None]
         if not all(ones):
             return False, "none"
         status, text = ones[0][1], unquoted(ones[0][2])

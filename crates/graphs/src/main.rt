@@ -4,19 +4,17 @@
 //! It hands the words of the command line after the program's name to `pv_draw::run`, and exits with its status as a number.
 #![tactic(auto)]
 
-ghost use Rattle.std.specs.Prelude.{◌≡◌, IfOk, List, Option, ℕ};
-ghost use Rattle.graphs.specs.CommandLine.{after_name, bytes_of};
+ghost use Rattle.std.specs.Prelude.{◌≡◌, List, Option, ℕ};
 ghost use Rattle.pv_base.specs.Outside.{Rose};
-ghost use Rattle.pv_words.specs.Answers.{texts};
+ghost use Rattle.pv_words.specs.CommandLine.{after_name};
 ghost use Rattle.pv_draw.specs.Requests.{IsRequest, Request};
 ghost use Rattle.pv_draw.specs.Run.{Answered, CallsFor};
 
 use pv_base::{Files, HostFiles, HostSink, Sink};
 use pv_draw::{Status, run};
-use std::alloc::{AllocError, Global};
+use pv_words::{command_line, command_words};
+use std::io;
 use std::process::ExitCode;
-use std::rt::Env;
-use std::{env, io};
 
 fn main(rt: HostRuntime) -> ExitCode {
     let mut files = HostFiles::new(&rt);
@@ -35,15 +33,6 @@ fn main(rt: HostRuntime) -> ExitCode {
     ExitCode::from(status.number())
 }
 
-// The words of the command line, the program's name first.
-fn command_line<R: Env + AllocGlobal>(rt: &R) -> io::Result<Vec<String>> {
-    let mut words = Vec::new(rt.alloc());
-    for word in env::args(rt)? {
-        words.push(word)?;
-    }
-    Ok(words)
-}
-
 // Does what the words after the first ask for. Where there is no memory for them, nothing is asked or said.
 fn run_words<R: AllocGlobal, F: Files, K: Sink>(
     rt: &R,
@@ -55,22 +44,8 @@ fn run_words<R: AllocGlobal, F: Files, K: Sink>(
     ensures asked { (r : Option Request) → IsRequest (after_name words.now) r → CallsFor (F.held files.old) r (F.asked files.old) (F.asked files.new) result }
     ensures held { F.held files.new ≡ F.held files.old }
 {
-    let Ok(borrowed) = borrowed(rt.alloc(), words) else {
+    let Ok(rest) = command_words(rt.alloc(), words) else {
         return Status::Memory;
     };
-    match borrowed.split_first() {
-        Some((_, rest)) => run(rt.alloc(), rest, files, out),
-        None => run(rt.alloc(), &[], files, out),
-    }
-}
-
-// The same words, borrowed.
-fn borrowed<'a>(alloc: Global, words: &'a [String]) -> Result<Vec<&'a str>, AllocError>
-    ensures { IfOk result (λ borrowed. texts borrowed.items ≡ bytes_of words.now) }
-{
-    let mut borrowed = Vec::new(alloc);
-    for word in words {
-        borrowed.push(word.as_str()).map_err(|_| AllocError)?;
-    }
-    Ok(borrowed)
+    run(rt.alloc(), &rest, files, out)
 }

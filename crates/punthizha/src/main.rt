@@ -4,10 +4,9 @@
 //! its status as a number.
 #![tactic(auto)]
 
-ghost use Rattle.std.specs.Prelude.{◌≡◌, IfOk, List, Option, Some, ℕ};
-ghost use Rattle.punthizha.specs.CommandLine.{after_name, bytes_of};
+ghost use Rattle.std.specs.Prelude.{List, Option, Some, ℕ};
 ghost use Rattle.pv_base.specs.Outside.{Rose};
-ghost use Rattle.pv_words.specs.Answers.{texts};
+ghost use Rattle.pv_words.specs.CommandLine.{after_name};
 ghost use Rattle.pv_top.specs.Words.{IsCommand, first_of, second_of};
 ghost use Rattle.pv_top.specs.declared.words.Command as commands;
 ghost use Rattle.pv_top.specs.Promise.{EachEquivalent};
@@ -15,11 +14,10 @@ ghost use Rattle.pv_top.specs.Run.{Answered, CallsFor, Leaves};
 
 use pv_base::{Files, HostFiles, HostSink, OpenGate, Sink};
 use pv_top::{Status, run};
-use std::alloc::{AllocError, Global};
+use pv_words::{command_line, command_words};
+use std::io;
 use std::process::ExitCode;
-use std::rt::Env;
 use std::thread::Threads;
-use std::{env, io};
 
 fn main(rt: HostRuntime) -> ExitCode {
     let mut files = HostFiles::new(&rt);
@@ -38,15 +36,6 @@ fn main(rt: HostRuntime) -> ExitCode {
     ExitCode::from(status.number())
 }
 
-// The words of the command line, the program's name first.
-fn command_line<R: Env + AllocGlobal>(rt: &R) -> io::Result<Vec<String>> {
-    let mut words = Vec::new(rt.alloc());
-    for word in env::args(rt)? {
-        words.push(word)?;
-    }
-    Ok(words)
-}
-
 // Runs the command that the words after the first are. Where there is no memory for them, nothing is
 // asked or said.
 fn run_words<R: AllocGlobal + Threads + Sync, F: Files, K: Sink>(
@@ -60,22 +49,8 @@ fn run_words<R: AllocGlobal + Threads + Sync, F: Files, K: Sink>(
     ensures asked { (c : Option (commands.Command (List ℕ))) → IsCommand (after_name words.now) c → CallsFor (F.held files.old) c (F.asked files.old) (F.asked files.new) (Rose (K.failures out.old) (K.failures out.new)) result }
     ensures held { (c : Option (commands.Command (List ℕ))) → IsCommand (after_name words.now) c → Leaves c (F.held files.old) (F.held files.new) (Rose (F.failures files.old) (F.failures files.new)) (Rose (K.failures out.old) (K.failures out.new)) result }
 {
-    let Ok(borrowed) = borrowed(rt.alloc(), words) else {
+    let Ok(rest) = command_words(rt.alloc(), words) else {
         return Status::Memory;
     };
-    match borrowed.split_first() {
-        Some((_, rest)) => run(rt, rt.alloc(), rest, files, out, &OpenGate),
-        None => run(rt, rt.alloc(), &[], files, out, &OpenGate),
-    }
-}
-
-// The same words, borrowed.
-fn borrowed<'a>(alloc: Global, words: &'a [String]) -> Result<Vec<&'a str>, AllocError>
-    ensures { IfOk result (λ borrowed. texts borrowed.items ≡ bytes_of words.now) }
-{
-    let mut borrowed = Vec::new(alloc);
-    for word in words {
-        borrowed.push(word.as_str()).map_err(|_| AllocError)?;
-    }
-    Ok(borrowed)
+    run(rt, rt.alloc(), &rest, files, out, &OpenGate)
 }

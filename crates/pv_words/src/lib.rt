@@ -6,7 +6,8 @@
 //!
 //! The layer above uses `read_words`. For a `Shape`, which has the names of the flags and options and the number of
 //! arguments, it gives exactly the flags, options and arguments that the words give, and None where they give none
-//! (`Reads`). Out of memory is the one error. `number_in` reads the number that is the value of an option, and `u64_in` one of up to twenty digits. `laws` says
+//! (`Reads`). Out of memory is the one error. `number_in` reads the number that is the value of an option, and `u64_in` one of up to twenty digits. `command_line` gives the
+//! words of the program's command line, and `command_words` those after the program's name (`after_name`). `laws` says
 //! what some words give, and that words give one thing at most.
 //!
 //! Where clap by itself would do something else:
@@ -29,9 +30,11 @@
 
 mod command;
 pub mod laws;
+mod line;
 mod number;
 mod texts;
 mod words;
 
+pub use line::{command_line, command_words};
 pub use number::{number_in, u64_in};
 pub use words::{Shape, Words, read_words};

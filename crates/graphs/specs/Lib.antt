@@ -1,2 +1,0 @@
--- the vocabulary of private functions
-pub mod CommandLine

@@ -1,8 +1,0 @@
-use Rattle.std.proofs.Common.{take, ◌≡◌}
-use Rattle.pv_words.specs.Answers.{texts}
-use Rattle.punthizha.specs.CommandLine.{bytes_of}
-use Rattle.punthizha.proofs.borrowed.Given as goal
-
--- the words so far
-abbrev pub invariant-loop-word : goal.invariant-loop-word
-invariant-loop-word l = texts l.borrowed.items ≡ bytes_of (take l.word-index l.words)

@@ -1,6 +1,6 @@
 //! The table of the words that name calls.
 
-use crate::{outside, runs};
+use crate::{facts, outside, runs};
 use cases_certs::{certs, sections};
 use cases_classes::classes as node_classes;
 use cases_files::pools::Asked;
@@ -24,6 +24,7 @@ pub fn answer<R: Files + Threads + Sync>(rt: &R, bench: &Bench, line: &str) -> A
         "numbers" => values::numbers(bench, rest),
         "scalar" => values::scalar_value(bench, rest),
         "heap" => values::heap(bench, rest),
+        "facts" => facts::facts(bench, rest),
 
         "files" => outside::memory_files(bench, rest),
         "host" => outside::host_files(rt, bench, rest),

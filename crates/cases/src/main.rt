@@ -14,6 +14,7 @@
 #![tactic(auto)]
 
 mod calls;
+mod facts;
 mod outside;
 mod repeats;
 mod runs;

@@ -1,6 +1,6 @@
 //! What is held where a block begins, by the tree of the exits that lead to it.
 
-ghost use Rattle.std.specs.Prelude.{None, Some, length, IfOk};
+ghost use Rattle.std.specs.Prelude.{◌≤◌, None, Some, length, IfOk, OnOk};
 ghost use Rattle.pv_graph.specs.Graphs.{IsGraph};
 ghost use Rattle.pv_terms.specs.Terms.{Grows};
 ghost use Rattle.pv_block.specs.Ran.{IsCellOf, IsStateOf};
@@ -16,6 +16,20 @@ use pv_graph::{Graph, NodeId, Op};
 use pv_terms::{fold, over};
 use pv_value::Memory;
 use std::alloc::Global;
+
+// The most nodes that a graph may have where a slot's tree is folded into it. The trees of a method can take far more: one for each slot
+// at each block, with a node for each test on the way there.
+const MOST_NODES: u32 = 4_194_304;
+
+// Whether a slot's tree may be folded into a graph: out of memory where it has more nodes than that.
+fn check_room(g: &Graph) -> Result<(), Memory>
+    ensures { OnOk result (length g.now.nodes ≤ MOST_NODES) }
+{
+    if g.len() > MOST_NODES {
+        return Err(Memory);
+    }
+    Ok(())
+}
 
 /// What a tree gives for a slot, where `dead` is what it gives from where no end is ahead.
 pub(crate) fn fold_slot(
@@ -37,7 +51,7 @@ pub(crate) fn fold_slot(
     Ok(made[given.nodes.len() - 1])
 }
 
-/// .. where it gives something.
+/// .. where it gives something. Out of memory also where the graph has more than 4194304 nodes already.
 pub(crate) fn node_of(
     alloc: Global,
     g: &mut Graph,
@@ -53,6 +67,7 @@ pub(crate) fn node_of(
     ensures sort { IfOk result (λ n. IsSortedFold g.old given.now (number slot) dead g.new n) }
     ensures grows { Grows g.old g.new }
 {
+    check_room(g)?;
     let made = fold_slot(alloc, g, given, slot, dead)?;
     match made {
         Some(n) => Ok(n),

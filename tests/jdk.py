@@ -7,7 +7,9 @@ the JDK's image with `jimage`. For each of major version 45 to 69 the status mus
 for each method, in the order of the file; the methods are counted by a reader of its own. It prints how
 many lines say what, without places. No method of the JDK may be `types` or `code`.
 
-    tests/jdk.py [IMAGE]      IMAGE is the file lib/modules of a JDK
+    tests/jdk.py [--workers] [IMAGE]      IMAGE is the file lib/modules of a JDK
+
+With --workers each file is read by 1, 2, 4 and 16 workers, and what is said must be the same each time.
 """
 
 import os
@@ -22,6 +24,7 @@ from concurrent.futures import ThreadPoolExecutor
 from programs import jdk_classes, punthizha
 
 PROGRAM = punthizha()
+WORKERS = [["--workers", str(it)] for it in (1, 2, 4, 16)]
 SIZES = {3: 4, 4: 4, 5: 8, 6: 8, 7: 2, 8: 2, 9: 4, 10: 4, 11: 4, 12: 4, 15: 3, 16: 2, 17: 4, 18: 4, 19: 2, 20: 2}
 
 
@@ -64,19 +67,27 @@ def shown(text):
     return "".join(bytes_) or "%-"
 
 
-def run(path):
+def answer(path, options):
+    """What the program says of a file against itself."""
+    return subprocess.run([PROGRAM, "validate", *options, path, path], capture_output=True, timeout=60)
+
+
+def run(path, ways):
+    """Whether what is said of a file is right and the same in each of these ways, how many methods it has, the seconds of the first way, and what is said."""
     with open(path, "rb") as file:
         data = file.read()
     major, wanted = methods(data)
     if not 45 <= major <= 69:
         return path, None, 0, 0.0, Counter()
     begin = time.monotonic()
-    done = subprocess.run([PROGRAM, "validate", path, path], capture_output=True, timeout=60)
+    done = answer(path, ways[0])
     took = time.monotonic() - begin
+    same = all((it.returncode, it.stdout) == (done.returncode, done.stdout) for it in (answer(path, way) for way in ways[1:]))
     lines = done.stdout.decode().splitlines()
     fronts = [shown(name) + " " + shown(desc) + " " for name, desc in wanted]
     right = (
-        done.returncode in (0, 1)
+        same
+        and done.returncode in (0, 1)
         and not done.stderr
         and len(lines) == len(fronts)
         and all(line.startswith(front) for line, front in zip(lines, fronts))
@@ -91,11 +102,14 @@ def said(line, front):
 
 
 def main():
+    options = [it for it in sys.argv[1:] if it == "--workers"]
+    images = [it for it in sys.argv[1:] if it not in options]
+    ways = WORKERS if options else [[]]
     with tempfile.TemporaryDirectory() as work:
-        paths = jdk_classes(work, *sys.argv[1:2])
+        paths = jdk_classes(work, *images[:1])
         begin = time.monotonic()
         with ThreadPoolExecutor(2) as pool:
-            answers = list(pool.map(run, paths))
+            answers = list(pool.map(lambda path: run(path, ways), paths))
         took = time.monotonic() - begin
     read = [a for a in answers if a[1] is not None]
     wrong = [a for a in read if not a[1]]

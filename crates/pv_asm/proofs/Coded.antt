@@ -1,9 +1,9 @@
 -- The bytes of a method's lines are a code, whose instructions lead where the labels stand.
-use Rattle.std.proofs.Common.{◌≡◌, ◌⊎◌, inl, inr, ℕ, suc, ◌+◌, ◌^◌, ◌<◌, ◌≤◌, Bool, true, false, cond, List, [], ◌∷◌, ◌++◌, length, map, Option, Some, None, is_some, refl, sym, ap, subst, ◌∙◌, arith, length-append}
+use Rattle.std.proofs.Common.{◌≡◌, ◌⊎◌, inl, inr, ℕ, suc, ◌+◌, ◌^◌, ◌<◌, ◌≤◌, Bool, true, false, cond, leb, List, [], ◌∷◌, ◌++◌, length, map, Option, Some, None, is_some, refl, sym, ap, subst, ◌∙◌, arith, length-append}
 use Rattle.std.specs.List.{AllZip, list_any, slice_get}
 use Rattle.std.specs.Map.{keys_of, lookup}
 use Rattle.std.specs.Str.{bytes_eq}
-use Rattle.std.proofs.lemmas.Bool.{cond-false}
+use Rattle.std.proofs.lemmas.Bool.{cond-false, cond-true, le-leb}
 use Rattle.std.proofs.lemmas.Slice.Eq.{bytes_eq-Decides}
 use Rattle.pv_insn.specs.declared.insn.Insn.{Insn}
 use Rattle.pv_insn.specs.declared.insn.Placed.{Placed}
@@ -15,7 +15,7 @@ use Rattle.pv_listing.specs.declared.line.Operands.{Operands}
 use Rattle.pv_listing.specs.Mnemonics.{has_name, kind_of}
 use Rattle.pv_listing.specs.Operands.{OperandsFit}
 use Rattle.pv_asm.specs.Codes.{insn_bytes}
-use Rattle.pv_asm.specs.Instructions.{has_insn, place_from, LabelsLead, insn_of, placed_from, placed_of}
+use Rattle.pv_asm.specs.Instructions.{has_insn, place_from, LabelsLead, index_in, insn_of, placed_from, placed_of}
 use Rattle.pv_asm.specs.Labels.{Labels, address_of, put, size_at, labels_from}
 use Rattle.pv_asm.specs.Listings.{need_of}
 use Rattle.pv_asm.specs.Needs.{Pool, Needed, needed}
@@ -145,6 +145,12 @@ target pool all l (lines.End ∷ body) labels k at place raws endless none is ar
 
 -- ---- instructions with their targets
 
+-- what needs nothing new stands there
+there : (pool : Pool) (op : ℕ) (o : Operands) (index : ℕ) → need_of pool op o ≡ Some (needed index pool) → index_in pool op o ≡ Some index
+there pool op o index is =
+    ap (λ (n : Option Needed). n >>= (λ (e : Needed). cond (leb (length e.pool) (length pool)) (Some e.index) None)) is
+    ∙ cond-true (leb (length pool) (length pool)) (Some index) None (le-leb (length pool) (length pool) (omega arith))
+
 record AllResolved (place : List ℕ → Option ℕ) (pool : Pool) (raws : List RawPlaced) (at : ℕ) (body : List Line) (here : List RawPlaced) : Type 0 where
   pub placed : List Placed
   pub is : placed_from place pool at body ≡ Some placed
@@ -161,7 +167,7 @@ module _ (pool : Pool) (labels : Labels) (place : List ℕ → Option ℕ) (raws
       record {
         placed = p ∷ more.placed;
         is =
-            ap (λ (n : Option Needed). n >>= (λ (e : Needed). insn_of place e.index op o >>= (λ (i : Insn). others >>= (λ (ps : List Placed). Some (record { at = at; insn = i } ∷ ps))))) entry
+            ap (λ (n : Option ℕ). n >>= (λ (k : ℕ). insn_of place k op o >>= (λ (i : Insn). others >>= (λ (ps : List Placed). Some (record { at = at; insn = i } ∷ ps))))) (there pool op o index entry)
             ∙ ap (λ (n : Option Insn). n >>= (λ (i : Insn). others >>= (λ (ps : List Placed). Some (record { at = at; insn = i } ∷ ps)))) one.1
             ∙ ap (λ (n : Option (List Placed)). n >>= (λ (ps : List Placed). Some (p ∷ ps))) more.is;
         resolved = subst (λ (l : List RawPlaced). AllZip (IsPlaced raws) l (p ∷ more.placed)) (sym parts) ((refl, one.2), more.resolved);

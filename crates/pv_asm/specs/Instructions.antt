@@ -1,5 +1,5 @@
 -- The instructions of a method's lines: each with its address, its index in a pool, and the places of those to which it leads.
-use Rattle.std.specs.Prelude.{◌≡◌, ℕ, ℤ, ◌+◌, Bool, true, false, List, [], ◌∷◌, map, Option, Some, None, if◌then◌else◌}
+use Rattle.std.specs.Prelude.{◌≡◌, ℕ, ℤ, ◌+◌, Bool, true, false, nat_le, List, [], ◌∷◌, length, map, Option, Some, None, if◌then◌else◌}
 use Rattle.std.specs.List.{AllByRecursion}
 use Rattle.std.specs.Str.{bytes_eq}
 use Rattle.pv_format.specs.Reading.{read_each}
@@ -48,13 +48,19 @@ LabelsLead place (line ∷ after) = LabelsLead place after
 
 -- ---- instructions
 
+-- the index that what an instruction names has in a pool, where it stands; 0 where it names nothing
+abbrev pub index_in : Pool → ℕ → Operands → Option ℕ
+index_in pool op o = do
+  entry ← need_of pool op o
+  if nat_le (length entry.pool) (length pool) then Some entry.index else None
+
 -- a key with the place of its label
 abbrev pub case_in : (List ℕ → Option ℕ) → ℤ × List ℕ → Option Case
 case_in place p = do
   k ← place p.1
   Some (record { key = p.0; target = k })
 
--- an opcode with operands, by the places of labels and the index of the entry that is needed
+-- an opcode with operands, by the places of labels and the index of what it names
 abbrev pub insn_of : (List ℕ → Option ℕ) → ℕ → ℕ → Operands → Option Insn
 insn_of place index op operands.Nothing = Some (insn.Plain op)
 insn_of place index op (operands.Number n) = Some (insn.Push op n)
@@ -79,8 +85,8 @@ insn_of place index op (operands.Lookup default pairs) = do
 abbrev pub placed_from : (List ℕ → Option ℕ) → Pool → ℕ → List Line → Option (List Placed)
 placed_from place pool at [] = Some []
 placed_from place pool at (lines.Instruction op o ∷ after) = do
-  entry ← need_of pool op o
-  i ← insn_of place entry.index op o
+  index ← index_in pool op o
+  i ← insn_of place index op o
   others ← placed_from place pool (at + size_at at op o) after
   Some (record { at = at; insn = i } ∷ others)
 placed_from place pool at (line ∷ after) = placed_from place pool at after

@@ -36,7 +36,7 @@ use Rattle.pv_asm.specs.Laws.{AreFit}
 
 -- ---- how many bytes there are
 
-zeros_length : (n : ℕ) → length {A = ℕ} (replicate n 0) ≡ n
+pub zeros_length : (n : ℕ) → length {A = ℕ} (replicate n 0) ≡ n
 zeros_length zero = refl
 zeros_length (suc n) = ap suc (zeros_length n)
 
@@ -116,14 +116,14 @@ operands_length labels at index op (operands.Lookup default pairs) rest fits is 
     let total : length (switch_bytes at (lookup_numbers b.0 c.0)) ≡ padding at + 4 * suc (suc (length (flat c.0))) = switch_length at (lookup_numbers b.0 c.0) in
     omega arith
 
-insn_length : (labels : Labels) (at index op : ℕ) (o : Operands) (bytes : List ℕ) → OperandsFit (kind_of op) o → insn_bytes labels at index op o ≡ Some bytes → length bytes ≡ size_at at op o
+pub insn_length : (labels : Labels) (at index op : ℕ) (o : Operands) (bytes : List ℕ) → OperandsFit (kind_of op) o → insn_bytes labels at index op o ≡ Some bytes → length bytes ≡ size_at at op o
 insn_length labels at index op o bytes fits is =
     let b = bound (operand_bytes labels at index op o) (λ (rest : List ℕ). Some (op ∷ rest)) bytes is in
     ap length (sym (some_is (op ∷ b.0) bytes b.2)) ∙ operands_length labels at index op o b.0 fits b.1
 
 -- ---- labels
 
-seen_found : (l : List ℕ) (labels : Labels) → is_some (lookup (bytes_eq l) labels) ≡ list_any (bytes_eq l) (keys_of labels)
+pub seen_found : (l : List ℕ) (labels : Labels) → is_some (lookup (bytes_eq l) labels) ≡ list_any (bytes_eq l) (keys_of labels)
 seen_found l [] = refl
 seen_found l (p ∷ labels) = by (bytes_eq l p.0) (lookup (bytes_eq l) labels) (list_any (bytes_eq l) (keys_of labels)) (seen_found l labels)
   where
@@ -131,10 +131,10 @@ seen_found l (p ∷ labels) = by (bytes_eq l p.0) (lookup (bytes_eq l) labels) (
     by true o b same = refl
     by false o b same = same
 
-put_last : (labels : Labels) (l : List ℕ) (at : ℕ) → list_any (bytes_eq l) (keys_of labels) ≡ false → put labels l at ≡ labels ++ (l, at) ∷ []
+pub put_last : (labels : Labels) (l : List ℕ) (at : ℕ) → list_any (bytes_eq l) (keys_of labels) ≡ false → put labels l at ≡ labels ++ (l, at) ∷ []
 put_last labels l at new = cond-false (is_some (lookup (bytes_eq l) labels)) labels (labels ++ (l, at) ∷ []) (seen_found l labels ∙ new)
 
-found_last : (labels : Labels) (l : List ℕ) (at : ℕ) → list_any (bytes_eq l) (keys_of labels) ≡ false → lookup (bytes_eq l) (labels ++ (l, at) ∷ []) ≡ Some at
+pub found_last : (labels : Labels) (l : List ℕ) (at : ℕ) → list_any (bytes_eq l) (keys_of labels) ≡ false → lookup (bytes_eq l) (labels ++ (l, at) ∷ []) ≡ Some at
 found_last [] l at new = cond-true (bytes_eq l l) (Some at) None ((bytes_eq-Decides l l).1 refl)
 found_last (p ∷ labels) l at new = by (bytes_eq l p.0) new (found_last labels l at)
   where
@@ -159,7 +159,7 @@ stays_put l labels a k at is = by (is_some (lookup (bytes_eq k) labels))
     by false = found_front l labels ((k, at) ∷ []) a is
 
 -- a label that is there keeps its address
-stays : (l : List ℕ) (labels : Labels) (at : ℕ) (after : List (Option Line)) (a : ℕ) → lookup (bytes_eq l) labels ≡ Some a → lookup (bytes_eq l) (labels_from labels at after) ≡ Some a
+pub stays : (l : List ℕ) (labels : Labels) (at : ℕ) (after : List (Option Line)) (a : ℕ) → lookup (bytes_eq l) labels ≡ Some a → lookup (bytes_eq l) (labels_from labels at after) ≡ Some a
 stays l labels at [] a is = is
 stays l labels at (Some lines.End ∷ after) a is = is
 stays l labels at (Some (lines.Label k) ∷ after) a is = stays l (put labels k at) at after a (stays_put l labels a k at is)

@@ -4,8 +4,10 @@ use Rattle.std.specs.List.{AllByRecursion, AllZip, flat_map}
 use Rattle.pv_class.specs.declared.class.TheConstants.{LONGEST_FILE}
 use Rattle.pv_class.specs.declared.file.ClassFile.{ClassFile}
 use Rattle.pv_class.specs.declared.file.Code.{Code}
-use Rattle.pv_class.specs.declared.file.Method.{Method}
+use Rattle.pv_class.specs.declared.file.Method.{Method as FileMethod}
 use Rattle.pv_class.specs.ClassFiles.{IsClass}
+use Rattle.pv_insn.specs.declared.insn.Placed.{Placed}
+use Rattle.pv_insn.specs.Codes.{IsCode}
 use Rattle.pv_pool.specs.Readers.{◌>>=◌}
 use Rattle.pv_listing.specs.declared.line.Line.{Line}
 use Rattle.pv_listing.specs.declared.line.Line.TheVariants as lines
@@ -14,12 +16,15 @@ use Rattle.pv_listing.specs.declared.line.Operands.TheVariants as operands
 use Rattle.pv_listing.specs.declared.line.Title.{Title}
 use Rattle.pv_listing.specs.Lines.{LineFits}
 use Rattle.pv_asm.specs.declared.draft.Draft.{Draft}
+use Rattle.pv_asm.specs.declared.draft.Method.{Method}
 use Rattle.pv_asm.specs.declared.draft.Open.{Open}
 use Rattle.pv_asm.specs.declared.draft.Place.{Place}
 use Rattle.pv_asm.specs.declared.draft.Place.TheVariants.{Start, Inside}
 use Rattle.pv_asm.specs.Labels.{Labels, address_of, labels_from}
 use Rattle.pv_asm.specs.Codes.{insn_bytes}
-use Rattle.pv_asm.specs.Listings.{at_label, next, put_label}
+use Rattle.pv_asm.specs.Instructions.{LabelsLead, place_from, placed_of, bodies_of}
+use Rattle.pv_asm.specs.Listings.{at_label, next, put_label, read_lines}
+use Rattle.pv_asm.specs.Needs.{Pool}
 use Rattle.pv_asm.specs.Classes.{text_lines, draft_of, class_of_lines, class_of_text}
 
 -- ---- each class of a listing can be read again
@@ -36,7 +41,7 @@ HasCode t None = ⊥
 HasCode t (Some code) = (code.max_stack ≡ t.stack) × (code.max_locals ≡ t.locals) × (code.handlers ≡ 0)
 
 -- a method of a class file is what its head says
-pub record IsStated (t : Title) (m : Method) : Type 0 where
+pub record IsStated (t : Title) (m : FileMethod) : Type 0 where
   pub flags : m.flags ≡ (if t.is_static then 0x0009 else 0x0001)
   pub name : m.name ≡ t.name
   pub desc : m.desc ≡ t.desc
@@ -82,6 +87,20 @@ abbrev pub LabelsStand : Type 0
 LabelsStand =
     (text : List ℕ) (i : ℕ) (d : Draft) (m later : Open) (l : List ℕ) → place_before i Start (text_lines text) ≡ Some (Inside d m) → slice_get (text_lines text) i ≡ Some (Some (lines.Label l)) → at_label m l ≡ Some later
     → address_of l m.labels ≡ Some (length m.code)
+
+-- ---- each code spells the instructions of its lines
+
+-- a code spells them, with their places as targets, if each label that one of them names stands before some instruction
+abbrev pub IsListed : Pool → List Line → Method → Type 0
+IsListed pool body m = LabelsLead (place_from 0 body) body → (placed : List Placed) × (placed_of pool body ≡ Some placed) × IsCode m.code placed
+
+-- the codes of a class of lines, one for each method in order
+abbrev pub LinesAreListed : Type 0
+LinesAreListed = (all : List (Option Line)) (d : Draft) → AreFit all → read_lines 1 Start all ≡ Ok d → AllZip (IsListed d.pool) (bodies_of all) d.methods
+
+-- those of a class of a listing
+abbrev pub CodesAreListed : Type 0
+CodesAreListed = (text : List ℕ) (d : Draft) → draft_of text ≡ Ok d → AllZip (IsListed d.pool) (bodies_of (text_lines text)) d.methods
 
 -- ---- methods whose instructions need no entry have a class together
 

@@ -3,6 +3,7 @@ pub mod Needs
 pub mod Labels
 pub mod Codes
 pub mod Listings
+pub mod Instructions
 pub mod Classes
 pub mod Laws
 -- what functions answer of which memory may run out

@@ -6,6 +6,7 @@
 //! - which entries its lines need in the constant pool, each once and in the order in which it is needed first (`Needs`);
 //! - where labels stand (`Labels`), and the bytes of instructions (`Codes`);
 //! - which line may stand where and what it adds to the class so far (`Listings`);
+//! - which instructions the lines of a method are, with their addresses and the places of their targets (`Instructions`);
 //! - the bytes of the class, or the number of the first line that has no reading (`Classes`).
 //!
 //! `assemble` gives exactly that (`class_of_text`), and `assemble_lines` the same of lines that were read already (`class_of_lines`),
@@ -29,4 +30,6 @@ mod stop;
 
 pub use assembler::{assemble, assemble_lines};
 pub use fault::AsmFault;
-pub use laws::{law_class, law_labels, law_lines, law_methods, law_once};
+pub use laws::{
+    law_class, law_codes, law_labels, law_line_codes, law_lines, law_methods, law_once,
+};

@@ -11,7 +11,7 @@ use std::cmp::Ordering;
 use std::collections::VecDeque;
 
 // The first of what is left of two ordered lists, merged. Of two equal elements both go, and the first list's is given.
-fn next_of<T: Ord + Drop>(first: &mut VecDeque<T>, second: &mut VecDeque<T>) -> Option<T>
+fn pop_least<T: Ord + Drop>(first: &mut VecDeque<T>, second: &mut VecDeque<T>) -> Option<T>
     ensures { MatchOption result (sorted_merge T.cmp true first.old.items second.old.items ≡ []) (λ x. sorted_merge T.cmp true first.old.items second.old.items ≡ x ∷ sorted_merge T.cmp true first.new.items second.new.items) }
 {
     let Some(x) = first.front() else {
@@ -42,7 +42,7 @@ fn cut<T: Drop>(list: Vec<T>, limit: usize) -> Vec<T>
 }
 
 // Two ordered lists, merged, up to one more element than `limit`. An empty list is left out, and the other is passed on.
-pub(crate) fn merged<T: Ord + Drop>(
+pub(crate) fn merge_ordered<T: Ord + Drop>(
     alloc: Global,
     first: Vec<T>,
     second: Vec<T>,
@@ -58,7 +58,7 @@ pub(crate) fn merged<T: Ord + Drop>(
     }
     let (mut first, mut second) = (VecDeque::from_vec(first), VecDeque::from_vec(second));
     let mut list = Vec::new(alloc);
-    while let Some(x) = next_of(&mut first, &mut second) {
+    while let Some(x) = pop_least(&mut first, &mut second) {
         list.push(x)?;
         if list.len() > limit {
             return Ok(list);

@@ -13,7 +13,7 @@ ghost use Rattle.pv_match.specs.Rematching.{CanTakeOver};
 
 use crate::found::{Match, Matches};
 use crate::gathered::Gathered;
-use crate::merge::merged;
+use crate::merge::merge_ordered;
 use crate::renumbered::renumbered_in_order;
 use pv_graph::NodeId;
 use pv_value::Memory;
@@ -41,7 +41,7 @@ pub(crate) fn gather(
 }
 
 // Two ordered lists in one, up to one more match than `limit`.
-fn united(
+fn unite(
     alloc: Global,
     first: Vec<Match>,
     second: Vec<Match>,
@@ -52,7 +52,7 @@ fn united(
     ensures over { IfOk result (λ got. OnTrue got.is_over ((length got.list.items ≡ suc limit) × AreFrom first.items second.items got.list.items)) }
     ensures all { IfOk result (λ got. OnFalse got.is_over ((length got.list.items ≤ limit) × GathersAll first.items second.items got.list.items)) }
 {
-    let list = merged(alloc, first, second, limit)?;
+    let list = merge_ordered(alloc, first, second, limit)?;
     let is_over = list.len() > limit;
     Ok(Gathered { list, is_over })
 }
@@ -72,7 +72,7 @@ pub(crate) fn put_together(
         if part.is_over {
             return Ok(part);
         }
-        let all = united(alloc, list, part.list, limit)?;
+        let all = unite(alloc, list, part.list, limit)?;
         if all.is_over {
             return Ok(all);
         }
@@ -101,7 +101,7 @@ pub(crate) fn beside_known(
         return Ok(got);
     }
     let more = renumbered_in_order(alloc, numbers, known)?;
-    let all = united(alloc, got.list, more, limit)?;
+    let all = unite(alloc, got.list, more, limit)?;
     Ok(all)
 }
 

@@ -1,6 +1,6 @@
 use Rattle.std.proofs.Common.{◌≡◌, ◌≤◌, ◌++◌, true, length}
 use Rattle.std.specs.Set.{sorted_merge}
-use Rattle.pv_match.proofs.merge.merged.Given as goal
+use Rattle.pv_match.proofs.merge.merge_ordered.Given as goal
 
 abbrev pub invariant-loop-x : goal.invariant-loop-x
 invariant-loop-x g l = record {

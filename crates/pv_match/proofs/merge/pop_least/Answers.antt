@@ -1,6 +1,6 @@
 use Rattle.std.proofs.Common.{rules, ◌≤◌, length}
 use Rattle.pv_match.proofs.Merging.{empty_of, next_alone}
-use Rattle.pv_match.proofs.merge.next_of.Goals as goal
+use Rattle.pv_match.proofs.merge.pop_least.Goals as goal
 
 pub returns-in_default-front : goal.returns-in_default-front
 returns-in_default-front g c =

@@ -1,6 +1,6 @@
 use Rattle.std.proofs.Common.{◌≡◌, length, suc, nat_lt, rules}
 use Rattle.pv_match.proofs.Uniting.{ordered_front, past_limit, within_limit, united_over, united_all}
-use Rattle.pv_match.proofs.together.united.Goals as goal
+use Rattle.pv_match.proofs.together.unite.Goals as goal
 
 pub invariant_of-result : goal.invariant_of-result
 invariant_of-result c = record { ordered = ordered_front (suc c.args.limit) c.args.first.items c.args.second.items c.in_ok-list.list.items c.in_ok-list.ensures c.requires.first c.requires.second }

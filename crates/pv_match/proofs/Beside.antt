@@ -10,7 +10,7 @@ use Rattle.pv_match.specs.declared.found.Param.{Param}
 use Rattle.pv_match.specs.Matches.{IsMatch}
 use Rattle.pv_match.specs.Reading.{AreReadable}
 use Rattle.pv_match.specs.All.{AreMatchesOf}
-use Rattle.pv_match.specs.Gathering.{GathersSome, GathersAll, AreTooMany, AreMatchesAll, FindsAll}
+use Rattle.pv_match.specs.Gathering.{AreFrom, GathersAll, AreTooMany, AreMatchesAll, FindsAll}
 use Rattle.pv_match.specs.Rematching.{CanTakeOver, IsRenumbered, AreRenumbered}
 use Rattle.pv_match.proofs.Adding.{in_left, in_right, in_both}
 use Rattle.pv_match.proofs.Gathers.{match_from}
@@ -58,15 +58,15 @@ module _ (g : Graph) (numbers assumed : List ℕ) (table : List Axiom) (limit : 
       let r = is.each x i in
       (r.0, r.2.0, r.3, match_from g numbers assumed table readable r.0 r.1 x.params.items x.classes.items r.2.0 r.4)
 
-  from_both : GathersSome got more all → (x : Match) → In all x → HasAxiom x
-  from_both gathers x i = elim (gathers.each x i) [ inl j ↦ from_found x j | inr j ↦ from_known x j ]
+  from_both : AreFrom got more all → (x : Match) → In all x → HasAxiom x
+  from_both gathers x i = elim (gathers x i) [ inl j ↦ from_found x j | inr j ↦ from_known x j ]
 
-  pub beside_over : length all ≡ suc limit → GathersSome got more all → AreTooMany g numbers assumed table limit all
+  pub beside_over : length all ≡ suc limit → AreFrom got more all → AreTooMany g numbers assumed table limit all
   beside_over long gathers = record { long = long; each = from_both gathers }
 
   pub beside_all : GathersAll got more all → AreMatchesAll g numbers assumed table all
   beside_all gathers = record {
-    each = from_both gathers.some_;
+    each = from_both gathers.some_.each;
     all = λ a ps cs there m. elim (t.rest a ps cs there m) [
       | inl s ↦ let x = is.all a s.0 ps cs (there, s.1) s.2 in (x.0, gathers.some_.kept x.0 x.1, x.2, x.3, x.4)
       | inr k ↦
@@ -76,6 +76,6 @@ module _ (g : Graph) (numbers assumed : List ℕ) (table : List Axiom) (limit : 
     ];
   }
 
-  pub finds_beside : (over : Bool) → OnTrue over ((length all ≡ suc limit) × GathersSome got more all) → OnFalse over ((length all ≤ limit) × GathersAll got more all) → FindsAll g numbers assumed table limit over all
+  pub finds_beside : (over : Bool) → OnTrue over ((length all ≡ suc limit) × AreFrom got more all) → OnFalse over ((length all ≤ limit) × GathersAll got more all) → FindsAll g numbers assumed table limit over all
   finds_beside true o f = (beside_over o.0 o.1, tt)
   finds_beside false o f = (tt, beside_all f.1)

@@ -1,5 +1,6 @@
 -- The laws that the proofs of other crates cite, from one place.
 pub use Rattle.pv_match.proofs.Readable.{tested}
+pub use Rattle.pv_match.proofs.Forms.{firsts_keep}
 pub use Rattle.pv_match.proofs.Numbered.{IsNumber, number_of, same_class, form_has, has_form}
 pub use Rattle.pv_match.proofs.Marked.{settled_there, settled_back, unfree_there, unfree_back}
 pub use Rattle.pv_match.proofs.Sound.{found_match}

@@ -12,9 +12,13 @@ pub mod Finish
 pub mod AllOf
 -- 3. All matches, each once and in order, up to a limit.
 pub mod Ordered
+pub mod Merging
+pub mod Sorting
 pub mod Listing
 pub mod Gathers
+pub mod Uniting
 pub mod Parts
+pub mod Known
 pub mod Beside
 pub mod Listings
 -- 4. Tables that are read.

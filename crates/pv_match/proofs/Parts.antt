@@ -14,7 +14,7 @@ use Rattle.pv_match.specs.declared.gathered.Gathered.{Gathered}
 use Rattle.pv_match.specs.Matches.{IsMatch}
 use Rattle.pv_match.specs.Reading.{AreReadable}
 use Rattle.pv_match.specs.All.{AreMatchesOf}
-use Rattle.pv_match.specs.Gathering.{GathersSome, GathersAll, AreTooMany, AreParts, Finds}
+use Rattle.pv_match.specs.Gathering.{AreFrom, GathersAll, AreTooMany, AreParts, Finds}
 use Rattle.pv_match.proofs.AllOf.{pieces}
 use Rattle.pv_match.proofs.Gathers.{match_from, where_gathered}
 
@@ -47,8 +47,8 @@ pub on_false : (b : Bool) (P : Type 0) → b ≡ false → OnFalse b P → P
 on_false b P e h = subst (λ (v : Bool). OnFalse v P) e h
 
 -- what a union says that is over, and one that isn't
-pub grown_over : (over : Bool) (limit : ℕ) (old more new : List Match) → over ≡ true → OnTrue over ((length new ≡ suc limit) × GathersSome old more new) → (length new ≡ suc limit) × GathersSome old more new
-grown_over over limit old more new e h = on_true over ((length new ≡ suc limit) × GathersSome old more new) e h
+pub grown_over : (over : Bool) (limit : ℕ) (old more new : List Match) → over ≡ true → OnTrue over ((length new ≡ suc limit) × AreFrom old more new) → (length new ≡ suc limit) × AreFrom old more new
+grown_over over limit old more new e h = on_true over ((length new ≡ suc limit) × AreFrom old more new) e h
 
 pub grown_within : (over : Bool) (limit : ℕ) (old more new : List Match) → over ≡ false → OnFalse over ((length new ≤ limit) × GathersAll old more new) → (length new ≤ limit) × GathersAll old more new
 grown_within over limit old more new e h = on_false over ((length new ≤ limit) × GathersAll old more new) e h
@@ -57,6 +57,11 @@ grown_within over limit old more new e h = on_false over ((length new ≤ limit)
 pub finds_over : (g : Graph) (numbers assumed : List ℕ) (table : List Axiom) (limit : ℕ) (items : List ℕ) (over : Bool) (set : List Match) → over ≡ true → AreTooMany g numbers assumed table limit set → Finds g numbers assumed table limit items over set
 finds_over g numbers assumed table limit items true set e many = (many, tt)
 finds_over g numbers assumed table limit items false set e many = absurd (cc)
+
+-- .. and where there are not
+pub finds_within : (g : Graph) (numbers assumed : List ℕ) (table : List Axiom) (limit : ℕ) (items : List ℕ) (over : Bool) (set : List Match) → over ≡ false → AreMatchesOf g numbers assumed table items set → Finds g numbers assumed table limit items over set
+finds_within g numbers assumed table limit items true set e are = absurd (cc)
+finds_within g numbers assumed table limit items false set e are = (tt, are)
 
 module _ (g : Graph) (numbers assumed : List ℕ) (table : List Axiom) (limit : ℕ) (items : ℕ → List ℕ) (readable : AreReadable table) where
   -- a match of a list is one of an axiom of the table
@@ -67,39 +72,31 @@ module _ (g : Graph) (numbers assumed : List ℕ) (table : List Axiom) (limit : 
 
   -- where all parts are a front, one part and a rest
   module _ {E : Type 0} (all front rest : List (Result Gathered E)) (got : Gathered) (cut : front ++ Ok got ∷ rest ≡ all) (are : AreParts g numbers assumed table limit items all) where
-    here : Finds g numbers assumed table limit (items (length front)) got.is_over got.set.keys
+    here : Finds g numbers assumed table limit (items (length front)) got.is_over got.list.items
     here = are (length front) got (subst (λ (l : List (Result Gathered E)). slice_get l (length front) ≡ Some (Ok got)) cut (at_seam front (Ok got) rest))
 
     -- a part that has too many shows that all together have
-    pub over_here : got.is_over ≡ true → AreTooMany g numbers assumed table limit got.set.keys
-    over_here over = on_true got.is_over (AreTooMany g numbers assumed table limit got.set.keys) over here.0
+    pub over_here : got.is_over ≡ true → AreTooMany g numbers assumed table limit got.list.items
+    over_here over = on_true got.is_over (AreTooMany g numbers assumed table limit got.list.items) over here.0
 
     -- a part that has all its matches is one more
-    pub all_here : got.is_over ≡ false → (old new : List Match) → AreMatchesOf g numbers assumed table (joined items (length front)) old → GathersAll old got.set.keys new
+    pub all_here : got.is_over ≡ false → (old new : List Match) → AreMatchesOf g numbers assumed table (joined items (length front)) old → GathersAll old got.list.items new
         → AreMatchesOf g numbers assumed table (joined items (length (front ++ Ok got ∷ []))) new
     all_here within old new is gathers =
-        let this = on_false got.is_over (AreMatchesOf g numbers assumed table (items (length front)) got.set.keys) within here.1 in
+        let this = on_false got.is_over (AreMatchesOf g numbers assumed table (items (length front)) got.list.items) within here.1 in
         subst (λ (k : ℕ). AreMatchesOf g numbers assumed table (joined items k) new) (sym (one_more front (Ok got)))
-        (where_gathered g numbers assumed table (λ a n. In table a × In (joined items (length front) ++ items (length front)) n) old got.set.keys new
-        (pieces g numbers assumed table (joined items (length front)) (items (length front)) old got.set.keys is this) gathers)
+        (where_gathered g numbers assumed table (λ a n. In table a × In (joined items (length front) ++ items (length front)) n) old got.list.items new
+        (pieces g numbers assumed table (joined items (length front)) (items (length front)) old got.list.items is this) gathers)
 
     -- .. and where that is more than the limit, all together are
-    pub union_over : got.is_over ≡ false → (old new : List Match) → AreMatchesOf g numbers assumed table (joined items (length front)) old → length new ≡ suc limit → GathersSome old got.set.keys new
+    pub union_over : got.is_over ≡ false → (old new : List Match) → AreMatchesOf g numbers assumed table (joined items (length front)) old → length new ≡ suc limit → AreFrom old got.list.items new
         → AreTooMany g numbers assumed table limit new
     union_over within old new is long gathers =
-        let this = on_false got.is_over (AreMatchesOf g numbers assumed table (items (length front)) got.set.keys) within here.1 in
+        let this = on_false got.is_over (AreMatchesOf g numbers assumed table (items (length front)) got.list.items) within here.1 in
         record {
           long = long;
-          each = λ x i. elim (gathers.each x i) [
+          each = λ x i. elim (gathers x i) [
             | inl j ↦ match_of (joined items (length front)) old is x j
-            | inr j ↦ match_of (items (length front)) got.set.keys this x j
+            | inr j ↦ match_of (items (length front)) got.list.items this x j
           ];
         }
-
--- ---- an empty set becomes another
-
-pub gathers_empty : (more : List Match) → GathersAll [] more more
-gathers_empty more = record {
-  some_ = record { each = λ x i. inr i; kept = λ x i. absurd i };
-  has = λ x i. (x, i, (refl, refl, refl));
-}

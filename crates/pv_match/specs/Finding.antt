@@ -28,7 +28,7 @@ pub record IsReady (f : Finder) : Type 0 where
 -- where its marks are those of the classes, with some nodes assumed to end, this is gathered at the items
 abbrev pub HasGathered : Finder → List ℕ → Gathered → Type 0
 HasGathered f items got = (assumed : List ℕ) → AreClassMarks f.reader.graph.now f.reader.numbers.now assumed f.marks.now
-    → Finds f.reader.graph.now f.reader.numbers.now assumed (map axiom_seen f.table.now) f.limit items got.is_over got.set.keys
+    → Finds f.reader.graph.now f.reader.numbers.now assumed (map axiom_seen f.table.now) f.limit items got.is_over got.list.items
 
 -- .. and this is the answer about them
 abbrev pub HasFound : Finder → List ℕ → Matches → Type 0

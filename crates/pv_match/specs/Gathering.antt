@@ -1,4 +1,4 @@
--- How the matches of a table are gathered in a set, node by node, up to a limit.
+-- How the matches of a table are gathered, node by node in sets, and put together as ordered lists, up to a limit.
 use Rattle.std.specs.Prelude.{◌≡◌, ◌⊎◌, ℕ, suc, ◌≤◌, Bool, true, false, List, length, Some, slice_get, Result, Ok}
 use Rattle.std.specs.Bool.{OnTrue, OnFalse}
 use Rattle.pv_graph.specs.Walks.{In}
@@ -14,15 +14,19 @@ use Rattle.pv_match.specs.declared.found.Matches as answers
 use Rattle.pv_match.specs.declared.found.Matches.TheVariants.{All, More}
 use Rattle.pv_match.specs.Orders.{match_cmp, AreOne}
 
--- ---- sets
+-- ---- sets and lists that gain others
 
--- the set has one for each match of the list
+-- it has one for each match of the list
 abbrev pub HasOne : List Match → Match → Type 0
 HasOne set x = (y : Match) × In set y × AreOne x y
 
--- the set holds what it held before, some of a list, and nothing else
+-- it holds matches of one list or of another alone
+abbrev pub AreFrom : List Match → List Match → List Match → Type 0
+AreFrom old more new = (x : Match) → In new x → In old x ⊎ In more x
+
+-- it holds what was held before, some of a list, and nothing else
 pub record GathersSome (old more new : List Match) : Type 0 where
-  pub each : (x : Match) → In new x → In old x ⊎ In more x
+  pub each : AreFrom old more new
   pub kept : (x : Match) → In old x → In new x
 
 -- .. and all of the list
@@ -81,13 +85,13 @@ abbrev pub IsFoundAll : Graph → List ℕ → List ℕ → List Axiom → ℕ �
 IsFoundAll g numbers assumed table limit (All list) = AreMatchesAll g numbers assumed table list.items × IsStrictlySortedBy match_cmp list.items × (length list.items ≤ limit)
 IsFoundAll g numbers assumed table limit (More n) = (n ≡ suc limit) × (list : List Match) × AreTooMany g numbers assumed table limit list × IsStrictlySortedBy match_cmp list
 
--- the matches of a set, in order, or how many there are where they are too many
+-- the matches that were gathered, or how many they are where they are too many
 abbrev pub IsListing : Gathered → answers.Matches → Type 0
-IsListing got (All list) = (got.is_over ≡ false) × (list.items ≡ got.set.keys) × IsStrictlySortedBy match_cmp list.items
-IsListing got (More n) = (got.is_over ≡ true) × (n ≡ length got.set.keys) × IsStrictlySortedBy match_cmp got.set.keys
+IsListing got (All list) = (got.is_over ≡ false) × (list.items ≡ got.list.items)
+IsListing got (More n) = (got.is_over ≡ true) × (n ≡ length got.list.items)
 
 -- ---- pieces
 
 -- each part that isn't out of memory has what is found at the items of its number
 abbrev pub AreParts : {E : Type 0} → Graph → List ℕ → List ℕ → List Axiom → ℕ → (ℕ → List ℕ) → List (Result Gathered E) → Type 0
-AreParts g numbers assumed table limit items parts = (k : ℕ) (got : Gathered) → slice_get parts k ≡ Some (Ok got) → Finds g numbers assumed table limit (items k) got.is_over got.set.keys
+AreParts g numbers assumed table limit items parts = (k : ℕ) (got : Gathered) → slice_get parts k ≡ Some (Ok got) → Finds g numbers assumed table limit (items k) got.is_over got.list.items

@@ -10,9 +10,10 @@ ghost use Rattle.pv_match.specs.Finding.{HasFound, HasFoundAll, HasGathered, IsR
 ghost use Rattle.pv_pieces.specs.Cut.{nth_piece};
 
 use crate::found::{Match, Matches};
-use crate::gathered::{Gathered, beside_known, gather, in_order, put_together};
+use crate::gathered::Gathered;
 use crate::members::{Group, with_number};
 use crate::reader::Reader;
+use crate::together::{beside_known, gather, in_order, put_together};
 use pv_base::Gate;
 use pv_graph::NodeId;
 use pv_pattern::{Axiom, op_number};
@@ -77,7 +78,7 @@ impl Finder<'_> {
     }
 
     // Gathers the matches whose left sides start at these nodes, which are those of a piece, and stops once there are more than the limit.
-    // It passes the gate before each node, with the number of the piece.
+    // It passes the gate before each node, with the number of the piece. The set of the matches becomes a list here, where pieces run at once.
     fn find_in<G: Gate>(
         &self,
         alloc: Global,
@@ -93,13 +94,12 @@ impl Finder<'_> {
             gate.enter(piece);
             let is_over = self.find_at(alloc, *n, &mut set)?;
             if is_over {
-                return Ok(Gathered { set, is_over });
+                let many = Gathered::from_set(alloc, set, true)?;
+                return Ok(many);
             }
         }
-        Ok(Gathered {
-            set,
-            is_over: false,
-        })
+        let got = Gathered::from_set(alloc, set, false)?;
+        Ok(got)
     }
 
     // Gathers the matches whose left sides start at these nodes, by consecutive pieces at once.
@@ -111,7 +111,7 @@ impl Finder<'_> {
     ) -> Result<Gathered, Memory>
         requires ready { IsReady self.now }
         ensures found { IfOk result (HasGathered self.now items.now) }
-        ensures few { IfOk result (λ got. OnFalse got.is_over (length got.set.keys ≤ self.now.limit)) }
+        ensures few { IfOk result (λ got. OnFalse got.is_over (length got.list.items ≤ self.now.limit)) }
     {
         let (gate, count) = (workers.gate, workers.count());
         let parts = thread::map_indices(
@@ -138,7 +138,7 @@ impl Finder<'_> {
         ensures { IfOk result (HasFound self.now items.now) }
     {
         let got = self.find_all(workers, alloc, items)?;
-        let answer = in_order(alloc, got)?;
+        let answer = in_order(got);
         Ok(answer)
     }
 
@@ -156,7 +156,7 @@ impl Finder<'_> {
     {
         let got = self.find_all(workers, alloc, touched)?;
         let all = beside_known(alloc, self.reader.numbers, got, known, self.limit)?;
-        let answer = in_order(alloc, all)?;
+        let answer = in_order(all);
         Ok(answer)
     }
 }

@@ -21,8 +21,9 @@
 //! side is read along a node and the classes of its kids (`reader`), which gives bindings (`binding`): a node for each name, and a class
 //! for each variable. A binding of the whole left side whose conditions hold is a match (`matching`). The nodes at which a left side may
 //! begin are cut into consecutive pieces, which run at once over the same graph, classes and table (`finder`). Each gathers its matches
-//! in a set, so each is there once, and stops as soon as its set has one more than the limit. The sets are united in the order of the
-//! pieces (`gathered`). No clause names workers or pieces: the answer is the same for every number of them.
+//! in a set, so each is there once, and stops as soon as its set has one more than the limit. Its set becomes an ordered list, in which
+//! each match is once (`gathered`). The lists are merged in the order of the pieces, two at a time, in linear time (`merge`, `together`).
+//! No clause names workers or pieces: the answer is the same for every number of them.
 #![tactic(auto)]
 
 mod all;
@@ -35,10 +36,12 @@ mod kept;
 pub mod laws;
 mod matching;
 mod members;
+mod merge;
 mod reader;
 mod renumbered;
 mod rules;
 mod shown;
+mod together;
 
 pub use all::{matches, rematch};
 pub use found::{Match, Matches, Param};

@@ -1,10 +1,13 @@
 //! Known matches, with the class of now for each of their classes.
 
 ghost use Rattle.std.specs.Prelude.{◌≡◌, IfOk, map};
+ghost use Rattle.std.specs.List.Sorted.{IsStrictlySortedBy};
 ghost use Rattle.pv_marks.specs.Classes.{class_of};
+ghost use Rattle.pv_match.specs.Orders.{match_cmp};
 ghost use Rattle.pv_match.specs.Rematching.{AreRenumbered, IsRenumbered};
 
 use crate::found::Match;
+use crate::merge::sort_once;
 use pv_graph::NodeId;
 use pv_value::Memory;
 use std::alloc::{AllocError, Global};
@@ -40,11 +43,7 @@ fn one_renumbered(alloc: Global, numbers: &[NodeId], known: &Match) -> Result<Ma
 }
 
 // Known matches, each with the class of now for each of its classes.
-pub(crate) fn renumbered(
-    alloc: Global,
-    numbers: &[NodeId],
-    known: &[Match],
-) -> Result<Vec<Match>, Memory>
+fn renumbered(alloc: Global, numbers: &[NodeId], known: &[Match]) -> Result<Vec<Match>, Memory>
     ensures { IfOk result (λ list. AreRenumbered numbers.now known.now list.items) }
 {
     let mut list = Vec::new(alloc);
@@ -52,5 +51,19 @@ pub(crate) fn renumbered(
         let one = one_renumbered(alloc, numbers, x)?;
         list.push(one)?;
     }
+    Ok(list)
+}
+
+// Known matches, so, in order and each once.
+pub(crate) fn renumbered_in_order(
+    alloc: Global,
+    numbers: &[NodeId],
+    known: &[Match],
+) -> Result<Vec<Match>, Memory>
+    ensures renumbered { IfOk result (λ list. AreRenumbered numbers.now known.now list.items) }
+    ensures ordered { IfOk result (λ list. IsStrictlySortedBy match_cmp list.items) }
+{
+    let mut list = renumbered(alloc, numbers, known)?;
+    sort_once(&mut list)?;
     Ok(list)
 }

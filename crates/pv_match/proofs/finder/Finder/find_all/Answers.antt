@@ -25,5 +25,5 @@ returns-clause-found g c assumed marks =
     (c.in_ok-parts.ensures.each k (Ok got) (let low = slice_get_within c.in_ok-parts.parts.items k (Ok got) at in omega (arith, low, count))).1.met
     assumed marks in
     let whole : joined (nth_piece c.args.items.now w) (length c.in_ok-parts.parts.items) ≡ c.args.items.now = ap (λ k. joined (nth_piece c.args.items.now w) k) count ∙ whole_items c.args.items.now w c.count-count.ensures.some in
-    subst (λ (ns : List ℕ). Finds it.reader.graph.now it.reader.numbers.now assumed (map axiom_seen it.table.now) it.limit ns c.in_ok-got.got.is_over c.in_ok-got.got.set.keys) whole
+    subst (λ (ns : List ℕ). Finds it.reader.graph.now it.reader.numbers.now assumed (map axiom_seen it.table.now) it.limit ns c.in_ok-got.got.is_over c.in_ok-got.got.list.items) whole
     (c.in_ok-got.ensures.found it.reader.graph.now it.reader.numbers.now assumed (map axiom_seen it.table.now) (nth_piece c.args.items.now w) c.requires.ready.readable are)

@@ -7,7 +7,7 @@ use Rattle.pv_match.specs.declared.found.Match.{Match}
 use Rattle.pv_match.specs.All.{AreMatchesOf}
 use Rattle.pv_match.specs.Gathering.{AreTooMany}
 use Rattle.pv_match.proofs.AllOf.{where_none}
-use Rattle.pv_match.proofs.Parts.{finds_over}
+use Rattle.pv_match.proofs.Parts.{finds_over, finds_within}
 use Rattle.pv_match.proofs.finder.Finder.find_in.Goals as goal
 
 on_true : (b : Bool) (P : Type 0) → b ≡ true → OnTrue b P → P
@@ -25,9 +25,12 @@ loop-n-init g c = record {
 
 pub returns-then-is_over : goal.returns-then-is_over
 returns-then-is_over g c assumed marks =
+    let it = c.args.self.now in
+    let table = map axiom_seen it.table.now in
     let here = c.in_ok-is_over.ensures.found assumed (take c.loop-n.n-index c.args.items.now) marks (c.loop-n.invariant.found assumed marks) in
-    finds_over c.args.self.now.reader.graph.now c.args.self.now.reader.numbers.now assumed (map axiom_seen c.args.self.now.table.now) c.args.self.now.limit c.args.items.now c.in_ok-is_over.is_over c.find_at.new.found.keys c.if-is_over.true
-    (on_true c.in_ok-is_over.is_over (AreTooMany c.args.self.now.reader.graph.now c.args.self.now.reader.numbers.now assumed (map axiom_seen c.args.self.now.table.now) c.args.self.now.limit c.find_at.new.found.keys) c.if-is_over.true here.0)
+    let many : AreTooMany it.reader.graph.now it.reader.numbers.now assumed table it.limit c.find_at.new.found.keys = on_true c.in_ok-is_over.is_over _ c.if-is_over.true here.0 in
+    finds_over it.reader.graph.now it.reader.numbers.now assumed table it.limit c.args.items.now c.in_ok-many.many.is_over c.in_ok-many.many.list.items c.in_ok-many.ensures.over
+    (subst (AreTooMany it.reader.graph.now it.reader.numbers.now assumed table it.limit) (sym c.in_ok-many.ensures.list) many)
 
 pub loop-n-preserved : goal.loop-n-preserved
 loop-n-preserved g c = record {
@@ -38,4 +41,9 @@ loop-n-preserved g c = record {
 
 pub returns : goal.returns
 returns g c assumed marks =
-    (tt, subst (λ (ns : List ℕ). AreMatchesOf c.args.self.now.reader.graph.now c.args.self.now.reader.numbers.now assumed (map axiom_seen c.args.self.now.table.now) ns c.loop-n.set.keys) (take_all c.loop-n.n-index c.args.items.now c.loop-n-test.false) (c.loop-n.invariant.found assumed marks))
+    let it = c.args.self.now in
+    let table = map axiom_seen it.table.now in
+    let are : AreMatchesOf it.reader.graph.now it.reader.numbers.now assumed table c.args.items.now c.loop-n.set.keys =
+    subst (λ (ns : List ℕ). AreMatchesOf it.reader.graph.now it.reader.numbers.now assumed table ns c.loop-n.set.keys) (take_all c.loop-n.n-index c.args.items.now c.loop-n-test.false) (c.loop-n.invariant.found assumed marks) in
+    finds_within it.reader.graph.now it.reader.numbers.now assumed table it.limit c.args.items.now c.in_ok-got.got.is_over c.in_ok-got.got.list.items c.in_ok-got.ensures.over
+    (subst (AreMatchesOf it.reader.graph.now it.reader.numbers.now assumed table c.args.items.now) (sym c.in_ok-got.ensures.list) are)

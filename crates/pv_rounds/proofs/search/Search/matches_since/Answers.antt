@@ -3,7 +3,7 @@ use Rattle.pv_marks.specs.Marks.{AreNodeMarks, AreClassMarks}
 use Rattle.pv_match.specs.declared.found.Match.{Match}
 use Rattle.pv_match.specs.Kept.{KeepsForms}
 use Rattle.pv_match.specs.Rematching.{CanTakeOver}
-use Rattle.pv_match.proofs.Forms.{firsts_keep}
+use Rattle.pv_match.proofs.Cited.{firsts_keep}
 use Rattle.pv_touched.specs.Earlier.{IsNow, WasSeen}
 use Rattle.pv_rounds.specs.Searching.{axioms_of}
 use Rattle.pv_rounds.proofs.Searching.{readable, congruence, least_numbers, marks_here}

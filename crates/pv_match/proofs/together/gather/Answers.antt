@@ -2,7 +2,7 @@ use Rattle.std.proofs.Common.{◌≡◌, List, [], ◌∷◌, length, refl, sym,
 use Rattle.pv_match.specs.declared.found.Match.{Match}
 use Rattle.pv_match.specs.Gathering.{IsGathering}
 use Rattle.pv_match.proofs.Gathers.{gathering_begins, gathering_more, gathering_ends, one_past}
-use Rattle.pv_match.proofs.gathered.gather.Goals as goal
+use Rattle.pv_match.proofs.together.gather.Goals as goal
 
 pub loop-x-init : goal.loop-x-init
 loop-x-init c = record { few = c.requires; gathering = gathering_begins c.args.set.now.keys c.args.more.items }

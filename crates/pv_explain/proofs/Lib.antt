@@ -20,6 +20,7 @@ mod Iterating
 mod Beginning
 -- 11. The joins that are needed: marks on the joins of paths, and what rests on marked joins.
 mod Marking
+mod Thinning
 mod Marked
 -- 12. The nodes that are needed: those that are named, and all below them.
 mod NodeMarks

@@ -5,31 +5,15 @@ use Rattle.std.proofs.Common.{inl, inr, refl, sym, ap, ◌∙◌, subst}
 use Rattle.std.proofs.lemmas.Option.{same_Some, slice_get_within, slice_get_read}
 use Rattle.std.proofs.Math.ListN.{get_or}
 use Rattle.pv_graph.specs.Walks.{In}
-use Rattle.pv_paths.specs.declared.forest.Way.{Way}
-use Rattle.pv_paths.specs.declared.forest.Way.TheVariants.{Forth, Back}
-use Rattle.pv_paths.specs.Paths.{AreLinked, Crosses, Leads}
-use Rattle.pv_paths.proofs.Legs.{leads_append}
+use Rattle.pv_paths.specs.declared.forest.Way.TheVariants.{Forth}
+use Rattle.pv_paths.specs.Paths.{AreLinked}
+use Rattle.pv_paths.proofs.Legs.{leads_append, leads_back}
 use Rattle.pv_classes.specs.declared.join.Join.{Join}
 use Rattle.pv_classes.specs.Linked.{Linked, joined, same, flip, chain}
 use Rattle.pv_explain.specs.declared.follow.Line.{Line}
 use Rattle.pv_explain.specs.declared.level.Level.{Level}
 use Rattle.pv_explain.specs.Lines.{sides, LinkedBy}
 use Rattle.pv_explain.specs.Levels.{ends_of}
-
--- the path, back
-abbrev turned : Way → Way
-turned (Forth i) = Back i
-turned (Back i) = Forth i
-
-turned_crosses : (ends : List (ℕ × ℕ)) (t : ℕ) (w : Way) (a b : ℕ) → Crosses ends t w a b → Crosses ends t (turned w) b a
-turned_crosses ends t (Forth i) a b h = h
-turned_crosses ends t (Back i) a b h = h
-
-leads_back : (ends : List (ℕ × ℕ)) (t : ℕ) (ws : List Way) (a b : ℕ) → Leads ends t ws a b → AreLinked ends t b a
-leads_back ends t [] a b h = ([], sym h)
-leads_back ends t (w ∷ ws) a b h =
-    let r = leads_back ends t ws h.0 b h.2 in
-    (r.0 ++ turned w ∷ [], leads_append ends t r.0 (turned w ∷ []) b h.0 a r.1 (a, turned_crosses ends t w a h.0 h.1, refl))
 
 pub at_index : {A : Type 0} (xs : List A) (i : ℕ) (x : A) → i < length xs → x ≡ get_or xs i x → slice_get xs i ≡ Some x
 at_index xs i x low e = slice_get_read xs (length xs) i x refl low e

@@ -1,5 +1,5 @@
 -- What marked joins link, and what rests on them.
-use Rattle.std.specs.Prelude.{◌≡◌, ◌⊎◌, ℕ, zero, suc, ◌+◌, ◌-◌, ◌<◌, ◌≤◌, Bool, true, false, List, [], ◌∷◌, ◌++◌, length, Some, slice_get, take}
+use Rattle.std.specs.Prelude.{◌≡◌, ◌⊎◌, ℕ, zero, suc, ◌+◌, ◌-◌, ◌<◌, ◌≤◌, Bool, true, false, List, [], ◌∷◌, ◌++◌, length, replicate, Some, slice_get, slice_set, take}
 use Rattle.std.specs.List.{AllZip, Contains}
 use denote.Bor.{Bor}
 use Rattle.std.proofs.Common.{inl, inr, refl, sym, ap, ◌∙◌, subst, arith, append_assoc, take_all}
@@ -20,14 +20,16 @@ use Rattle.pv_classes.specs.Linked.{Linked, joined, same, flip, chain}
 use Rattle.pv_classes.specs.Closest.{IsOfKids}
 use Rattle.pv_classes.specs.Grounds.{Context, depths, JoinGround, JoinsGround, BlockGround}
 use Rattle.pv_classes.proofs.Elements.{in_first, in_rest, in_cons, none_in, zip_map}
-use Rattle.pv_classes.proofs.Grounded.{ground_in}
+use Rattle.pv_classes.proofs.Grounded.{block_in, ground_in}
 use Rattle.pv_explain.specs.declared.source.Search.{Search}
 use Rattle.pv_explain.specs.Sections.{IsGiven, IsGrounded}
 use Rattle.pv_explain.specs.Levels.{ends_of}
 use Rattle.pv_explain.specs.Pairs.{HasLinkedPairs}
-use Rattle.pv_explain.specs.Needed.{AreMarkedOn, AreNodesOf, IsForestOf, LinkedByMarked, LinkedPairsByMarked, LinkedBefore, LinkedPairsBefore, RestsOnMarked, StayGrounded, StayLinked, if_marked, marked}
+use Rattle.pv_explain.specs.Named.{IsMarkedWithKids, OfBlock}
+use Rattle.pv_explain.specs.Needed.{AreMarkedOn, AreNodesOf, AreRested, IsCite, IsFirstCite, IsForestOf, LinkedByMarked, LinkedPairsByMarked, LinkedBefore, LinkedPairsBefore, RestsOnMarked, StayGrounded, StayLinked, StillLinked, if_marked, marked}
 use Rattle.pv_explain.specs.Marks.{IsMarked, MarksMore}
 use Rattle.pv_explain.proofs.Linking.{linked_path}
+use Rattle.pv_explain.proofs.Thinning.{block_still}
 
 -- ---- the marked joins
 
@@ -61,14 +63,6 @@ of_marked (suc i) (false ∷ needed) (h ∷ joins) j c = let z = of_marked i nee
 -- with more marks there are more of them
 marked_more : (old new : List Bool) (joins : List Join) (before i : ℕ) (j : Join) → MarksMore before old new → Contains (marked (take i old) joins) j → Contains (marked (take i new) joins) j
 marked_more old new joins before i j more c = let z = of_marked i old joins j c in in_marked i new joins z.k j z.low (more.stay z.k z.on) z.there
-
--- where all are marked, they are all joins
-all_marked : (i : ℕ) (needed : List Bool) (joins : List Join) → i ≤ length needed → ((k : ℕ) → k < i → IsMarked needed k) → marked (take i needed) joins ≡ take i joins
-all_marked zero needed joins long h = refl
-all_marked (suc i) [] joins long h = absurd (omega (arith, long))
-all_marked (suc i) (b ∷ needed) [] long h = refl
-all_marked (suc i) (true ∷ needed) (j ∷ joins) long h = ap (λ (js : List Join). j ∷ js) (all_marked i needed joins (omega (arith, long)) (λ k low. h (suc k) (omega (arith, low))))
-all_marked (suc i) (false ∷ needed) (j ∷ joins) long h = absurd (let z = h 0 (omega arith) in cc)
 
 -- one more
 marked_suc : (i : ℕ) (needed : List Bool) (joins : List Join) (b : Bool) (j : Join) → slice_get needed i ≡ Some b → slice_get joins i ≡ Some j → marked (take (suc i) needed) joins ≡ marked (take i needed) joins ++ if_marked b j
@@ -226,10 +220,58 @@ rests_kids s f needed i j left right lefts rights is at why p q a b links assume
       kids = zip_map (LinkedByMarked f needed i) (Linked n few) h.ks h.ls (λ x y c d l. marked_linked s f needed i x y is l) there;
     }))
 
--- all joins before it are marked
-pub rests_all : (s : Search) (needed : List Bool) (i : ℕ) → i ≤ length needed → ((k : ℕ) → k < i → IsMarked needed k) → RestsOnMarked s needed i
-rests_all s needed i low all assumed g j at =
-    subst (λ (before : List Join). JoinGround s.graph.now.nodes (IsGiven s.graph.now assumed) [] before s.blocks.now j) (sym (all_marked i needed s.joins.now low all)) (join_at s assumed i j g at)
+-- the block of a join by an induction has its ground among marked ones that link what it names as all joins before do
+block_on_marked : (s : Search) (f : Joined) (needed nodes : List Bool) (i n : ℕ) (b : Block) (assumed : List ℕ) → IsForestOf s f → IsCite s.joins.now n i → slice_get s.blocks.now n ≡ Some b → length nodes ≡ length s.graph.now.nodes
+    → OfBlock (IsMarkedWithKids s.graph.now nodes) b → StillLinked f needed i nodes → IsGrounded s assumed → BlockGround s.graph.now.nodes (IsGiven s.graph.now assumed) [] (marked (take i needed) s.joins.now) b
+block_on_marked s f needed nodes i n b assumed is cite at long named linked g = by [] refl (join_at s assumed i cite.j g cite.there)
+  where
+    within : (m : ℕ) → IsMarked nodes m → m < length s.graph.now.nodes
+    within m on = let z = slice_get_within nodes m true on in omega (arith, z, long)
+
+    still : (x y : ℕ) → IsMarked nodes x → IsMarked nodes y → Linked (length s.graph.now.nodes) (take i s.joins.now) x y → Linked (length s.graph.now.nodes) (marked (take i needed) s.joins.now) x y
+    still x y p q l =
+        let z = linked x y p q (linked_before s f i x y is (within x p) (within y q) l).path in
+        chain x z.0 y (marked_linked s f needed i x z.0 is z.1) (flip z.0 y (marked_linked s f needed i y z.0 is z.2))
+
+    block : (ctx : Context) (c : Block) → ctx ≡ [] → c ≡ b → BlockGround s.graph.now.nodes (IsGiven s.graph.now assumed) ctx (take i s.joins.now) c → BlockGround s.graph.now.nodes (IsGiven s.graph.now assumed) [] (marked (take i needed) s.joins.now) b
+    block ctx c none e h =
+        block_still s.graph.now.nodes (IsGiven s.graph.now assumed) (λ m ns x y given. (given.first, given.second)) (IsMarked nodes) within [] (take i s.joins.now) (marked (take i needed) s.joins.now) b tt still named
+        (subst (BlockGround s.graph.now.nodes (IsGiven s.graph.now assumed) [] (take i s.joins.now)) e (subst (λ (q : Context). BlockGround s.graph.now.nodes (IsGiven s.graph.now assumed) q (take i s.joins.now) c) none h))
+
+    by : (ctx : Context) → ctx ≡ [] → JoinGround s.graph.now.nodes (IsGiven s.graph.now assumed) ctx (take i s.joins.now) s.blocks.now cite.j → BlockGround s.graph.now.nodes (IsGiven s.graph.now assumed) [] (marked (take i needed) s.joins.now) b
+    by ctx none (JoinGround.by_axiom _ _ _ m ms why given) = absurd (let z = sym why ∙ cite.why in cc)
+    by ctx none (JoinGround.by_kids _ _ _ _ h) = absurd (let z = sym h.why ∙ cite.why in cc)
+    by ctx none (JoinGround.by_induction _ _ _ _ m c why at_m there h) =
+        let z : reason.Induction m ≡ reason.Induction n = sym why ∙ cite.why in
+        let p : m ≡ n = cc in
+        block ctx c none (same_Some c b (sym at_m ∙ ap (slice_get s.blocks.now) p ∙ at)) h
+    by ctx none (JoinGround.by_pair d pairs outer _ _ _ m why at_i) = absurd (let z = sym why ∙ cite.why in cc)
+
+-- so has that of each later join that cites it
+pub rests_induction : (s : Search) (f : Joined) (needed nodes : List Bool) (i n : ℕ) (b : Block) → IsForestOf s f → IsFirstCite s.joins.now n i → slice_get s.blocks.now n ≡ Some b → length nodes ≡ length s.graph.now.nodes → OfBlock (IsMarkedWithKids s.graph.now nodes) b
+    → StillLinked f needed i nodes → (k : ℕ) → IsCite s.joins.now n k → RestsOnMarked s needed k
+rests_induction s f needed nodes i n b is first at long named linked k cite assumed g j here = by [] refl (join_at s assumed k j g here)
+  where
+    why_is : j.why ≡ reason.Induction n
+    why_is = ap (λ (t : Join). t.why) (same_Some j cite.j (sym here ∙ cite.there)) ∙ cite.why
+
+    later : (t : Join) → Contains (marked (take i needed) s.joins.now) t → Contains (marked (take k needed) s.joins.now) t
+    later t c = let z = of_marked i needed s.joins.now t c in let l = z.low in let m = first.first k cite in in_marked k needed s.joins.now z.k t (omega (arith, l, m)) z.on z.there
+
+    block : BlockGround s.graph.now.nodes (IsGiven s.graph.now assumed) [] (marked (take k needed) s.joins.now) b
+    block =
+        block_in s.graph.now.nodes (IsGiven s.graph.now assumed) [] (marked (take i needed) s.joins.now) (marked (take k needed) s.joins.now) b later
+        (block_on_marked s f needed nodes i n b assumed is first.cite at long named linked g)
+
+    by : (ctx : Context) → ctx ≡ [] → JoinGround s.graph.now.nodes (IsGiven s.graph.now assumed) ctx (take k s.joins.now) s.blocks.now j → JoinGround s.graph.now.nodes (IsGiven s.graph.now assumed) [] (marked (take k needed) s.joins.now) s.blocks.now j
+    by ctx none (JoinGround.by_axiom _ _ _ m ms why given) = absurd (let z = sym why ∙ why_is in cc)
+    by ctx none (JoinGround.by_kids _ _ _ _ h) = absurd (let z = sym h.why ∙ why_is in cc)
+    by ctx none (JoinGround.by_induction _ _ _ _ m c why at_m there h) =
+        let z : reason.Induction m ≡ reason.Induction n = sym why ∙ why_is in
+        let p : m ≡ n = cc in
+        JoinGround.by_induction [] (marked (take k needed) s.joins.now) s.blocks.now j m c why at_m there
+        (subst (BlockGround s.graph.now.nodes (IsGiven s.graph.now assumed) [] (marked (take k needed) s.joins.now)) (same_Some b c (sym at ∙ ap (slice_get s.blocks.now) (sym p) ∙ at_m)) block)
+    by ctx none (JoinGround.by_pair d pairs outer _ _ _ m why at_i) = absurd (let z = sym why ∙ why_is in cc)
 
 -- a join by an axiom rests on no joins
 pub rests_axiom : (s : Search) (needed : List Bool) (i n : ℕ) (ns : List ℕ) (j : Join) → slice_get s.joins.now i ≡ Some j → j.why ≡ reason.Axiom n ns → RestsOnMarked s needed i
@@ -261,6 +303,66 @@ rests_pair s needed i n j at e assumed g k here = by [] refl (join_at s assumed 
 pub rests_more : (s : Search) (old new : List Bool) (before i : ℕ) → MarksMore before old new → RestsOnMarked s old i → RestsOnMarked s new i
 rests_more s old new before i more h assumed g j at =
     ground_in s.graph.now.nodes (IsGiven s.graph.now assumed) [] (marked (take i old) s.joins.now) (marked (take i new) s.joins.now) s.blocks.now j (λ k c. marked_more old new s.joins.now before i k more c) (h assumed g j at)
+
+-- ---- blocks whose joins rest on marked ones
+
+-- no join before the next number cites the block
+pub no_cite_next : (joins : List Join) (n i : ℕ) (j : Join) → slice_get joins i ≡ Some j → (j.why ≡ reason.Induction n → ⊥) → ((k : ℕ) → k < i → IsCite joins n k → ⊥) → (k : ℕ) → k < i + 1 → IsCite joins n k → ⊥
+no_cite_next joins n i j at other earlier k low cite = by (split k low)
+  where
+    split : (m : ℕ) → m < i + 1 → (m < i) ⊎ (m ≡ i)
+    split m h = grind arith
+
+    by : (k < i) ⊎ (k ≡ i) → ⊥
+    by (inl h) = earlier k h cite
+    by (inr e) = other (ap (λ (t : Join). t.why) (same_Some j cite.j (sym at ∙ ap (slice_get joins) (sym e) ∙ cite.there)) ∙ cite.why)
+
+-- one that does is among the joins, and at the number or after it
+pub cite_low : (joins : List Join) (n i k : ℕ) → ((m : ℕ) → m < i → IsCite joins n m → ⊥) → IsCite joins n k → (i ≤ k) × (k < length joins)
+cite_low joins n i k earlier cite = (by (split k), slice_get_within joins k cite.j cite.there)
+  where
+    split : (m : ℕ) → (m < i) ⊎ (i ≤ m)
+    split m = grind arith
+
+    by : (k < i) ⊎ (i ≤ k) → i ≤ k
+    by (inl h) = absurd (earlier k h cite)
+    by (inr h) = h
+
+unmarked : (n m : ℕ) → IsMarked (replicate n false) m → ⊥
+unmarked zero m h = absurd (cc)
+unmarked (suc n) zero h = absurd (cc)
+unmarked (suc n) (suc m) h = unmarked n m h
+
+-- where no block is marked
+pub none_rested : (s : Search) (needed rested : List Bool) (n : ℕ) → rested ≡ replicate n false → AreRested s needed rested
+none_rested s needed rested n e m i on cite = absurd (unmarked n m (subst (λ (rs : List Bool). IsMarked rs m) e on))
+
+pub rested_more : (s : Search) (old new rested : List Bool) (before : ℕ) → MarksMore before old new → AreRested s old rested → AreRested s new rested
+rested_more s old new rested before more h n i on cite = rests_more s old new before i more (h n i on cite)
+
+marks_set : (marks : List Bool) (n m : ℕ) → IsMarked (slice_set marks n true) m → (m ≡ n) ⊎ IsMarked marks m
+marks_set [] n m h = absurd (cc)
+marks_set (b ∷ marks) zero zero h = inl refl
+marks_set (b ∷ marks) zero (suc m) h = inr h
+marks_set (b ∷ marks) (suc n) zero h = inr h
+marks_set (b ∷ marks) (suc n) (suc m) h = by (marks_set marks n m h)
+  where
+    by : (m ≡ n) ⊎ IsMarked marks m → (suc m ≡ suc n) ⊎ IsMarked marks m
+    by (inl e) = inl (ap suc e)
+    by (inr i) = inr i
+
+pub marked_set : (marks : List Bool) (n : ℕ) → n < length marks → IsMarked (slice_set marks n true) n
+marked_set [] n low = absurd (omega (arith, low))
+marked_set (b ∷ marks) zero low = refl
+marked_set (b ∷ marks) (suc n) low = marked_set marks n (omega (arith, low))
+
+-- one block more
+pub rested_next : (s : Search) (needed rested : List Bool) (n : ℕ) → AreRested s needed rested → ((i : ℕ) → IsCite s.joins.now n i → RestsOnMarked s needed i) → AreRested s needed (slice_set rested n true)
+rested_next s needed rested n h here m i on cite = by (marks_set rested n m on)
+  where
+    by : (m ≡ n) ⊎ IsMarked rested m → RestsOnMarked s needed i
+    by (inl e) = here i (subst (λ (k : ℕ). IsCite s.joins.now k i) e cite)
+    by (inr r) = h m i r cite
 
 -- ---- the marked joins alone
 

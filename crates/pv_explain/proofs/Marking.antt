@@ -1,13 +1,14 @@
 -- Marks on the joins of paths.
-use Rattle.std.specs.Prelude.{◌≡◌, ◌⊎◌, ℕ, zero, suc, ◌+◌, ◌<◌, ◌≤◌, Bool, List, [], ◌∷◌, length, Some, slice_get}
+use Rattle.std.specs.Prelude.{◌≡◌, ◌⊎◌, ℕ, zero, suc, ◌+◌, ◌<◌, ◌≤◌, Bool, true, List, [], ◌∷◌, length, Some, slice_get}
 use Rattle.std.specs.List.{AllByRecursion, AllZip}
 use Rattle.std.proofs.Common.{inl, inr, refl, sym, ap, ◌∙◌, subst, arith}
 use Rattle.std.proofs.Math.ListN.{get_or}
-use Rattle.std.proofs.lemmas.Option.{get_or_from_slice_get, slice_get_within}
+use Rattle.std.proofs.lemmas.Option.{get_or_from_slice_get, same_Some, slice_get_within}
 use Rattle.pv_paths.specs.declared.forest.Way.{Way}
-use Rattle.pv_paths.specs.Paths.{Joined, Leads, join_of}
+use Rattle.pv_paths.specs.Paths.{AreTops, Joined, Leads, join_of}
 use Rattle.pv_paths.specs.declared.forest.Way.TheVariants.{Forth, Back}
-use Rattle.pv_explain.specs.Needed.{AreBefore, LinkedByMarked}
+use Rattle.pv_classes.proofs.Elements.{found}
+use Rattle.pv_explain.specs.Needed.{AreBefore, LinkedByMarked, LinkedToTops, StillLinked}
 use Rattle.pv_explain.specs.Marks.{IsMarked, MarksMore}
 
 -- ---- marks
@@ -54,6 +55,28 @@ crossed_next old new path before i v more here marked earlier k w low e = elim (
 
     same : k ≡ i → v ≡ w
     same h = sym here ∙ ap (λ (m : ℕ). get_or path m v) (sym h) ∙ get_or_from_slice_get path k w v e
+
+-- ---- tops
+
+-- one node more whose top is linked to it
+pub tops_next : (f : Joined) (old new nodes : List Bool) (tops : List ℕ) (before n top : ℕ) (is : Bool) → MarksMore before old new → slice_get nodes n ≡ Some is → slice_get tops n ≡ Some top → (is ≡ true → LinkedByMarked f new before n top)
+    → ((k r : ℕ) → k < n → IsMarked nodes k → slice_get tops k ≡ Some r → LinkedByMarked f old before k r) → (k r : ℕ) → k < n + 1 → IsMarked nodes k → slice_get tops k ≡ Some r → LinkedByMarked f new before k r
+tops_next f old new nodes tops before n top is more on at here earlier k r low m e = elim (split k low) [
+  | inl h ↦ links_more f old new before before k r more (earlier k r h m e)
+  | inr h ↦
+      subst (λ (i : ℕ). LinkedByMarked f new before i r) (sym h)
+      (subst (LinkedByMarked f new before n) (same_Some top r (sym at ∙ ap (slice_get tops) (sym h) ∙ e)) (here (same_Some is true (sym on ∙ ap (slice_get nodes) (sym h) ∙ m))))
+]
+  where
+    split : (i : ℕ) → i < n + 1 → (i < n) ⊎ (i ≡ n)
+    split i h = grind arith
+
+-- nodes that joins before a number link have one top, to which marked ones link both
+pub still_linked : (f : Joined) (needed nodes : List Bool) (before count : ℕ) (tops : List ℕ) → AreTops f before count tops → length nodes ≡ count → LinkedToTops f needed before nodes tops → StillLinked f needed before nodes
+still_linked f needed nodes before count tops are long linked a b p q path =
+    let r = found tops a (let z = slice_get_within nodes a true p in let y = are.long in omega (arith, z, y, long)) in
+    let s = found tops b (let z = slice_get_within nodes b true q in let y = are.long in omega (arith, z, y, long)) in
+    (r.0, linked a r.0 p r.1, subst (LinkedByMarked f needed before b) (sym (are.one a b r.0 s.0 path r.1 s.1)) (linked b s.0 q s.1))
 
 -- ---- lists
 

@@ -19,7 +19,7 @@ use Rattle.pv_explain.specs.declared.source.Source.{Source}
 use Rattle.pv_explain.specs.Sections.{IsGiven, IsGrounded}
 use Rattle.pv_explain.specs.Marks.{IsMarked, KeepsMarks, MarksMore}
 use Rattle.pv_explain.specs.Copying.{AreFirstCopies}
-use Rattle.pv_explain.specs.Named.{AreCitedMarked, AreKidsMarked, AreNamedMarked, AreReady, CiteMarked, CitesBelow, IsCiteMarked, IsMarkedNode, IsReady, OfBlock, OfCited, OfJoin, OfPair, axiom_nodes}
+use Rattle.pv_explain.specs.Named.{AreCitedMarked, AreKidsMarked, AreNamedMarked, AreReady, CiteMarked, CitesBelow, IsCiteMarked, IsMarkedNode, IsMarkedWithKids, IsReady, OfBlock, OfCited, OfJoin, OfPair, axiom_nodes}
 use Rattle.pv_explain.proofs.Marked.{join_at}
 use Rattle.pv_explain.proofs.Naming.{block_map, cited_map, join_map, pair_map}
 
@@ -138,3 +138,16 @@ named_marked s cited first then last joins keeps more cite of = by s.joins.now j
 pub named_ready : (w : Written) (s : Source) (marks : List Bool) (bs : List Block) (joins : List Join) → AreFirstCopies w s.graph.now marks (length s.graph.now.nodes) s.map.now → length marks ≡ length s.graph.now.nodes → AllByRecursion (OfCited (IsMarkedNode marks) bs) joins
     → AreReady s bs joins
 named_ready w s marks bs joins first long named = cited_map (IsMarkedNode marks) (IsReady s) (λ k on low. first.all k low (on (omega (arith, low, long)))) bs joins named
+
+-- ---- the nodes that a block rests on
+
+-- one more node that is named
+pub with_kids_next : (g : Graph) (named old new : List Bool) (n : ℕ) (is : Bool) → KeepsMarks old new → slice_get named n ≡ Some is → (is ≡ true → IsMarkedWithKids g new n) → ((k : ℕ) → k < n → IsMarked named k → IsMarkedWithKids g old k)
+    → (k : ℕ) → k < n + 1 → IsMarked named k → IsMarkedWithKids g new k
+with_kids_next g named old new n is keeps mark here earlier k low on = elim (split_last k n low) [
+  | inl h ↦ λ l. let z = earlier k h on l in (keeps.stay k z.0, kids_keep g old new k keeps z.1)
+  | inr h ↦ subst (IsMarkedWithKids g new) (sym h) (here (same_Some is true (sym mark ∙ ap (slice_get named) (sym h) ∙ on)))
+]
+
+pub block_rests : (g : Graph) (named marks : List Bool) (b : Block) → length named ≡ length g.nodes → OfBlock (IsMarkedNode named) b → ((n : ℕ) → IsMarked named n → IsMarkedWithKids g marks n) → OfBlock (IsMarkedWithKids g marks) b
+block_rests g named marks b long h all = block_map (IsMarkedNode named) (IsMarkedWithKids g marks) (λ k on low. all k (on (omega (arith, low, long))) low) b h

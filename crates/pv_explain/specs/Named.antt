@@ -64,7 +64,11 @@ IsMarkedNode marks k = k < length marks → IsMarked marks k
 abbrev pub AreKidsMarked : Graph → List Bool → ℕ → Type 0
 AreKidsMarked g marks n = (node : Node) → slice_get g.nodes n ≡ Some node → AllByRecursion (IsMarked marks) node.kids
 
--- .. of each node after the base that is marked
+-- if it is a node, it is marked, and so are its kids
+abbrev pub IsMarkedWithKids : Graph → List Bool → ℕ → Type 0
+IsMarkedWithKids g marks n = n < length g.nodes → IsMarked marks n × AreKidsMarked g marks n
+
+-- the kids of each node after the base that is marked are marked
 abbrev pub AreClosed : Graph → List Bool → Type 0
 AreClosed g marks = (n : ℕ) → g.base ≤ n → IsMarked marks n → AreKidsMarked g marks n
 

@@ -1,9 +1,10 @@
 -- Which joins of a search are needed: those that are marked.
-use Rattle.std.specs.Prelude.{◌≡◌, ℕ, ◌<◌, Bool, true, false, List, [], ◌∷◌, length, Some, slice_get, take}
+use Rattle.std.specs.Prelude.{◌≡◌, ℕ, ◌<◌, ◌≤◌, Bool, true, false, List, [], ◌∷◌, length, Some, slice_get, take}
 use Rattle.std.specs.List.{AllByRecursion, Contains}
 use Rattle.pv_paths.specs.declared.forest.Way.{Way}
 use Rattle.pv_paths.specs.Paths.{AreLinked, Joined, Leads, join_of}
 use Rattle.pv_classes.specs.declared.join.Join.{Join}
+use Rattle.pv_classes.specs.declared.join.Reason.TheVariants as reason
 use Rattle.pv_classes.specs.Linked.{Linked}
 use Rattle.pv_classes.specs.Grounds.{JoinGround, JoinsGround}
 use Rattle.pv_explain.specs.declared.source.Search.{Search}
@@ -56,6 +57,16 @@ LinkedPairsBefore f before pairs = AllByRecursion (λ (p : ℕ × ℕ). LinkedBe
 abbrev pub LinkedPairsByMarked : Joined → List Bool → ℕ → List (ℕ × ℕ) → Type 0
 LinkedPairsByMarked f needed before pairs = AllByRecursion (λ (p : ℕ × ℕ). LinkedByMarked f needed before p.0 p.1) pairs
 
+-- marked joins before this number link each marked node to its top
+abbrev pub LinkedToTops : Joined → List Bool → ℕ → List Bool → List ℕ → Type 0
+LinkedToTops f needed before nodes tops = (n r : ℕ) → IsMarked nodes n → slice_get tops n ≡ Some r → LinkedByMarked f needed before n r
+
+-- where joins before this number link two marked nodes, marked ones among them link both to one node
+abbrev pub StillLinked : Joined → List Bool → ℕ → List Bool → Type 0
+StillLinked f needed before nodes =
+    (a b : ℕ) → IsMarked nodes a → IsMarked nodes b → AreLinked f.ends before a b
+    → (r : ℕ) × LinkedByMarked f needed before a r × LinkedByMarked f needed before b r
+
 -- ---- what marked joins rest on
 
 -- the forest is of the joins of the search
@@ -63,11 +74,26 @@ pub record IsForestOf (s : Search) (f : Joined) : Type 0 where
   pub nodes_ : f.nodes ≡ length s.graph.now.nodes
   pub ends : f.ends ≡ ends_of s.joins.now
 
+-- join i is by an induction, and cites block n
+pub record IsCite (joins : List Join) (n i : ℕ) : Type 0 where
+  pub j : Join
+  pub there : slice_get joins i ≡ Some j
+  pub why : j.why ≡ reason.Induction n
+
+-- it is the first one that does
+pub record IsFirstCite (joins : List Join) (n i : ℕ) : Type 0 where
+  pub cite : IsCite joins n i
+  pub first : (k : ℕ) → IsCite joins n k → i ≤ k
+
 -- join i has its ground among the marked ones before it
 abbrev pub RestsOnMarked : Search → List Bool → ℕ → Type 0
 RestsOnMarked s needed i =
     (assumed : List ℕ) → IsGrounded s assumed → (j : Join) → slice_get s.joins.now i ≡ Some j
     → JoinGround s.graph.now.nodes (IsGiven s.graph.now assumed) [] (marked (take i needed) s.joins.now) s.blocks.now j
+
+-- each join that cites a marked block rests on marked joins
+abbrev pub AreRested : Search → List Bool → List Bool → Type 0
+AreRested s needed rested = (n i : ℕ) → IsMarked rested n → IsCite s.joins.now n i → RestsOnMarked s needed i
 
 -- these joins have their grounds where all joins of the search have theirs
 abbrev pub StayGrounded : Search → List Join → Type 0

@@ -10,9 +10,11 @@
 //! of all inductions, or the inside of one, with the lines of its joins (`specs/Levels`). `explain_all` copies the nodes that are
 //! needed, states each join that is needed once, and gives a reason for each pair of nodes that is asked for (`specs/Pairs`). Which
 //! joins are needed is marked first, from the last one back (`needed_joins`; `specs/Needed`): those on the paths between the nodes of the
-//! pairs, and those on which a marked one rests. So the marked joins, in order, have their grounds without the others. Then the nodes
-//! are marked (`needed_nodes`; `specs/Named`): those that a marked join names, those that the block of its induction names, with all joins
-//! and blocks inside it, and, from the last node back, the kids of each marked one.
+//! pairs, and those on which a marked one rests. A join by an induction rests on joins that link the nodes which its block names, and
+//! their kids, as far as all joins before it do: then they link all that the joins inside the block need (`proofs/Thinning`).
+//! So the marked joins, in order, have their grounds without the others. Then the nodes are marked (`needed_nodes`;
+//! `specs/Named`): those that a marked join names, those that the block of its induction names, with all joins and blocks inside
+//! it, and, from the last node back, the kids of each marked one.
 //!
 //! A join by an induction cites a block. Outside the block each of its pairs is stated at iteration 0; inside it, where the
 //! pairs are known, its joins have lines of their own, and so has each pair one iteration later (`specs/Iterations`). The

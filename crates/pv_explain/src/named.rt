@@ -6,7 +6,7 @@ ghost use Rattle.pv_graph.specs.Graphs.{IsGraph};
 ghost use Rattle.pv_classes.specs.Blocks.{blocks_of};
 ghost use Rattle.pv_explain.specs.Sections.{IsGrounded};
 ghost use Rattle.pv_explain.specs.Marks.{IsMarked, KeepsMarks, MarksMore};
-ghost use Rattle.pv_explain.specs.Named.{AreBelow, AreCitedMarked, AreClosed, AreKidsMarked, AreNodeMarks, CiteMarked, CitesBelow, IsCiteMarked, IsMarkedNode, OfBlock, OfBlocks, OfJoin, OfPair, axiom_nodes};
+ghost use Rattle.pv_explain.specs.Named.{AreBelow, AreCitedMarked, AreClosed, AreKidsMarked, AreNodeMarks, CiteMarked, CitesBelow, IsCiteMarked, IsMarkedNode, IsMarkedWithKids, OfBlock, OfBlocks, OfJoin, OfPair, axiom_nodes};
 
 use crate::marks::{is_marked, mark};
 use crate::source::Search;
@@ -204,6 +204,51 @@ fn mark_all_kids(graph: &Graph, base: u32, marks: &mut Vec<bool>)
         mark_kids(graph, marks, nodes - 1 - k);
     }
 }
+
+// ---- the nodes that a block rests on
+
+// Marks a node and its kids, if it is named.
+fn mark_with_kids(graph: &Graph, marks: &mut Vec<bool>, is_named: bool, n: NodeId)
+    requires made { IsGraph graph.now }
+    requires long { length marks.old.items ≡ length graph.now.nodes }
+    requires node { n < length graph.now.nodes }
+    ensures keeps { KeepsMarks marks.old.items marks.new.items }
+    ensures marked { is_named ≡ true → IsMarkedWithKids graph.now marks.new.items n }
+{
+    let nodes = marks.len();
+    if is_named {
+        mark(marks, nodes, n as usize);
+        mark_below(marks, nodes, graph.node(n).kids.as_slice());
+    }
+}
+
+// .. each node that is named, and its kids.
+fn mark_all_with_kids(graph: &Graph, named: &[bool], marks: &mut Vec<bool>)
+    requires made { IsGraph graph.now }
+    requires long { length marks.old.items ≡ length graph.now.nodes }
+    requires named { length named.now ≡ length graph.now.nodes }
+    ensures keeps { KeepsMarks marks.old.items marks.new.items }
+    ensures marked { (n : ℕ) → IsMarked named.now n → IsMarkedWithKids graph.now marks.new.items n }
+{
+    for n in 0..graph.len() {
+        mark_with_kids(graph, marks, is_marked(named, n as usize), n);
+    }
+}
+
+// A mark for each node of a graph: whether the block names it, or it is a kid of one that the block names.
+pub(crate) fn block_nodes(alloc: Global, graph: &Graph, block: &Block) -> Result<Vec<bool>, Memory>
+    requires { IsGraph graph.now }
+    ensures long { IfOk result (λ marks. length marks.items ≡ length graph.now.nodes) }
+    ensures marked { IfOk result (λ marks. OfBlock (IsMarkedWithKids graph.now marks.items) block.now) }
+{
+    let mut named = vec![in alloc; false; graph.len() as usize]?;
+    let mut marks = vec![in alloc; false; graph.len() as usize]?;
+    mark_block(&mut named, block);
+    mark_all_with_kids(graph, &named, &mut marks);
+    Ok(marks)
+}
+
+// ---- all that are needed
 
 // A mark for each node of a search: whether it is needed.
 pub(crate) fn needed_nodes(alloc: Global, search: &Search, base: u32) -> Result<Vec<bool>, Memory>

@@ -1,15 +1,17 @@
 //! The joins of a search that are needed: they are marked from the last one back.
 
-ghost use Rattle.std.specs.Prelude.{◌≡◌, ℕ, ◌<◌, ◌≤◌, ◌++◌, List, IfOk, OnOk, Some, length, slice_get};
+ghost use Rattle.std.specs.Prelude.{◌≡◌, ℕ, ◌<◌, ◌≤◌, ◌++◌, List, IfOk, OnOk, Some, length, slice_get, false, true};
 ghost use Rattle.std.specs.List.{AllZip};
 ghost use Rattle.pv_graph.specs.Graphs.{IsGraph};
+ghost use Rattle.pv_paths.specs.Paths.{AreTops};
 ghost use Rattle.pv_explain.specs.Sections.{IsGrounded};
 ghost use Rattle.pv_explain.specs.Levels.{ends_of};
 ghost use Rattle.pv_explain.specs.Pairs.{HasLinkedPairs};
-ghost use Rattle.pv_explain.specs.Needed.{AreBefore, AreMarkedOn, AreNodesOf, IsForestOf, LinkedBefore, LinkedByMarked, LinkedPairsBefore, LinkedPairsByMarked, RestsOnMarked, StayGrounded, StayLinked, if_marked, marked};
+ghost use Rattle.pv_explain.specs.Needed.{AreBefore, AreMarkedOn, AreNodesOf, AreRested, IsCite, IsFirstCite, IsForestOf, LinkedBefore, LinkedByMarked, LinkedPairsBefore, LinkedPairsByMarked, LinkedToTops, RestsOnMarked, StayGrounded, StayLinked, StillLinked, if_marked, marked};
 ghost use Rattle.pv_explain.specs.Marks.{IsMarked, MarksMore};
 
 use crate::marks::{is_marked, mark};
+use crate::named::block_nodes;
 use crate::source::Search;
 use pv_classes::{Join, Reason};
 use pv_graph::NodeId;
@@ -88,33 +90,151 @@ fn mark_pairs(
     Ok(())
 }
 
+// Marks the joins on a path between a node and the top of its tree, if the node is needed.
+fn mark_up(
+    alloc: Global,
+    forest: &Forest,
+    needed: &mut Vec<bool>,
+    before: usize,
+    is_needed: bool,
+    n: NodeId,
+    top: NodeId,
+) -> Result<(), Memory>
+    requires few { before ≤ length needed.old.items }
+    requires linked { LinkedBefore forest.now before n top }
+    ensures more { MarksMore before needed.old.items needed.new.items }
+    ensures linked { OnOk result (is_needed ≡ true → LinkedByMarked forest.now needed.new.items before n top) }
+{
+    if is_needed {
+        mark_link(alloc, forest, needed, before, n, top)?;
+    }
+    Ok(())
+}
+
+// .. of each node that is marked.
+fn mark_all_up(
+    alloc: Global,
+    forest: &Forest,
+    needed: &mut Vec<bool>,
+    before: usize,
+    count: NodeId,
+    nodes: &[bool],
+    tops: &[NodeId],
+) -> Result<(), Memory>
+    requires few { before ≤ length needed.old.items }
+    requires tops { AreTops forest.now before count tops.now }
+    requires nodes { length nodes.now ≡ count }
+    requires count { count ≡ forest.now.nodes }
+    ensures more { MarksMore before needed.old.items needed.new.items }
+    ensures linked { OnOk result (LinkedToTops forest.now needed.new.items before nodes.now tops.now) }
+{
+    for n in 0..count {
+        let place = n as usize;
+        mark_up(alloc, forest, needed, before, nodes[place], n, tops[place])?;
+    }
+    Ok(())
+}
+
+// Marks joins before this number that link the marked nodes as far as all joins before it do.
+fn mark_between(
+    alloc: Global,
+    forest: &Forest,
+    needed: &mut Vec<bool>,
+    before: usize,
+    count: NodeId,
+    nodes: &[bool],
+) -> Result<(), Memory>
+    requires few { before ≤ length needed.old.items }
+    requires nodes { length nodes.now ≡ count }
+    requires count { count ≡ forest.now.nodes }
+    ensures more { MarksMore before needed.old.items needed.new.items }
+    ensures linked { OnOk result (StillLinked forest.now needed.new.items before nodes.now) }
+{
+    let tops = forest.tops(alloc, before, count)?;
+    mark_all_up(alloc, forest, needed, before, count, nodes, &tops)?;
+    Ok(())
+}
+
 // ---- marks on joins
 
-// Marks all joins before this number.
-fn mark_all(needed: &mut Vec<bool>, before: usize)
-    requires { before ≤ length needed.old.items }
-    ensures more { MarksMore before needed.old.items needed.new.items }
-    ensures all { (k : ℕ) → k < before → IsMarked needed.new.items k }
+// Whether a join is by an induction, and cites this block.
+fn is_cite(join: &Join, block: u32) -> bool
+    ensures yes { result ≡ true → join.now.why ≡ Reason.Induction block }
+    ensures no { result ≡ false → join.now.why ≡ Reason.Induction block → ⊥ }
 {
-    for join in 0..before {
-        mark(needed, before, join);
+    match &join.why {
+        Reason::Induction(n) => *n == block,
+        Reason::Axiom(_, _) => false,
+        Reason::Kids => false,
+        Reason::Pair(_) => false,
     }
 }
 
-// Marks what a join rests on, if it is marked: the joins on the paths between its kids, or for an induction all joins before it.
+// The first of these joins that cites a block.
+fn first_cite(joins: &[Join], block: u32) -> usize
+    requires { (i : ℕ) × IsCite joins.now block i }
+    ensures { IsFirstCite joins.now block result }
+{
+    let mut first = 0;
+    while !is_cite(&joins[first], block) {
+        first += 1;
+    }
+    first
+}
+
+// Marks what the joins that cite a block rest on, and the block: joins before the first of them that link the nodes on which
+// the block rests. A block that is marked was looked at before, for a later join.
+fn mark_block(
+    alloc: Global,
+    search: &Search,
+    forest: &Forest,
+    needed: &mut Vec<bool>,
+    rested: &mut Vec<bool>,
+    i: usize,
+    block: u32,
+) -> Result<(), Memory>
+    requires made { IsGraph search.now.graph.now }
+    requires forest { IsForestOf search.now forest.now }
+    requires few { i ≤ length needed.old.items }
+    requires cite { IsCite search.now.joins.now block i }
+    requires block { block < length search.now.blocks.now }
+    requires blocks { length rested.old.items ≡ length search.now.blocks.now }
+    requires rested { AreRested search.now needed.old.items rested.old.items }
+    ensures more { MarksMore i needed.old.items needed.new.items }
+    ensures blocks { length rested.new.items ≡ length rested.old.items }
+    ensures rested { OnOk result (AreRested search.now needed.new.items rested.new.items) }
+    ensures block { OnOk result (IsMarked rested.new.items block) }
+{
+    if is_marked(rested, block as usize) {
+        return Ok(());
+    }
+    let first = first_cite(search.joins, block);
+    let nodes = block_nodes(alloc, search.graph, &search.blocks[block as usize])?;
+    mark_between(alloc, forest, needed, first, search.graph.len(), &nodes)?;
+    rested[block as usize] = true;
+    Ok(())
+}
+
+// Marks what a join rests on, if it is marked: the joins on the paths between its kids, or for an induction those that link
+// what its block rests on.
 fn mark_ground(
     alloc: Global,
     search: &Search,
     forest: &Forest,
     needed: &mut Vec<bool>,
+    rested: &mut Vec<bool>,
     i: usize,
 ) -> Result<(), Memory>
     requires made { IsGraph search.now.graph.now }
     requires grounds { (assumed : List ℕ) × IsGrounded search.now assumed }
     requires forest { IsForestOf search.now forest.now }
     requires long { length needed.old.items ≡ length search.now.joins.now }
+    requires blocks { length rested.old.items ≡ length search.now.blocks.now }
+    requires rested { AreRested search.now needed.old.items rested.old.items }
     requires join { i < length search.now.joins.now }
     ensures more { MarksMore i needed.old.items needed.new.items }
+    ensures blocks { length rested.new.items ≡ length rested.old.items }
+    ensures rested { OnOk result (AreRested search.now needed.new.items rested.new.items) }
     ensures rests { OnOk result (IsMarked needed.new.items i → RestsOnMarked search.now needed.new.items i) }
 {
     if !is_marked(needed, i) {
@@ -128,8 +248,8 @@ fn mark_ground(
             mark_kids(alloc, forest, needed, i, lefts, rights)?;
             Ok(())
         }
-        Reason::Induction(_) => {
-            mark_all(needed, i);
+        Reason::Induction(n) => {
+            mark_block(alloc, search, forest, needed, rested, i, *n)?;
             Ok(())
         }
         Reason::Axiom(_, _) => Ok(()),
@@ -151,9 +271,10 @@ fn mark_grounds(
     ensures more { MarksMore (length search.now.joins.now) needed.old.items needed.new.items }
     ensures rest { OnOk result ((i : ℕ) → IsMarked needed.new.items i → RestsOnMarked search.now needed.new.items i) }
 {
+    let mut rested = vec![in alloc; false; search.blocks.len()]?;
     let joins = needed.len();
     for k in 0..joins {
-        mark_ground(alloc, search, forest, needed, joins - 1 - k)?;
+        mark_ground(alloc, search, forest, needed, &mut rested, joins - 1 - k)?;
     }
     Ok(())
 }

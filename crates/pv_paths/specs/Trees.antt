@@ -43,6 +43,12 @@ pub data Climbs (links : Links) (before : ℕ) : ℕ → ℕ → Type 0 where
 abbrev pub AreMet : Links → ℕ → ℕ → ℕ → Type 0
 AreMet links before a b = (r : ℕ) × Climbs links before a r × Climbs links before b r
 
+-- the tops of the first nodes at that time
+pub record AreTopsAt (links : Links) (before nodes : ℕ) (tops : List ℕ) : Type 0 where
+  pub long : length tops ≡ nodes
+  pub each : (n r : ℕ) → slice_get tops n ≡ Some r → Climbs links before n r
+  pub low : (n r : ℕ) → slice_get tops n ≡ Some r → r < length links
+
 -- links upwards are ever newer
 abbrev pub Rises : Links → Type 0
 Rises links = (n : ℕ) (l m : Link) → HasLink links n l → HasLink links l.up m → l.join < m.join

@@ -1,8 +1,8 @@
 //! The trees of linked nodes.
 
-ghost use Rattle.std.specs.Prelude.{◌≡◌, ◌≢◌, ◌<◌, ◌≤◌, ◌+◌, ◌∷◌, ◌++◌, [], ℕ, suc, length, slice_get, slice_set, Some, None, IfOk, OnOk, OnErr, IsTrue, ◌↔◌, vec_len};
-ghost use Rattle.pv_paths.specs.Paths.{AreLinked, Crosses, Joined, Leads, join_of};
-ghost use Rattle.pv_paths.specs.Trees.{AreBare, AreMet, Climbs, IsForest, IsKept, IsMiddle, IsOlder, IsRoot, IsSplit, IsWithin, Rises, down_way, labels, up_way};
+ghost use Rattle.std.specs.Prelude.{◌≡◌, ◌≢◌, ◌<◌, ◌≤◌, ◌+◌, ◌∷◌, ◌++◌, [], ℕ, suc, length, slice_get, slice_set, Some, None, IfOk, IfSome, OnOk, OnErr, IsTrue, ◌↔◌, vec_len};
+ghost use Rattle.pv_paths.specs.Paths.{AreLinked, AreTops, Crosses, Joined, Leads, join_of};
+ghost use Rattle.pv_paths.specs.Trees.{AreBare, AreMet, AreTopsAt, Climbs, HasLink, IsForest, IsKept, IsMiddle, IsOlder, IsRoot, IsSplit, IsTop, IsWithin, Rises, down_way, labels, up_way};
 
 use pv_value::Memory;
 use std::alloc::Global;
@@ -103,6 +103,53 @@ fn top(links: &[Option<Link>], n: u32) -> u32
         top = link.up;
     }
     top
+}
+
+// The link upwards of a node, if a join before this number made it.
+fn link_before(links: &[Option<Link>], before: usize, n: u32) -> Option<Link>
+    requires { n < length links.now }
+    ensures link { IfSome result (λ l. HasLink links.now n l) }
+    ensures before { IfSome result (λ l. l.join < before) }
+    ensures none { result ≡ None → IsTop links.now before n }
+{
+    match links[n as usize] {
+        Some(link) => { if link.join < before { Some(link) } else { None } }
+        None => None,
+    }
+}
+
+// The node at the top of the tree of a node, by the links that joins before this number made.
+fn top_before(links: &[Option<Link>], before: usize, n: u32) -> u32
+    requires rises { Rises links.now }
+    requires within { IsWithin links.now }
+    requires node { n < length links.now }
+    ensures node { result < length links.now }
+    ensures climbs { Climbs links.now before n result }
+{
+    let mut top = n;
+    while let Some(link) = link_before(links, before, top) {
+        top = link.up;
+    }
+    top
+}
+
+// .. for each of the first nodes.
+fn tops_before(
+    alloc: Global,
+    links: &[Option<Link>],
+    before: usize,
+    nodes: u32,
+) -> Result<Vec<u32>, Memory>
+    requires rises { Rises links.now }
+    requires within { IsWithin links.now }
+    requires nodes { nodes ≤ length links.now }
+    ensures { IfOk result (λ tops. AreTopsAt links.now before nodes tops.items) }
+{
+    let mut tops = Vec::new(alloc);
+    for n in 0..nodes {
+        tops.push(top_before(links, before, n))?;
+    }
+    Ok(tops)
 }
 
 // The join of a link, crossed upwards.
@@ -353,5 +400,13 @@ impl Forest {
         ensures { IfOk result (λ path. Leads self.now.ends before path.items a b) }
     {
         path_between(alloc, &self.links, &self.ends, before, a, b)
+    }
+    /// For each of the first `nodes` nodes the top of its tree by the first `before` joins: a node that they link to it,
+    /// and the same one for all nodes that they link. The time is that of one climb for each node. Out of memory is the one error.
+    pub fn tops(&self, alloc: Global, before: usize, nodes: u32) -> Result<Vec<u32>, Memory>
+        requires { nodes ≤ self.now.nodes }
+        ensures { IfOk result (λ tops. AreTops self.now before nodes tops.items) }
+    {
+        tops_before(alloc, &self.links, before, nodes)
     }
 }

@@ -1,6 +1,7 @@
-use Rattle.std.proofs.Common.{arith, get_or}
+use Rattle.std.proofs.Common.{get_or}
 use Rattle.std.proofs.lemmas.Option.{slice_get-get_or}
-use Rattle.pv_explain.proofs.Marked.{kids_linked_before, low_at, rests_all, rests_axiom, rests_kids, rests_pair}
+use Rattle.pv_explain.proofs.Marked.{kids_linked_before, low_at, rested_more, rests_axiom, rests_kids, rests_pair}
+use Rattle.pv_explain.proofs.NodeMarks.{cites_low}
 use Rattle.pv_explain.proofs.needed.mark_ground.Goals as goal
 
 pub node-requires : goal.node-requires
@@ -29,9 +30,27 @@ returns-in_ok-mark_kids-in-Kids-clause-rests c =
     λ on. rests_kids c.args.search.now c.args.forest.now c.mark_kids.new.needed.items c.args.i (get_or js c.args.i d) c.node.result.now c.node-in-Kids.result.now c.as_slice-lefts.result.now c.as_slice-rights.result.now c.requires.forest
     (slice_get-get_or js c.args.i d c.requires.join) c.in-Kids.is c.node.ensures c.node-in-Kids.ensures c.as_slice-lefts.ensures c.as_slice-rights.ensures c.in_ok-mark_kids-in-Kids.ensures.linked
 
-pub returns-in-Induction-clause-rests : goal.returns-in-Induction-clause-rests
-returns-in-Induction-clause-rests c =
-    λ on. rests_all c.args.search.now c.mark_all.new.needed.items c.args.i (omega (arith, c.mark_all.ensures.more.long, c.requires.long, c.requires.join)) c.mark_all.ensures.all
+pub mark_block-requires-clause-cite : goal.mark_block-requires-clause-cite
+mark_block-requires-clause-cite c =
+    let js = c.args.search.now.joins.now in
+    let d = c.index-search-i.result in
+    record { j = get_or js c.args.i d; there = slice_get-get_or js c.args.i d c.requires.join; why = c.in-Induction.is }
+
+pub mark_block-requires-clause-block : goal.mark_block-requires-clause-block
+mark_block-requires-clause-block c =
+    let js = c.args.search.now.joins.now in
+    let d = c.index-search-i.result in
+    cites_low c.args.search.now c.requires.grounds.0 c.args.i (get_or js c.args.i d) c.requires.grounds.1 (slice_get-get_or js c.args.i d c.requires.join) c.in-Induction.n c.in-Induction.is
+
+pub returns-in_ok-mark_block-in-Induction-clause-rests : goal.returns-in_ok-mark_block-in-Induction-clause-rests
+returns-in_ok-mark_block-in-Induction-clause-rests c =
+    let js = c.args.search.now.joins.now in
+    let d = c.index-search-i.result in
+    λ on. c.in_ok-mark_block-in-Induction.ensures.rested c.in-Induction.n c.args.i c.in_ok-mark_block-in-Induction.ensures.block (record { j = get_or js c.args.i d; there = slice_get-get_or js c.args.i d c.requires.join; why = c.in-Induction.is })
+
+pub returns-in_ok-mark_kids-in-Kids-clause-rested : goal.returns-in_ok-mark_kids-in-Kids-clause-rested
+returns-in_ok-mark_kids-in-Kids-clause-rested c =
+    rested_more c.args.search.now c.args.needed.now.items c.mark_kids.new.needed.items c.args.rested.now.items c.args.i c.in_ok-mark_kids-in-Kids.ensures.more c.requires.rested
 
 pub returns-in-Axiom-clause-rests : goal.returns-in-Axiom-clause-rests
 returns-in-Axiom-clause-rests c =

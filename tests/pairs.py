@@ -12,10 +12,10 @@ and by another compiler is one run. With --same the pairs are each class of the 
 
 With --cert each run places a certificate, which a second run of the program checks: it must say `equivalent` of the same methods in the
 same order. The steps of its sections are counted. With --all the searches go by all axioms, and else by the core. With --counted counted
-loops are known to end.
+loops are known to end. With --workers each pair is compared by 1, 2 and 16 workers too, and what is said must be the same each time.
 
-    tests/pairs.py [--cert | --counted] [--all] [--same] JAR..
-    tests/pairs.py [--cert | --counted] [--all] --compilers FOLDER..
+    tests/pairs.py [--cert | --counted] [--all] [--workers] [--same] JAR..
+    tests/pairs.py [--cert | --counted] [--all] [--workers] --compilers FOLDER..
 """
 
 import os
@@ -29,6 +29,7 @@ from concurrent.futures import ThreadPoolExecutor
 from programs import punthizha
 
 PROGRAM = punthizha()
+WORKERS = ("1", "2", "16")
 RULES = """-injars {before}
 -outjars {after}
 -libraryjars {library}
@@ -109,7 +110,11 @@ def run(pair, options):
     cert, certified = other + ".cert", "--cert" in options
     axioms = "all" if "--all" in options else "core"
     mode = ["--cert", cert] if certified else ["--counted"] if "--counted" in options else []
-    out, status, used, memory = called("validate", "--axioms", axioms, *mode, one, other)
+    asked = ["validate", "--axioms", axioms, *mode, one, other]
+    out, status, used, memory = called(*asked)
+    others = (called(*asked, "--workers", it)[:2] for it in WORKERS) if "--workers" in options else ()
+    if any(it != (out, status) for it in others):
+        status = "other lines by another number of workers"
     words = Counter(" ".join(line.split(" ")[2:]).split(" at ")[0] for line in out.splitlines())
     fault, steps = check(one, other, cert, out) if certified and status in (0, 1) else (None, [])
     return name, fault or status, used, memory, words, steps

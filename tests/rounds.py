@@ -5,7 +5,9 @@ It works on the program that `cd crates/cases && rt run < stdin` leaves, or on t
 are sums of ints: a chain, in which each sum is the next one's left kid, and a tree of all sums of two parameters, the same height
 everywhere. Nearly each node has a match of two axioms (x + y = y + x; (x + y) + z = x + (y + z)). For each graph three runs
 make it, make it and look, and make it, look and make the round, so what a step takes is a difference of two runs. It prints the nodes
-before and after the round, the matches, and for each run the processor seconds and the greatest memory.
+before and after the round, the matches, and for each run the processor seconds and the greatest memory. Then all matches are looked for
+by 1, 2 and 4 workers, several times in a run, with a limit of one less than there are, so that no list is printed: it prints the
+seconds by the clock that one time takes, which say something on an idle machine alone.
 
     tests/rounds.py [NODES]      by default 100000
 """
@@ -15,10 +17,11 @@ import re
 import subprocess
 import sys
 import tempfile
+import time
 
 from programs import cases
 
-PARAMETERS, LIMIT = 330, 500_000
+PARAMETERS, LIMIT, TIMES = 330, 500_000, 12
 
 
 def chain(nodes):
@@ -56,6 +59,15 @@ def ran(line):
     return out.strip(), used.ru_utime + used.ru_stime, used.ru_maxrss // 1024
 
 
+def matching(graph, limit, workers):
+    """The seconds that it takes to look for all matches."""
+    begin = time.monotonic()
+    ran(graph)
+    made = time.monotonic()
+    ran(graph + f"; matches {limit} {workers}" * TIMES)
+    return (time.monotonic() - made - (made - begin)) / TIMES
+
+
 def main():
     nodes = int(sys.argv[1]) if len(sys.argv) > 1 else 100_000
     failed = False
@@ -66,6 +78,10 @@ def main():
             out, seconds, memory = ran(graph + asked)
             failed = failed or not re.search(r"\d", out)
             print(f"{name}{asked or '; made'}: {out[-80:]} | {seconds:.2f} s, {memory} MB", flush=True)
+            found = re.search(r"open (\d+)", out)
+            count = int(found[1]) if found else 0
+        times = ", ".join(f"{matching(graph, count - 1, it):.2f} s by {it}" for it in (1, 2, 4))
+        print(f"{name}; all {count} matches: {times}", flush=True)
     return 1 if failed else 0
 
 

@@ -3,7 +3,7 @@
 #
 #   tests/all.sh [--long]     with --long the sizes are those of docs/PROVED.md; else each script is done within some minutes
 #
-# It needs the programs (`rt run` in crates/punthizha and in crates/graphs, `rt run < stdin` in crates/cases), a JDK 17, ProGuard (Debian: proguard-cli), unzip and zip. The edits that
+# It needs the programs (`rt run` in crates/punthizha and in crates/graphs, `rt run < stdin` in crates/cases), a JDK 17, ProGuard (Debian: proguard-cli), AFL++ (afl++), gcc, unzip and zip. The edits that
 # the prover must refuse are tried by tests/edits.sh, which proves crates anew; the price of the gate is told by tests/price.py.
 set -u
 cd "$(dirname "$0")/.." || exit 2
@@ -56,6 +56,7 @@ run '20' '2000' tests/makes.py
 run '2000' '100000' tests/chains.py
 run - - tests/memory.py
 run '1 20000' '1 10000000' tests/fuzz.py
+run '1' '10' tests/afl.py
 run - - tests/sizes.py
 if [ "$long" = yes ]; then
   run - - tests/codes.py

@@ -11,9 +11,10 @@ it once more with a count of each edge between blocks. That is proved by nothing
     words       the words of a command, one a line, for any command
     listing     a listing, by `assemble` of the program of cases
 
-The seeds are those of tests/fuzz.py and tests/listings.py, and the certificates that the program makes for the pairs. A signal and a status over 7 count as crashes,
-and an input that takes more than 60 seconds as a hang. In the end each input that was kept is run again, and its lines must be
-such as docs/LINES.md knows; of a listing the class must be that of tests/listings.py.
+The seeds are those of tests/fuzz.py and tests/listings.py, and the certificates that the program makes for the pairs. A signal and a status over 7
+count as crashes. An input that takes more than 5 seconds is ended, and run again if it reaches edges that no such input did before: then more
+than 60 seconds count as a hang. In the end each input that was kept is run again, and its lines must be such as docs/LINES.md knows; of a listing the
+class must be that of tests/listings.py.
 
     tests/afl.py [MINUTES [KIND ..]]      by default 1 minute of each kind, two kinds at once
 
@@ -52,7 +53,7 @@ WAYS = [
     for words in (f"validate {SHORT} 1", f"validate --axioms all {SHORT} 2", f"validate --counted {SHORT} 1", f"validate --cert OUT {SHORT} 1", "refute --tries 20 --steps 200")
 ]
 
-# The `main` of the programs, which are linked with their own as `program_main`. Without SETUPS they are as they were. With it, standard input is an
+# The `main` of the programs, which are linked with their own as `program_main`, and end by `program_exit`. Without SETUPS they are as they were. With it, standard input is an
 # input: two bytes choose a setup, and the rest follows what the setup begins with. A setup has its words, one a line, an empty line, and that
 # beginning. The whole is the file I, or, without words, the words themselves; after the word `line` it is given to standard input in digits.
 DRIVER = r"""
@@ -176,18 +177,18 @@ static void prepare(const char *setups) {
         place("I", rest, begun + size);
 }
 
-static void judge(int status, void *nothing) {
+void program_exit(int status) {
     if (status < 0 || status > 7)
         abort();
+    _exit(status);
 }
 
 int main(int argc, char **argv) {
     words = argv;
     count = argc;
-    on_exit(judge, 0);
     if (getenv("SETUPS"))
         prepare(getenv("SETUPS"));
-    return program_main(count, words);
+    program_exit(program_main(count, words));
 }
 """
 
@@ -231,7 +232,7 @@ def build(crate, folder):
         code, driver = os.path.join(work, "program.o"), os.path.join(work, "driver.c")
         compiler = [os.path.join(tools, "bin", "clang"), "--target=x86_64-unknown-linux-gnu", f"--sysroot={tools}"]
         subprocess.run([*compiler, *FLAGS, "-fsanitize-coverage=trace-pc-guard", "-c", "-x", "ir", module(crate, work), "-o", code], check=True)
-        subprocess.run(["objcopy", "--redefine-sym", "main=program_main", code], check=True)
+        subprocess.run(["objcopy", "--redefine-sym", "main=program_main", "--redefine-sym", "_exit=program_exit", code], check=True)
         with open(driver, "w", encoding="utf-8") as file:
             file.write(DRIVER)
         libraries = [os.path.join(kit(), "c", it) for it in ("libos_c.a", "liblibc_c.a")]

@@ -44,7 +44,7 @@ ROWS = re.compile(
     b"|".join(
         [
             b"node " + NUMBER + b" " + OPERATION + NUMBERS,
-            b"axiom " + NUMBER + b" " + NUMBER + b" " + NUMBER + NUMBERS,
+            b"(?:axiom|use) " + NUMBER + b" " + NUMBER + b" " + NUMBER + NUMBERS,
             b"flip " + NUMBER + b" " + NUMBER + b" " + FACT,
             b"chain " + NUMBER + b" " + NUMBER + b" " + FACT + b" " + FACT,
             b"set " + PART + rb"(?: ; " + PART + rb")*",

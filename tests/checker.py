@@ -659,13 +659,15 @@ class Section:
             right = self.is_right_assume(p, nodes)
             around.append((number, "assume", p, nodes))
         else:
-            a, b = (int(n) for n in (rest[1:3] if row == "axiom" else rest[:2]))
+            a, b = (int(n) for n in (rest[1:3] if row in ("axiom", "use") else rest[:2]))
             right, pairs = self.is_right_equality(row, rest, a, b), [(a, b)]
         self.stated.append((tuple(around), pairs))
         self.open = around
         return right
 
     def is_right_equality(self, row, rest, a, b):
+        if row == "use":
+            return False  # no certificate states a lemma
         if row == "flip":
             return self.shown(rest[2], self.open) == (b, a)
         if row == "chain":

@@ -20,7 +20,7 @@ LAYERS = [
     ("the search", ["pv_prove", "pv_grounds", "pv_rounds", "pv_saturate", "pv_touched", "pv_closings"]),
     ("parts of a round", ["pv_match", "pv_marks", "pv_standing", "pv_witness", "pv_instances", "pv_induct", "pv_classes"]),
     ("what it may answer", ["pv_heights"]),
-    ("certificates read", ["pv_check", "pv_chain", "pv_cert", "pv_endings"]),
+    ("certificates read", ["pv_check", "pv_lemmas", "pv_chain", "pv_cert", "pv_endings"]),
     ("axioms and steps", ["pv_axioms", "pv_steps", "pv_scalar", "pv_loopax", "pv_heapax", "pv_choiceax", "pv_pattern"]),
     ("building graphs", ["pv_build", "pv_block", "pv_terms", "pv_decide"]),
     ("why they are right", ["pv_runs", "pv_equations"]),

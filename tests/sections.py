@@ -241,7 +241,7 @@ def with_instances(methods, steps, rand):
 # ---- changes
 
 # What the words after the first are, by rows: n a node, f a fact, r a reason, a blank something else; the last goes for all others.
-WORDS = {"axiom": " nn", "flip": "nnf", "chain": "nnf", "open": " n", "close": " f", "assume": "n", "finish": "nnr"}
+WORDS = {"axiom": " nn", "use": " nn", "flip": "nnf", "chain": "nnf", "open": " n", "close": " f", "assume": "n", "finish": "nnr"}
 
 
 def kinds(words):
@@ -305,7 +305,9 @@ def word_changed(line, size, rand):
     words, (nodes, steps) = line.split(" "), size
     row, place = words[0], rand.randrange(1, len(words))
     word, what = words[place], rand.random()
-    if what < 0.15:
+    if row == "axiom" and what < 0.03:
+        words[0] = "use"
+    elif what < 0.15:
         other = rand.randrange(1, len(words))
         words[place], words[other] = words[other], word
     elif what < 0.25:

@@ -111,13 +111,13 @@ least_made g a b h r s made closed least =
       record {
         graph = record {
           long = sorts_long g is closed rule h each least.distinct;
-          small = (let z = no_more h g.nodes each least.distinct in let y = is.small in omega arith);
           base = (let z : length h ≤ length h = omega arith in z);
           open_ = λ e. refl;
           sorted = λ n x t e f. inl (sorts_fit g is closed rule h each least.distinct n x t e f (within.kids n x e));
           early = λ n k x e lt m. all_in (λ j. j < length h) x.kids k (within.kids n x e) m;
           late = λ n k x e le m. absurd (omega (arith, slice_get_within h n x e));
           ranged = λ n x e. ranges_fit g is closed rule h each least.distinct n x e;
+          variables = λ n x e le. absurd (omega (arith, slice_get_within h n x e));
         };
         rule = least_keeps_rule g.nodes a b h r s least rule;
       },

@@ -1,6 +1,6 @@
 //! An order in which each node comes after its kids, and a theta after its first.
 
-ghost use Rattle.std.specs.Prelude.{◌≡◌, ◌<◌, ◌∷◌, [], ℕ, length, IfOk, OnOk, MatchOption};
+ghost use Rattle.std.specs.Prelude.{◌≡◌, ◌<◌, ◌^◌, ◌∷◌, [], ℕ, length, IfOk, OnOk, MatchOption};
 ghost use Rattle.std.specs.List.{range_with_len};
 ghost use Rattle.pv_graph.specs.Graphs.{IsGraph};
 ghost use Rattle.pv_graph.specs.Walks.{In};
@@ -102,6 +102,7 @@ fn settle_waiting(
     waiting: &mut Waiting,
 ) -> Result<(), Memory>
     requires graph { IsGraph g.now }
+    requires few { length g.now.nodes < 2 ^ 32 }
     requires begun { IsSettling g.now.nodes order.old waiting.old 0 }
     ensures { OnOk result (IsSettling g.now.nodes order.new waiting.new (length order.new)) }
 {

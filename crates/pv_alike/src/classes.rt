@@ -1,6 +1,6 @@
 //! Classes of thetas, made finer until a pass parts none.
 
-ghost use Rattle.std.specs.Prelude.{◌≡◌, ◌<◌, ◌≤◌, ◌∷◌, ℕ, length, map, IfOk, vec_len};
+ghost use Rattle.std.specs.Prelude.{◌≡◌, ◌<◌, ◌^◌, ◌≤◌, ◌∷◌, ℕ, length, map, IfOk, vec_len};
 ghost use Rattle.pv_graph.specs.Graphs.{IsGraph, form_at};
 ghost use Rattle.pv_graph.specs.Walks.{In};
 ghost use Rattle.pv_alike.specs.Partition.{IsFiner};
@@ -78,6 +78,7 @@ pub(crate) fn numbered(alloc: Global, g: &Graph, order: &Order) -> Result<Number
     ensures long { IfOk result (λ numbers. vec_len numbers.of ≡ length g.now.nodes) }
     ensures numbered { IfOk result (λ numbers. IsNumbered g.now.nodes (number_at numbers.of.items)) }
     ensures onto { IfOk result (λ numbers. IsOnto g.now.nodes (number_at numbers.of.items) numbers.count) }
+    ensures few { IfOk result (λ numbers. numbers.count < 2 ^ 32) }
 {
     let mut classes = vec![in alloc; 0; g.len() as usize]?;
     let mut count = 0;

@@ -1,6 +1,6 @@
 //! A pass: all nodes are numbered from below, over the classes of the thetas.
 
-ghost use Rattle.std.specs.Prelude.{◌≡◌, ◌<◌, ◌∷◌, ℕ, length, map, IfOk, vec_len};
+ghost use Rattle.std.specs.Prelude.{◌≡◌, ◌<◌, ◌^◌, ◌∷◌, ℕ, length, map, IfOk, vec_len};
 ghost use Rattle.pv_graph.specs.Graphs.{IsGraph, form_at};
 ghost use Rattle.pv_graph.specs.Walks.{In};
 ghost use Rattle.pv_alike.specs.Partition.{IsPass};
@@ -115,6 +115,7 @@ pub(crate) fn pass(
     ensures long { IfOk result (λ numbers. vec_len numbers.of ≡ length g.now.nodes) }
     ensures pass { IfOk result (λ numbers. IsPass (form_at g.now.nodes) (number_at classes.now) (number_at numbers.of.items)) }
     ensures onto { IfOk result (λ numbers. IsOnto g.now.nodes (number_at numbers.of.items) numbers.count) }
+    ensures few { IfOk result (λ numbers. numbers.count < 2 ^ 32) }
 {
     let mut keys = Keys::new(alloc);
     let mut numbers = vec![in alloc; 0; g.len() as usize]?;

@@ -1,13 +1,14 @@
 -- The axioms of all tables, by their numbers, and their instances.
 use Rattle.std.specs.Prelude.{◌≡◌, ℕ, List, [], ◌∷◌, ◌++◌, Some, slice_get}
 use Rattle.pv_graph.specs.Walks.{In}
+use Rattle.pv_graph.specs.Graphs.{Graph}
 use Rattle.pv_pattern.specs.Patterns.{Axiom}
 use Rattle.pv_pattern.specs.Instances.{IsInstance}
 use Rattle.pv_scalar.specs.Table.{scalar_axioms}
 use Rattle.pv_loopax.specs.Table.{loop_axioms}
 use Rattle.pv_heapax.specs.Table.{heap_axioms}
 use Rattle.pv_choiceax.specs.Table.{choice_axioms}
-use Rattle.pv_steps.specs.Right.{Instances}
+use Rattle.pv_steps.specs.Right.{Rule, by_axiom, by_lemma, Instances}
 
 -- the core: the axioms on numbers, choices and tokens, then those on loops, then those on the heap
 abbrev pub core_axioms : List Axiom
@@ -39,5 +40,10 @@ pub record AreAxioms (table : List Axiom) : Type 0 where
   pub once : NumbersOnce table
 
 -- the axioms as steps use them: l and r are the sides of an instance of the axiom with this number
-abbrev pub Instance : Instances
+abbrev pub Instance : Graph → List ℕ → ℕ → List ℕ → ℕ → ℕ → Type 0
 Instance g assumed n subst l r = (a : Axiom) × IsEntry axioms n a × IsInstance g assumed a subst l r
+
+-- the axioms as rules, with no lemma
+abbrev pub ByAxioms : Instances
+ByAxioms g assumed (by_axiom n) subst l r = Instance g assumed n subst l r
+ByAxioms g assumed (by_lemma n) subst l r = ⊥

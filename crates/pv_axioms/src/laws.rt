@@ -3,7 +3,7 @@
 
 ghost use Rattle.std.specs.Prelude.{◌≡◌, flat_map};
 ghost use Rattle.pv_steps.specs.Laws.{AcceptedLeast, AcceptedNotRejected, AcceptedSame, AreSound, RejectedOnce};
-ghost use Rattle.pv_axioms.specs.Entries.{AreAxioms, Instance, NumbersOnce, axioms, core_axioms, tables};
+ghost use Rattle.pv_axioms.specs.Entries.{AreAxioms, ByAxioms, NumbersOnce, axioms, core_axioms, tables};
 
 /// Each number stands once in the tables.
 pub fn law_numbers()
@@ -23,18 +23,18 @@ pub fn law_core()
 
 /// The axioms are sound.
 pub fn law_sound()
-    ensures { AreSound Instance }
+    ensures { AreSound ByAxioms }
 {}
 
 /// An accepted section makes its two roots the same; and where the graph is the least one of two nodes, it
 /// makes these the same.
 pub fn law_accepted()
-    ensures same { AcceptedSame Instance }
-    ensures least { AcceptedLeast Instance }
+    ensures same { AcceptedSame ByAxioms }
+    ensures least { AcceptedLeast ByAxioms }
 {}
 
 /// What is accepted isn't rejected, and what is rejected is so with one number.
 pub fn law_rejected()
-    ensures not_both { AcceptedNotRejected Instance }
-    ensures once { RejectedOnce Instance }
+    ensures not_both { AcceptedNotRejected ByAxioms }
+    ensures once { RejectedOnce ByAxioms }
 {}

@@ -3,7 +3,7 @@
 //! This layer stands on `pv_scalar`, `pv_loopax`, `pv_heapax` and `pv_choiceax`, which have the tables and the laws of
 //! their axioms, and on `pv_steps`, in which the axioms are a relation. `specs/Entries` puts the tables together: the
 //! core is the first three (`core_axioms`), and all four are `axioms`. It makes that relation of all of them: two nodes
-//! are the sides of an instance of the axiom with a number (`Instance`). So there is one theory, whichever axioms a
+//! are the sides of an instance of the axiom with a number (`Instance`; `ByAxioms` as a relation of rules, of which no lemma is one). So there is one theory, whichever axioms a
 //! search goes by: those of the core, or all.
 //!
 //! `Axioms` holds the tables: `tables` shows them, which one after the other are `axioms`; `axiom` gives exactly the

@@ -87,6 +87,7 @@ head_name head.CallEnd = codes "callend"
 head_name head.CallRes = codes "callres"
 head_name head.CallFault = codes "callfault"
 head_name head.CallHeap = codes "callheap"
+head_name head.Var = codes "var"
 
 abbrev pub sort_name : OpSort → List ℕ
 sort_name sort.I = codes "I"
@@ -111,6 +112,7 @@ kind_name kind.Short = codes "Short"
 abbrev pub row_name : Row → List ℕ
 row_name row.Node = codes "node"
 row_name row.Axiom = codes "axiom"
+row_name row.Use = codes "use"
 row_name row.Flip = codes "flip"
 row_name row.Chain = codes "chain"
 row_name row.Set = codes "set"
@@ -190,6 +192,7 @@ heads =
     ∷ head.CallRes
     ∷ head.CallFault
     ∷ head.CallHeap
+    ∷ head.Var
     ∷ []
 
 abbrev pub sorts : List OpSort
@@ -199,7 +202,7 @@ abbrev pub kinds : List Kind
 kinds = kind.Int ∷ kind.Long ∷ kind.Ref ∷ kind.Byte ∷ kind.Char ∷ kind.Short ∷ []
 
 abbrev pub rows : List Row
-rows = row.Node ∷ row.Axiom ∷ row.Flip ∷ row.Chain ∷ row.Set ∷ row.Open ∷ row.Close ∷ row.Assume ∷ row.Finish ∷ []
+rows = row.Node ∷ row.Axiom ∷ row.Use ∷ row.Flip ∷ row.Chain ∷ row.Set ∷ row.Open ∷ row.Close ∷ row.Assume ∷ row.Finish ∷ []
 
 -- ---- as words
 

@@ -9,7 +9,7 @@ use Rattle.pv_format.specs.Combinators.{nothing}
 use Rattle.pv_format.specs.Choices.{Case, choice}
 use Rattle.pv_token.specs.Words.{Phrase}
 use Rattle.pv_cert.specs.Names.{scalar_name, head_name, head_token}
-use Rattle.pv_cert.specs.Parameters.{number, int, long, text, kind, sym, argument}
+use Rattle.pv_cert.specs.Parameters.{number, int, long, text, kind, sym, variable, argument}
 
 abbrev pub op_words : Op → List (List ℕ)
 op_words (op.Int c) = codes "int" ∷ int.spells c
@@ -49,6 +49,7 @@ op_words (op.CallEnd s) = codes "callend" ∷ sym.spells s
 op_words (op.CallRes s) = codes "callres" ∷ sym.spells s
 op_words (op.CallFault s) = codes "callfault" ∷ sym.spells s
 op_words (op.CallHeap s) = codes "callheap" ∷ sym.spells s
+op_words (op.Var j s) = codes "var" ∷ variable.spells (j, s)
 
 -- the numbers and the texts of an operation that are those of its types
 abbrev pub OpFits : Op → Type 0
@@ -70,6 +71,7 @@ OpFits (op.CallEnd s) = sym.fits s
 OpFits (op.CallRes s) = sym.fits s
 OpFits (op.CallFault s) = sym.fits s
 OpFits (op.CallHeap s) = sym.fits s
+OpFits (op.Var j s) = variable.fits (j, s)
 OpFits _ = Unit {0}
 
 -- ---- how they are read
@@ -120,6 +122,7 @@ op_case head.CallEnd = with op.CallEnd sym
 op_case head.CallRes = with op.CallRes sym
 op_case head.CallFault = with op.CallFault sym
 op_case head.CallHeap = with op.CallHeap sym
+op_case head.Var = with (λ p. op.Var p.0 p.1) variable
 
 -- each operation has a name
 pub each_op : (o : Op) → (h : Head) × (x : (op_case h).Held) × ((op_case h).make x ≡ o)
@@ -160,6 +163,7 @@ each_op (op.CallEnd x) = (head.CallEnd, x, refl)
 each_op (op.CallRes x) = (head.CallRes, x, refl)
 each_op (op.CallFault x) = (head.CallFault, x, refl)
 each_op (op.CallHeap x) = (head.CallHeap, x, refl)
+each_op (op.Var j s) = (head.Var, (j, s), refl)
 
 pub op_spelled : (h : Head) (x : (op_case h).Held) → op_words ((op_case h).make x) ≡ head_name h ∷ (op_case h).words.spells x
 op_spelled head.Int x = refl

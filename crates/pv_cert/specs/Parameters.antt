@@ -1,5 +1,5 @@
 -- The parameters of operations, as words.
-use Rattle.std.specs.Prelude.{ℕ, ℤ, List, refl}
+use Rattle.std.specs.Prelude.{◌≡◌, ℕ, ℤ, List, [], Option, Some, None, refl}
 use Rattle.pv_value.specs.declared.heap.Kind.{Kind}
 use Rattle.pv_value.specs.declared.name.Sym.{Sym}
 use Rattle.pv_graph.specs.declared.node.OpSort.{OpSort}
@@ -36,3 +36,20 @@ sym = seen_as sym_of of_sym (λ s. refl) (λ p. refl) (pair text (pair text text
 -- the number and the sort of an argument
 abbrev pub argument : Phrase (ℕ × OpSort)
 argument = pair number (one sort_token)
+
+abbrev pub takes_nothing : List (List ℕ) → Option ((ℕ × OpSort) × List (List ℕ))
+takes_nothing words = None
+
+pub nothing_taken : (words : List (List ℕ)) (v : ℕ × OpSort) (rest : List (List ℕ)) → takes_nothing words ≡ Some (v, rest) → ⊥ × (words ≡ rest)
+nothing_taken words v rest e = absurd (cc)
+
+-- the number and the sort of a variable, which no words spell: it stands in no certificate
+abbrev pub variable : Phrase (ℕ × OpSort)
+variable = record {
+  fits = λ v. ⊥;
+  spells = λ v. [];
+  takes = takes_nothing;
+  again = λ v rest fits. absurd fits;
+  back = nothing_taken;
+  proper = λ v fits. absurd fits;
+}

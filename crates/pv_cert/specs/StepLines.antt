@@ -26,7 +26,7 @@ use Rattle.pv_cert.specs.SetLaws
 abbrev pub node_words : Sentence (ℕ × (Op × List ℕ))
 node_words = follow number (follow op_phrase (each u32_token))
 
--- A a b NODES
+-- A a b NODES; L a b NODES
 abbrev pub axiom_words : Sentence (ℕ × (ℕ × (ℕ × List ℕ)))
 axiom_words = follow number (follow number (follow number (each u32_token)))
 
@@ -61,6 +61,7 @@ finish_words = follow number (follow number (exactly (pair (pair (one reason_tok
 abbrev pub step_words : Step → List (List ℕ)
 step_words (steps.Node n o kids) = codes "node" ∷ node_words.spells (n, (o, kids))
 step_words (steps.Axiom number a b nodes) = codes "axiom" ∷ axiom_words.spells (number, (a, (b, nodes)))
+step_words (steps.Use number a b nodes) = codes "use" ∷ axiom_words.spells (number, (a, (b, nodes)))
 step_words (steps.Flip a b f) = codes "flip" ∷ flip_words.spells (a, (b, f))
 step_words (steps.Chain a b f g) = codes "chain" ∷ chain_words.spells (a, (b, (f, g)))
 step_words (steps.Set pairs) = codes "set" ∷ set_words.spells pairs
@@ -73,6 +74,7 @@ step_words (steps.Finish p q t f r h) = codes "finish" ∷ finish_words.spells (
 abbrev pub StepFits : Step → Type 0
 StepFits (steps.Node n o kids) = node_words.fits (n, (o, kids))
 StepFits (steps.Axiom number a b nodes) = axiom_words.fits (number, (a, (b, nodes)))
+StepFits (steps.Use number a b nodes) = axiom_words.fits (number, (a, (b, nodes)))
 StepFits (steps.Flip a b f) = flip_words.fits (a, (b, f))
 StepFits (steps.Chain a b f g) = chain_words.fits (a, (b, (f, g)))
 StepFits (steps.Set pairs) = set_words.fits pairs
@@ -90,6 +92,7 @@ with {X} make words = record { Held = X; make = make; words = words }
 abbrev pub step_case : Row → Case Sentence Step
 step_case row.Node = with (λ p. steps.Node p.0 p.1.0 p.1.1) node_words
 step_case row.Axiom = with (λ p. steps.Axiom p.0 p.1.0 p.1.1.0 p.1.1.1) axiom_words
+step_case row.Use = with (λ p. steps.Use p.0 p.1.0 p.1.1.0 p.1.1.1) axiom_words
 step_case row.Flip = with (λ p. steps.Flip p.0 p.1.0 p.1.1) flip_words
 step_case row.Chain = with (λ p. steps.Chain p.0 p.1.0 p.1.1.0 p.1.1.1) chain_words
 step_case row.Set = with steps.Set set_words
@@ -101,6 +104,7 @@ step_case row.Finish = with (λ p. steps.Finish p.0 p.1.0 p.1.1.0.0 p.1.1.0.1 p.
 each_step : (s : Step) → (r : Row) × (x : (step_case r).Held) × ((step_case r).make x ≡ s)
 each_step (steps.Node n o kids) = (row.Node, (n, (o, kids)), refl)
 each_step (steps.Axiom number a b nodes) = (row.Axiom, (number, (a, (b, nodes))), refl)
+each_step (steps.Use number a b nodes) = (row.Use, (number, (a, (b, nodes))), refl)
 each_step (steps.Flip a b f) = (row.Flip, (a, (b, f)), refl)
 each_step (steps.Chain a b f g) = (row.Chain, (a, (b, (f, g))), refl)
 each_step (steps.Set pairs) = (row.Set, pairs, refl)

@@ -100,6 +100,7 @@ fn take_params<'w>(
         Head::CallRes => Ok(take_sym(alloc, words)?.map(|(s, rest)| (Op::CallRes(s), rest))),
         Head::CallFault => Ok(take_sym(alloc, words)?.map(|(s, rest)| (Op::CallFault(s), rest))),
         Head::CallHeap => Ok(take_sym(alloc, words)?.map(|(s, rest)| (Op::CallHeap(s), rest))),
+        Head::Var => Ok(None),
     }
 }
 

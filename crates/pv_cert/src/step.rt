@@ -53,6 +53,25 @@ fn read_axiom<'w>(alloc: Global, words: &'w [&'w [u8]]) -> Result<Option<Step>, 
     Ok(Some(Step::Axiom(number, a, b, nodes)))
 }
 
+// L a b NODES
+fn read_use<'w>(alloc: Global, words: &'w [&'w [u8]]) -> Result<Option<Step>, Memory>
+    ensures { IfOk result (λ r. r ≡ row_words rows.Use (texts words.now)) }
+{
+    let Some((number, words)) = take::<Number>(words) else {
+        return Ok(None);
+    };
+    let Some((a, words)) = take::<Number>(words) else {
+        return Ok(None);
+    };
+    let Some((b, words)) = take::<Number>(words) else {
+        return Ok(None);
+    };
+    let Some(nodes) = read_numbers(alloc, words)? else {
+        return Ok(None);
+    };
+    Ok(Some(Step::Use(number, a, b, nodes)))
+}
+
 // a b F
 fn read_flip<'w>(words: &'w [&'w [u8]]) -> Option<Step>
     ensures { result ≡ row_words rows.Flip (texts words.now) }
@@ -181,6 +200,7 @@ fn read_row<'w>(alloc: Global, row: Row, words: &'w [&'w [u8]]) -> Result<Option
     match row {
         Row::Node => read_node(alloc, words),
         Row::Axiom => read_axiom(alloc, words),
+        Row::Use => read_use(alloc, words),
         Row::Flip => Ok(read_flip(words)),
         Row::Chain => Ok(read_chain(words)),
         Row::Set => read_set(alloc, words),

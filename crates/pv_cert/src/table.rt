@@ -48,6 +48,7 @@ pub enum Head {
     CallRes,
     CallFault,
     CallHeap,
+    Var,
 }
 
 /// The row of a step.
@@ -55,6 +56,7 @@ pub enum Head {
 pub enum Row {
     Node,
     Axiom,
+    Use,
     Flip,
     Chain,
     Set,
@@ -64,7 +66,7 @@ pub enum Row {
     Finish,
 }
 
-static HEADS: [Head; 69] = [
+static HEADS: [Head; 70] = [
     Head::Int,
     Head::Long,
     Head::Null,
@@ -134,6 +136,7 @@ static HEADS: [Head; 69] = [
     Head::CallRes,
     Head::CallFault,
     Head::CallHeap,
+    Head::Var,
 ];
 
 static SORTS: [OpSort; 8] = [
@@ -156,9 +159,10 @@ static KINDS: [Kind; 6] = [
     Kind::Short,
 ];
 
-static ROWS: [Row; 9] = [
+static ROWS: [Row; 10] = [
     Row::Node,
     Row::Axiom,
+    Row::Use,
     Row::Flip,
     Row::Chain,
     Row::Set,
@@ -250,6 +254,7 @@ fn head_name(head: Head) -> &'static [u8]
         Head::CallRes => b"callres",
         Head::CallFault => b"callfault",
         Head::CallHeap => b"callheap",
+        Head::Var => b"var",
     }
 }
 
@@ -290,6 +295,7 @@ fn row_name(row: Row) -> &'static [u8]
     match row {
         Row::Node => b"node",
         Row::Axiom => b"axiom",
+        Row::Use => b"use",
         Row::Flip => b"flip",
         Row::Chain => b"chain",
         Row::Set => b"set",

@@ -70,6 +70,7 @@ fn head(op: &Op) -> Head
         Op::CallRes(_) => Head::CallRes,
         Op::CallFault(_) => Head::CallFault,
         Op::CallHeap(_) => Head::CallHeap,
+        Op::Var(_, _) => Head::Var,
     }
 }
 
@@ -122,6 +123,7 @@ fn push_params(alloc: Global, out: &mut Vec<u8>, op: &Op) -> Result<(), AllocErr
         Op::CallRes(x) => push_sym(alloc, out, x),
         Op::CallFault(x) => push_sym(alloc, out, x),
         Op::CallHeap(x) => push_sym(alloc, out, x),
+        Op::Var(_, _) => Ok(()),
     }
 }
 

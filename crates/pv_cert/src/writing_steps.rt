@@ -160,6 +160,7 @@ pub fn row(step: &Step) -> Row
     match step {
         Step::Node(_, _, _) => Row::Node,
         Step::Axiom(_, _, _, _) => Row::Axiom,
+        Step::Use(_, _, _, _) => Row::Use,
         Step::Flip(_, _, _) => Row::Flip,
         Step::Chain(_, _, _, _) => Row::Chain,
         Step::Set(_) => Row::Set,
@@ -177,6 +178,7 @@ pub fn push_row(alloc: Global, out: &mut Vec<u8>, step: &Step) -> Result<(), All
     match step {
         Step::Node(n, op, kids) => push_node(alloc, out, *n, op, kids),
         Step::Axiom(number, a, b, nodes) => push_axiom(out, *number, (*a, *b), nodes),
+        Step::Use(number, a, b, nodes) => push_axiom(out, *number, (*a, *b), nodes),
         Step::Flip(a, b, f) => push_flip(out, *a, *b, *f),
         Step::Chain(a, b, f, g) => push_chain(out, *a, *b, *f, *g),
         Step::Set(list) => push_congruences(out, list.as_slice()),

@@ -2,7 +2,7 @@
 
 ghost use Rattle.std.specs.Prelude.{◌≡◌, ◌≢◌, ◌<◌, ℕ, [], IfOk, length, Some};
 ghost use Rattle.std.specs.List.{AllByRecursion};
-ghost use Rattle.pv_axioms.specs.Entries.{Instance};
+ghost use Rattle.pv_axioms.specs.Entries.{ByAxioms};
 ghost use Rattle.pv_cert.specs.StepLines.{StepFits};
 ghost use Rattle.pv_endings.specs.Endings.{IsRootOver};
 ghost use Rattle.pv_endings.specs.declared.root.RootParts as parts;
@@ -47,7 +47,7 @@ fn steps_for_roots(
     requires apart { least.now.first ≢ least.now.second }
     requires made { HaveMadeSome least.now searches.now }
     requires met { MeetIn least.now searches.now (Some Roots) }
-    ensures { IfOk result (λ steps. Derives Instance least.now.graph least.now.first least.now.second steps) }
+    ensures { IfOk result (λ steps. Derives ByAxioms least.now.graph least.now.first least.now.second steps) }
 {
     let plain = made_by(&searches.plain);
     section(alloc, least.graph(), &plain, least.first(), least.second())
@@ -83,7 +83,7 @@ fn root_pair(least: &Least) -> RootPair
 fn steps_for_kids(alloc: Global, least: &Least, searches: &Searches) -> Result<Listed<Step>, Memory>
     requires made { HaveMadeSome least.now searches.now }
     requires met { MeetIn least.now searches.now (Some Kids) }
-    ensures { IfOk result (λ steps. Derives Instance least.now.graph least.now.first least.now.second steps) }
+    ensures { IfOk result (λ steps. Derives ByAxioms least.now.graph least.now.first least.now.second steps) }
 {
     let roots = root_pair(least);
     let ending = searches.ending();
@@ -107,7 +107,7 @@ pub fn certify(
     requires first { least.now.first < length least.now.graph.nodes }
     requires second { least.now.second < length least.now.graph.nodes }
     requires met { HaveMet least.now searches.now meeting }
-    ensures derives { IfOk result (λ steps. Derives Instance least.now.graph least.now.first least.now.second steps) }
+    ensures derives { IfOk result (λ steps. Derives ByAxioms least.now.graph least.now.first least.now.second steps) }
     ensures lean { IfOk result (λ steps. IsLean steps) }
     ensures spelled { IfOk result (λ steps. AllByRecursion StepFits steps) }
     ensures none { IfOk result (λ steps. least.now.first ≡ least.now.second → steps ≡ []) }
@@ -126,7 +126,7 @@ fn steps_for(
     requires first { least.now.first < length least.now.graph.nodes }
     requires second { least.now.second < length least.now.graph.nodes }
     requires met { HaveMet least.now searches.now meeting }
-    ensures { IfOk result (λ steps. Derives Instance least.now.graph least.now.first least.now.second steps) }
+    ensures { IfOk result (λ steps. Derives ByAxioms least.now.graph least.now.first least.now.second steps) }
 {
     if least.first() == least.second() {
         return Ok(Listed::from(Vec::new(alloc)));

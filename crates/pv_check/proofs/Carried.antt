@@ -6,10 +6,10 @@ use Rattle.pv_graph.specs.Graphs.{Graph}
 use Rattle.pv_steps.specs.declared.step.Step.TheVariants as steps
 use Rattle.pv_steps.specs.declared.step.Fact.{Fact}
 use Rattle.pv_steps.specs.declared.step.Step.{Step}
-use Rattle.pv_steps.specs.declared.step.Step.TheVariants.{Axiom, Flip, Chain, Set, Open, Close, Assume, Finish}
+use Rattle.pv_steps.specs.declared.step.Step.TheVariants.{Axiom, Use, Flip, Chain, Set, Open, Close, Assume, Finish}
 use Rattle.pv_steps.specs.Steps.{OpenBlock, assumed_in, open_after}
 use Rattle.pv_steps.specs.Right.{AddsNode, ClosesPair, RightOver}
-use Rattle.pv_axioms.specs.Entries.{Instance}
+use Rattle.pv_axioms.specs.Entries.{ByAxioms}
 use Rattle.pv_axioms.proofs.Cited.{same_instance}
 
 abbrev pub prepared_as : Graph → Bool → Graph
@@ -38,11 +38,12 @@ closes g p before d inside outer (q ∷ qs) (f ∷ fs) h = (
 )
 
 pub adds_same : (g new : Graph) (p : Bool) (n : ℕ) → (o : Op) (kids : List ℕ) → AddsNode g n o kids new → AddsNode (prepared_as g p) n o kids new
-adds_same g new p n o kids a = record { number = a.number; room = a.room; smaller = a.smaller; fits = (a.fits.0, record { sorts = a.fits.1.sorts; kids_have = a.fits.1.kids_have; over = a.fits.1.over }); ranged = a.ranged; absent = a.absent; grown = a.grown }
+adds_same g new p n o kids a = record { number = a.number; room = a.room; smaller = a.smaller; fits = (a.fits.0, record { sorts = a.fits.1.sorts; kids_have = a.fits.1.kids_have; over = a.fits.1.over }); ranged = a.ranged; plain_ = a.plain_; absent = a.absent; grown = a.grown }
 
-pub right_same : (g : Graph) (p : Bool) (before : List Step) (s : Step) → RightOver Instance g before s → RightOver Instance (prepared_as g p) before s
+pub right_same : (g : Graph) (p : Bool) (before : List Step) (s : Step) → RightOver ByAxioms g before s → RightOver ByAxioms (prepared_as g p) before s
 right_same g p before (steps.Node n o kids) h = (h.0, adds_same g h.0 p n o kids h.1)
 right_same g p before (Axiom n a b nodes) h = (same_instance g (prepared_as g p) refl (assumed_in (open_after before)) n nodes a b).0 h
+right_same g p before (Use n a b nodes) h = h
 right_same g p before (Flip a b f) h = h
 right_same g p before (Chain a b f k) h = h
 right_same g p before (Set cs) h = λ c m. let r = h c m in record { o = r.o; lefts = r.lefts; rights = r.rights; left = r.left; right = r.right; kids = r.kids; depth = r.depth }

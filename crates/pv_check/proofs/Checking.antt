@@ -11,7 +11,7 @@ use Rattle.pv_steps.specs.declared.step.Step.{Step}
 use Rattle.pv_steps.specs.Right.{AddsNode, Grows, GraphAfter, Right, RightOver}
 use Rattle.pv_steps.specs.Accepted.{AllRight, IsConcluded, first_steps}
 use Rattle.pv_steps.proofs.Cited.{after_same, graph_there}
-use Rattle.pv_axioms.specs.Entries.{Instance}
+use Rattle.pv_axioms.specs.Entries.{ByAxioms}
 use Rattle.pv_check.specs.Growth.{GrowsTo}
 use Rattle.pv_check.specs.Kept.{AreKept}
 use Rattle.pv_check.specs.Checking.{IsPiece, IsReplayed, IsSoFar}
@@ -21,11 +21,11 @@ use Rattle.pv_check.proofs.Fronts.{next_first}
 back : (now graph : Graph) → IsSame now graph → prepared_as graph now.is_prepared ≡ now
 back now graph e = ap (λ (g : Graph). prepared_as g now.is_prepared) e
 
-over_now : (now graph : Graph) → IsSame now graph → (before : List Step) (s : Step) → RightOver Instance graph before s → RightOver Instance now before s
-over_now now graph e before s h = subst (λ (g : Graph). RightOver Instance g before s) (back now graph e) (right_same graph now.is_prepared before s h)
+over_now : (now graph : Graph) → IsSame now graph → (before : List Step) (s : Step) → RightOver ByAxioms graph before s → RightOver ByAxioms now before s
+over_now now graph e before s h = subst (λ (g : Graph). RightOver ByAxioms g before s) (back now graph e) (right_same graph now.is_prepared before s h)
 
-over_graph : (now graph : Graph) → IsSame now graph → (before : List Step) (s : Step) → RightOver Instance now before s → RightOver Instance graph before s
-over_graph now graph e before s h = subst (λ (g : Graph). RightOver Instance g before s) (sym e) (right_same now graph.is_prepared before s h)
+over_graph : (now graph : Graph) → IsSame now graph → (before : List Step) (s : Step) → RightOver ByAxioms now before s → RightOver ByAxioms graph before s
+over_graph now graph e before s h = subst (λ (g : Graph). RightOver ByAxioms g before s) (sym e) (right_same now graph.is_prepared before s h)
 
 record Next (s : Step) (now new : Graph) : Type 0 where
   pub next : Graph
@@ -44,6 +44,7 @@ carry (steps.Node n o kids) now graph new e h = record {
   sealed = ap (λ (g : Graph). g.is_open) h.1.grown ∙ ap (λ (g : Graph). g.is_open) e;
 }
 carry (steps.Axiom n a b nodes) now graph new e h = record { next = now; grows = refl; same = stays now graph new h.0 e h.1 h.2; sealed = refl }
+carry (steps.Use n a b nodes) now graph new e h = record { next = now; grows = refl; same = stays now graph new h.0 e h.1 h.2; sealed = refl }
 carry (steps.Flip a b f) now graph new e h = record { next = now; grows = refl; same = stays now graph new h.0 e h.1 h.2; sealed = refl }
 carry (steps.Chain a b f k) now graph new e h = record { next = now; grows = refl; same = stays now graph new h.0 e h.1 h.2; sealed = refl }
 carry (steps.Set cs) now graph new e h = record { next = now; grows = refl; same = stays now graph new h.0 e h.1 h.2; sealed = refl }
@@ -71,26 +72,26 @@ replays g graph new section n innermost innermost' opened opened' h low d grows 
 
 -- a step is right exactly where it is so over the graph of the moment
 pub is_right : (g graph : Graph) (section : List Step) (n : ℕ) (innermost : List ℕ) (opened : List Bool) → IsReplayed g section n innermost opened graph → (s : Step)
-    → RightOver Instance graph (first_steps n section) s ↔ Right Instance g (first_steps n section) s
+    → RightOver ByAxioms graph (first_steps n section) s ↔ Right ByAxioms g (first_steps n section) s
 is_right g graph section n innermost opened h s = (
   λ r. (h.now, h.after, over_now h.now graph h.same (first_steps n section) s r),
-  λ r. over_graph h.now graph h.same (first_steps n section) s (subst (λ (x : Graph). RightOver Instance x (first_steps n section) s) (after_same g (first_steps n section) r.0 h.now r.1 h.after) r.2),
+  λ r. over_graph h.now graph h.same (first_steps n section) s (subst (λ (x : Graph). RightOver ByAxioms x (first_steps n section) s) (after_same g (first_steps n section) r.0 h.now r.1 h.after) r.2),
 )
 
 pub goes_on : (g graph new : Graph) (section : List Step) (a n : ℕ) (innermost innermost' : List ℕ) (opened opened' : List Bool) → IsSoFar g section a n innermost opened graph → n < length section → (d : Step)
-    → RightOver Instance graph (first_steps n section) (get_or section n d) → GrowsTo (get_or section n d) graph new → AreKept (take n section ++ get_or section n d ∷ []) innermost' opened' → IsSoFar g section a (suc n) innermost' opened' new
+    → RightOver ByAxioms graph (first_steps n section) (get_or section n d) → GrowsTo (get_or section n d) graph new → AreKept (take n section ++ get_or section n d ∷ []) innermost' opened' → IsSoFar g section a (suc n) innermost' opened' new
 goes_on g graph new section a n innermost innermost' opened opened' h low d right grows kept =
     let s : Step = get_or section n d in
     let first : first_steps (suc n) section ≡ s ∷ first_steps n section = next_first section n s (slice_get-get_or section n d low) in
     record {
       replayed = replays g graph new section n innermost innermost' opened opened' h.replayed low d grows kept;
-      right = λ front. subst (λ (q : List Step). AllRight Instance g q) (sym first) ((is_right g graph section n innermost opened h.replayed s).0 right, h.right front);
+      right = λ front. subst (λ (q : List Step). AllRight ByAxioms g q) (sym first) ((is_right g graph section n innermost opened h.replayed s).0 right, h.right front);
     }
 
 -- ---- what a piece answers
 
 pub is_wrong : (l : Rooted) (graph : Graph) (section : List Step) (a b n : ℕ) (innermost : List ℕ) (opened : List Bool) → IsSoFar l.graph section a n innermost opened graph → n < length section → (d : Step)
-    → (RightOver Instance graph (first_steps n section) (get_or section n d) → ⊥) → (m : ℕ) → m ≡ suc n → IsPiece l section a b (Some m)
+    → (RightOver ByAxioms graph (first_steps n section) (get_or section n d) → ⊥) → (m : ℕ) → m ≡ suc n → IsPiece l section a b (Some m)
 is_wrong l graph section a b n innermost opened h low d wrong m e = λ front. record {
   before = n;
   number = e;
@@ -105,7 +106,7 @@ pub all_kept : (g graph : Graph) (section : List Step) (a n : ℕ) (innermost : 
 all_kept g graph section a n innermost opened h e = subst (λ (q : List Step). AreKept q innermost opened) (all_steps section n e) h.replayed.kept
 
 pub no_number : (l : Rooted) (graph : Graph) (section : List Step) (a b n : ℕ) (innermost : List ℕ) (opened : List Bool) → IsSoFar l.graph section a n innermost opened graph → n ≡ b → (b ≡ length section → IsConcluded (reverse section) l.first l.second) → IsPiece l section a b None
-no_number l graph section a b n innermost opened h e c = λ front. (subst (λ (m : ℕ). AllRight Instance l.graph (first_steps m section)) e (h.right front), c)
+no_number l graph section a b n innermost opened h e c = λ front. (subst (λ (m : ℕ). AllRight ByAxioms l.graph (first_steps m section)) e (h.right front), c)
 
 pub not_concluded : (l : Rooted) (graph : Graph) (section : List Step) (a b n : ℕ) (innermost : List ℕ) (opened : List Bool) → IsSoFar l.graph section a n innermost opened graph → n ≡ length section → (IsConcluded (reverse section) l.first l.second → ⊥) → (m : ℕ) → m ≡ suc n → IsPiece l section a b (Some m)
 not_concluded l graph section a b n innermost opened h e c m f = λ front. record {
@@ -117,4 +118,4 @@ not_concluded l graph section a b n innermost opened h e c m f = λ front. recor
 
 -- after steps that are right there is a graph, so a piece whose front has none may answer anything
 pub no_front : (l : Rooted) (section : List Step) (a b : ℕ) → ((now : Graph) → GraphAfter l.graph (first_steps a section) now → ⊥) → (number : Option ℕ) → IsPiece l section a b number
-no_front l section a b none number = λ front. let there = graph_there Instance l.graph (first_steps a section) front in absurd (none there.0 there.1)
+no_front l section a b none number = λ front. let there = graph_there ByAxioms l.graph (first_steps a section) front in absurd (none there.0 there.1)

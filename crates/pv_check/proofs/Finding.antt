@@ -10,7 +10,7 @@ use Rattle.pv_steps.specs.declared.step.Step.TheVariants as steps
 use Rattle.pv_steps.specs.declared.step.Fact.{Fact}
 use Rattle.pv_steps.specs.declared.step.Step.{Step}
 use Rattle.pv_steps.specs.declared.step.Congruence.{Congruence}
-use Rattle.pv_steps.specs.declared.step.Step.TheVariants.{Axiom, Flip, Chain, Set, Open, Close, Assume, Finish}
+use Rattle.pv_steps.specs.declared.step.Step.TheVariants.{Axiom, Use, Flip, Chain, Set, Open, Close, Assume, Finish}
 use Rattle.pv_steps.specs.Steps.{Block, OpenBlock, both_sides, numbered, pairs_of, Stated, states, open_after, stated_at, equality_of, AreOpen}
 use Rattle.pv_steps.specs.Accepted.{first_steps}
 use Rattle.pv_check.specs.declared.seen.Found.{Found}
@@ -110,6 +110,7 @@ at_place xs (suc j) h = ap (slice_get xs) (omega arith)
 pub step_pairs_are : (section : List Step) (k : ℕ) → k ≤ length section → (s : Step) → (states s (suc k) (blocks_at section k)).pairs ≡ step_pairs s (opened_pairs section (number_of (blocks_at section k)))
 step_pairs_are section k low (steps.Node n o kids) = refl
 step_pairs_are section k low (Axiom n a b nodes) = refl
+step_pairs_are section k low (Use n a b nodes) = refl
 step_pairs_are section k low (Flip a b f) = refl
 step_pairs_are section k low (Chain a b f g) = refl
 step_pairs_are section k low (Set cs) = refl

@@ -5,6 +5,7 @@ use Rattle.std.proofs.Common.{inl, inr, sym, ap, ◌∙◌, subst, arith}
 use Rattle.std.proofs.lemmas.Option.{slice_get_within}
 use Rattle.pv_graph.specs.declared.node.Op.{Op}
 use Rattle.pv_graph.specs.declared.node.Node.{Node}
+use Rattle.pv_graph.specs.Ops.{is_variable}
 use Rattle.pv_graph.specs.Nodes.{node_of, IsAbsent}
 use Rattle.pv_graph.specs.Graphs.{Graph}
 use Rattle.pv_graph.specs.Calls.{IsSame, AreNodes, MayAdd, Added, appended}
@@ -34,8 +35,8 @@ at_last (z ∷ xs) x y (suc m) e = go (at_last xs x y m e)
     go (inr h) = inr (ap suc h)
 
 -- where it gives the number n, the node is new
-pub is_new : (old new : Graph) (n : ℕ) (o : Op) (kids : List ℕ) → MayBeNext old n kids → Added old new o kids n → NodeAdded old new n o kids
-is_new old new n o kids h a = go a.grows
+pub is_new : (old new : Graph) (n : ℕ) (o : Op) (kids : List ℕ) → is_variable o ≡ false → MayBeNext old n kids → Added old new o kids n → NodeAdded old new n o kids
+is_new old new n o kids plain_ h a = go a.grows
   where
     room : (n : ℕ) → n < 2 ^ 32 - 1 → n + 1 < 2 ^ 32
     room n r = omega (arith, r)
@@ -48,7 +49,7 @@ is_new old new n o kids h a = go a.grows
         absurd (omega (arith, low, number))
     go (inr grown) = (
       appended old (node_of o kids) a.fits.0 false,
-      record { number = h.0; room = room n h.1.0; smaller = next_nodes old n kids h; fits = a.fits; ranged = a.graph.ranged n (node_of o kids) a.first.there; absent = grown.0; grown = refl },
+      record { number = h.0; room = room n h.1.0; smaller = next_nodes old n kids h; fits = a.fits; ranged = a.graph.ranged n (node_of o kids) a.first.there; plain_ = plain_; absent = grown.0; grown = refl },
       grown.1,
     )
 

@@ -7,7 +7,7 @@ use Rattle.pv_graph.specs.Calls.{IsSame}
 use Rattle.pv_steps.specs.declared.step.Step.TheVariants as steps
 use Rattle.pv_steps.specs.declared.step.Step.{Step}
 use Rattle.pv_steps.specs.Right.{AddsNode, RightOver}
-use Rattle.pv_axioms.specs.Entries.{Instance}
+use Rattle.pv_axioms.specs.Entries.{ByAxioms}
 use Rattle.pv_check.specs.Growth.{NodeAdded, GrowsTo}
 use Rattle.pv_check.specs.Testing.{LeavesGraph}
 
@@ -30,7 +30,7 @@ always (Ok false) P p = tt
 always (Err e) P p = tt
 
 pub node_right : {E : Type 0} (r : Result Bool E) (g new : Graph) (before : List Step) (n : ℕ) (o : Op) (kids : List ℕ) → IfOk r (λ b. OnTrue b (NodeAdded g new n o kids)) → IfOk r (λ b. OnFalse b ((h : Graph) → AddsNode g n o kids h → ⊥))
-    → IfOk r (λ b. IsTrue b ↔ RightOver Instance g before (steps.Node n o kids))
+    → IfOk r (λ b. IsTrue b ↔ RightOver ByAxioms g before (steps.Node n o kids))
 node_right (Ok true) g new before n o kids h k = (λ e. (h.0, h.1), λ r. refl)
 node_right (Ok false) g new before n o kids h k = (λ e. absurd (cc), λ r. absurd (k r.0 r.1))
 node_right (Err e) g new before n o kids h k = tt

@@ -4,7 +4,7 @@ use Rattle.std.proofs.Common.{inl, inr, sym, ap, ◌∙◌, subst, arith, length
 use Rattle.std.proofs.lemmas.Option.{same_Some}
 use Rattle.pv_steps.specs.declared.step.Step.TheVariants as steps
 use Rattle.pv_steps.specs.declared.step.Step.{Step}
-use Rattle.pv_steps.specs.declared.step.Step.TheVariants.{Axiom, Flip, Chain, Set, Open, Close, Assume, Finish}
+use Rattle.pv_steps.specs.declared.step.Step.TheVariants.{Axiom, Use, Flip, Chain, Set, Open, Close, Assume, Finish}
 use Rattle.pv_steps.specs.Steps.{Block, Loop, Ending, OpenBlock, outer_of, states, open_after, AreOpen}
 use Rattle.pv_steps.specs.Accepted.{first_steps}
 use Rattle.pv_check.specs.Kept.{blocks_at}
@@ -41,6 +41,7 @@ pub are_opened : (before : List Step) (p : OpenBlock) (ps : List OpenBlock) → 
 are_opened [] p ps h = absurd (cc)
 are_opened (steps.Node n o kids ∷ before) p ps h = more (steps.Node n o kids) before p ps (are_opened before p ps h)
 are_opened (Axiom n a b nodes ∷ before) p ps h = more (Axiom n a b nodes) before p ps (are_opened before p ps h)
+are_opened (Use n a b nodes ∷ before) p ps h = more (Use n a b nodes) before p ps (are_opened before p ps h)
 are_opened (Flip a b f ∷ before) p ps h = more (Flip a b f) before p ps (are_opened before p ps h)
 are_opened (Chain a b f g ∷ before) p ps h = more (Chain a b f g) before p ps (are_opened before p ps h)
 are_opened (Set cs ∷ before) p ps h = more (Set cs) before p ps (are_opened before p ps h)

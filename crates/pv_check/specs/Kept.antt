@@ -4,7 +4,7 @@ use Rattle.std.specs.Prelude.{◌≡◌, ◌≢◌, ◌⊎◌, ◌↔◌, ℕ, z
 use Rattle.pv_steps.specs.declared.step.Step.TheVariants as steps
 use Rattle.pv_steps.specs.declared.step.Fact.{Fact}
 use Rattle.pv_steps.specs.declared.step.Step.{Step}
-use Rattle.pv_steps.specs.declared.step.Step.TheVariants.{Axiom, Flip, Chain, Set, Open, Close, Assume, Finish}
+use Rattle.pv_steps.specs.declared.step.Step.TheVariants.{Axiom, Use, Flip, Chain, Set, Open, Close, Assume, Finish}
 use Rattle.pv_steps.specs.Steps.{OpenBlock, outer_of, both_sides, open_after, equality_at, Equality, Shows}
 use Rattle.pv_steps.specs.Accepted.{first_steps}
 use Rattle.pv_check.specs.declared.seen.Found.{Found}
@@ -57,6 +57,7 @@ opened_pairs steps (suc k) = pairs_opened (slice_get steps k)
 abbrev pub step_pairs : Step → List (ℕ × ℕ) → List (ℕ × ℕ)
 step_pairs (steps.Node n o kids) inside = []
 step_pairs (Axiom n a b nodes) inside = (a, b) ∷ []
+step_pairs (Use n a b nodes) inside = (a, b) ∷ []
 step_pairs (Flip a b f) inside = (a, b) ∷ []
 step_pairs (Chain a b f g) inside = (a, b) ∷ []
 step_pairs (Set cs) inside = both_sides cs

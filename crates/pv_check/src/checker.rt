@@ -6,7 +6,7 @@ ghost use Rattle.pv_graph.specs.Graphs.{Graph};
 ghost use Rattle.pv_alike.specs.Least.{Rooted};
 ghost use Rattle.pv_steps.specs.declared.step.Step.{Step};
 ghost use Rattle.pv_steps.specs.Right.{GraphAfter, Grows, RightOver};
-ghost use Rattle.pv_axioms.specs.Entries.{Instance};
+ghost use Rattle.pv_axioms.specs.Entries.{ByAxioms};
 ghost use Rattle.pv_pieces.specs.Cut.{start_of};
 ghost use Rattle.pv_check.specs.Kept.{AreKept};
 ghost use Rattle.pv_check.specs.Growth.{GrowsTo};
@@ -41,7 +41,7 @@ fn advance(
 ) -> Result<bool, Memory>
     requires sealed { graph.old.is_open ≡ false }
     requires kept { AreKept before.now tables.old.innermost.items tables.old.opened.items }
-    ensures right { IfOk result (λ yes. IsTrue yes ↔ RightOver Instance graph.old (reverse before.now) step.now) }
+    ensures right { IfOk result (λ yes. IsTrue yes ↔ RightOver ByAxioms graph.old (reverse before.now) step.now) }
     ensures grows { IfOk result (λ yes. OnTrue yes (GrowsTo step.now graph.old graph.new)) }
     ensures kept { IfOk result (λ yes. OnTrue yes (AreKept (before.now ++ step.now ∷ []) tables.new.innermost.items tables.new.opened.items)) }
 {
@@ -259,8 +259,8 @@ impl<'a> Checker<'a> {
         alloc: Global,
     ) -> Result<Checked, Memory>
         requires sealed { self.now.least.now.graph.is_open ≡ false }
-        ensures accepts { IfOk result (λ answer. (answer ≡ Checked.Accepted) ↔ Derives Instance self.now.least.now.graph self.now.least.now.first self.now.least.now.second self.now.steps.now) }
-        ensures rejects { IfOk result (λ answer. (n : ℕ) → (answer ≡ Checked.Rejected n) ↔ Rejects Instance self.now.least.now.graph self.now.least.now.first self.now.least.now.second self.now.steps.now n) }
+        ensures accepts { IfOk result (λ answer. (answer ≡ Checked.Accepted) ↔ Derives ByAxioms self.now.least.now.graph self.now.least.now.first self.now.least.now.second self.now.steps.now) }
+        ensures rejects { IfOk result (λ answer. (n : ℕ) → (answer ≡ Checked.Rejected n) ↔ Rejects ByAxioms self.now.least.now.graph self.now.least.now.first self.now.least.now.second self.now.steps.now n) }
     {
         self.judge(workers, alloc)
     }

@@ -56,6 +56,7 @@ impl Seen<'_> {
     {
         match step {
             Step::Axiom(_, left, right, _) => *left == a && *right == b,
+            Step::Use(_, left, right, _) => *left == a && *right == b,
             Step::Flip(left, right, _) => *left == a && *right == b,
             Step::Chain(left, right, _, _) => *left == a && *right == b,
             Step::Finish(left, right, _, _, _, _) => *left == a && *right == b,

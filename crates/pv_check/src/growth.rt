@@ -45,6 +45,9 @@ pub(crate) fn grow(
     ensures yes { IfOk result (λ yes. OnTrue yes (NodeAdded graph.old graph.new n op.now kids.now)) }
     ensures no { IfOk result (λ yes. OnFalse yes ((new : Graph) → AddsNode graph.old n op.now kids.now new → ⊥)) }
 {
+    if op.is_variable() {
+        return Ok(false);
+    }
     if !may_add(graph, n, kids) {
         return Ok(false);
     }

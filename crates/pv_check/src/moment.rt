@@ -4,7 +4,7 @@ ghost use Rattle.std.specs.Prelude.{◌≡◌, ◌↔◌, IfOk, IsTrue, false, r
 ghost use Rattle.std.specs.Bool.{OnTrue, OnFalse};
 ghost use Rattle.pv_graph.specs.Graphs.{Graph};
 ghost use Rattle.pv_steps.specs.Right.{Grows, RightOver};
-ghost use Rattle.pv_axioms.specs.Entries.{Instance};
+ghost use Rattle.pv_axioms.specs.Entries.{ByAxioms};
 ghost use Rattle.pv_check.specs.Growth.{GrowsTo};
 
 use crate::growth::grow;
@@ -37,7 +37,7 @@ impl Seen<'_> {
         step: &Step,
     ) -> Result<bool, Memory>
         requires { graph.old.is_open ≡ false }
-        ensures right { IfOk result (λ yes. IsTrue yes ↔ RightOver Instance graph.old (reverse self.now.steps.now) step.now) }
+        ensures right { IfOk result (λ yes. IsTrue yes ↔ RightOver ByAxioms graph.old (reverse self.now.steps.now) step.now) }
         ensures grows { IfOk result (λ yes. OnTrue yes (GrowsTo step.now graph.old graph.new)) }
     {
         match step {

@@ -95,6 +95,7 @@ impl Seen<'_> {
             Step::Axiom(_, a, b, _) | Step::Flip(a, b, _) | Step::Chain(a, b, _, _) => {
                 only_pair(*a, *b, place)
             }
+            Step::Use(_, a, b, _) => only_pair(*a, *b, place),
             Step::Finish(a, b, _, _, _, _) => only_pair(*a, *b, place),
             Step::Set(congruences) => sides_at(congruences.as_slice(), place),
             Step::Open(_, pairs) => pair_at(pairs.as_slice(), place),

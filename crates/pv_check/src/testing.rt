@@ -2,7 +2,7 @@
 
 ghost use Rattle.std.specs.Prelude.{◌↔◌, IfOk, IsTrue, reverse};
 ghost use Rattle.pv_steps.specs.Right.{RightOver};
-ghost use Rattle.pv_axioms.specs.Entries.{Instance};
+ghost use Rattle.pv_axioms.specs.Entries.{ByAxioms};
 ghost use Rattle.pv_check.specs.Testing.{LeavesGraph};
 
 use crate::endings::RootReasons;
@@ -23,12 +23,13 @@ impl Seen<'_> {
         step: &Step,
     ) -> Result<bool, Memory>
         requires { LeavesGraph step.now }
-        ensures { IfOk result (λ yes. IsTrue yes ↔ RightOver Instance graph.now (reverse self.now.steps.now) step.now) }
+        ensures { IfOk result (λ yes. IsTrue yes ↔ RightOver ByAxioms graph.now (reverse self.now.steps.now) step.now) }
     {
         match step {
             Step::Axiom(number, a, b, nodes) => {
                 self.is_axiom(alloc, axioms, graph, *number, *a, *b, nodes.as_slice())
             }
+            Step::Use(_, _, _, _) => Ok(false),
             Step::Flip(a, b, fact) => Ok(self.shows(Within::Here, *fact, *b, *a)),
             Step::Chain(a, b, first, second) => Ok(self.is_chain(*a, *b, *first, *second)),
             Step::Set(congruences) => Ok(self.is_set(graph, congruences.as_slice())),

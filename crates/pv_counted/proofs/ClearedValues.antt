@@ -16,7 +16,7 @@ use Rattle.pv_graph.specs.declared.node.Op.TheVariants as op
 use Rattle.pv_graph.specs.declared.node.OpSort.{OpSort}
 use Rattle.pv_graph.specs.declared.node.OpSort.TheVariants.{T}
 use Rattle.pv_graph.specs.Nodes.{node_of}
-use Rattle.pv_graph.specs.Ops.{Shape, theta, eval, pass, shift, shape, HasSort}
+use Rattle.pv_graph.specs.Ops.{Shape, theta, eval, pass, shift, shape, is_variable, HasSort}
 use Rattle.pv_graph.specs.Forms.{form}
 use Rattle.pv_graph.specs.Walks.{In, Move, Edge, Walk, stop, step, KeepsRule}
 use Rattle.pv_graph.specs.Graphs.{Graph, form_of, form_at, IsUnfinished, IsGraph, IsRanged, IsWellMade}
@@ -150,7 +150,6 @@ module _ (g h : Graph) (counted : List ℕ) (made : IsWellMade g) (closed : g.is
       let long = c.long in
       record {
         long = ap length c.sorts ∙ is.long ∙ sym long;
-        small = let z = is.small in omega arith;
         base = let z = is.base in let y = c.base in omega arith;
         open_ = λ e. let z = c.open_ in absurd (cc (z, e, closed));
         sorted = sorted;
@@ -165,6 +164,10 @@ module _ (g h : Graph) (counted : List ℕ) (made : IsWellMade g) (closed : g.is
         ranged = λ n node e. elim (node_is n node e) [
           | inl z ↦ subst (λ (a : Node). IsRanged a.op) (sym z.1) tt
           | inr z ↦ is.ranged n node z
+        ];
+        variables = λ n node e high. let y = c.base in elim (node_is n node e) [
+          | inl z ↦ subst (λ (a : Node). is_variable a.op ≡ false) (sym z.1) refl
+          | inr z ↦ is.variables n node z (omega arith)
         ];
       }
 

@@ -1,6 +1,6 @@
 //! The cleared graph of a least graph.
 
-ghost use Rattle.std.specs.Prelude.{◌≡◌, ◌<◌, ◌↔◌, IsTrue, List, Some, false, length, slice_get, IfOk};
+ghost use Rattle.std.specs.Prelude.{◌≡◌, ◌<◌, ◌^◌, ◌↔◌, IsTrue, List, Some, false, length, slice_get, IfOk, vec_len};
 ghost use Rattle.pv_graph.specs.declared.node.OpSort.{OpSort};
 ghost use Rattle.pv_graph.specs.Graphs.{IsGraph, IsWellMade};
 ghost use Rattle.pv_graph.specs.Calls.{AreSorts, IsBase, IsDistinct, LeavesNoSortOpen};
@@ -42,7 +42,8 @@ fn replaced(alloc: Global, g: &Graph, n: NodeId, marks: &[bool]) -> Result<Node,
 // The nodes with units in place of marked tokens.
 fn all_replaced(alloc: Global, g: &Graph, marks: &[bool]) -> Result<Vec<Node>, Memory>
     requires { length marks.now ≡ length g.now.nodes }
-    ensures { IfOk result (λ nodes. AreReplaced g.now marks.now (length g.now.nodes) nodes.items) }
+    ensures replaced { IfOk result (λ nodes. AreReplaced g.now marks.now (length g.now.nodes) nodes.items) }
+    ensures few { IfOk result (λ nodes. vec_len nodes < 2 ^ 32) }
 {
     let mut nodes = Vec::new(alloc);
     for n in 0..g.len() {
@@ -56,6 +57,7 @@ fn cleared_nodes(alloc: Global, g: &Graph, counted: &[NodeId]) -> Result<Vec<Nod
     requires { IsGraph g.now }
     ensures clearing { IfOk result (λ nodes. IsClearing g.now counted.now (with_nodes g.now nodes.items)) }
     ensures within { IfOk result (λ nodes. KidsAreNodes nodes.items) }
+    ensures few { IfOk result (λ nodes. vec_len nodes < 2 ^ 32) }
 {
     let settled = g.settled_marks(alloc, counted)?;
     let nodes = all_replaced(alloc, g, &settled)?;

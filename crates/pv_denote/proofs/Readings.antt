@@ -14,6 +14,7 @@ use Rattle.pv_value.specs.declared.world.World.{World}
 use Rattle.pv_value.specs.declared.outcome.Input.{Input}
 use Rattle.pv_graph.specs.declared.node.Op.{Op}
 use Rattle.pv_graph.specs.declared.node.Op.TheVariants as op
+use Rattle.pv_graph.specs.declared.node.OpSort.{OpSort}
 use Rattle.pv_denote.specs.Denote.{numbers, strict}
 use Rattle.pv_denote.specs.Given.{Gives, Stops, leaf_of, num_in}
 use Rattle.pv_denote.specs.declared.stop.Stop.{Stop}
@@ -94,7 +95,7 @@ none_at : (w : World) (x : Input) (o p : Op) (vs : List Val) → o ≡ p → str
 none_at w x o p vs e h = subst (λ (q : Op). strict w x q vs ≡ None) (sym e) h
 
 pub none_gives : (w : World) (x : Input) (o : Op) (vs : List Val)
-    → (o ≡ op.Never) ⊎ ((o ≡ op.Phi) ⊎ (((d : ℕ) × (o ≡ op.Theta d)) ⊎ (((d : ℕ) × (o ≡ op.Eval d)) ⊎ (((d : ℕ) × (o ≡ op.Pass d)) ⊎ (((d : ℕ) × (o ≡ op.Shift d)) ⊎ (o ≡ op.Root)))))) → strict w x o vs ≡ None
+    → (o ≡ op.Never) ⊎ ((o ≡ op.Phi) ⊎ (((d : ℕ) × (o ≡ op.Theta d)) ⊎ (((d : ℕ) × (o ≡ op.Eval d)) ⊎ (((d : ℕ) × (o ≡ op.Pass d)) ⊎ (((d : ℕ) × (o ≡ op.Shift d)) ⊎ ((o ≡ op.Root) ⊎ ((j : ℕ) × (s : OpSort) × (o ≡ op.Var j s)))))))) → strict w x o vs ≡ None
 unfolding strict
 none_gives w x o vs (inl e) = none_at w x o op.Never vs e refl
 none_gives w x o vs (inr (inl e)) = none_at w x o op.Phi vs e refl
@@ -102,4 +103,5 @@ none_gives w x o vs (inr (inr (inl e))) = none_at w x o (op.Theta e.0) vs e.1 re
 none_gives w x o vs (inr (inr (inr (inl e)))) = none_at w x o (op.Eval e.0) vs e.1 refl
 none_gives w x o vs (inr (inr (inr (inr (inl e))))) = none_at w x o (op.Pass e.0) vs e.1 refl
 none_gives w x o vs (inr (inr (inr (inr (inr (inl e)))))) = none_at w x o (op.Shift e.0) vs e.1 refl
-none_gives w x o vs (inr (inr (inr (inr (inr (inr e)))))) = none_at w x o op.Root vs e refl
+none_gives w x o vs (inr (inr (inr (inr (inr (inr (inl e))))))) = none_at w x o op.Root vs e refl
+none_gives w x o vs (inr (inr (inr (inr (inr (inr (inr e))))))) = none_at w x o (op.Var e.0 e.1) vs e.2 refl

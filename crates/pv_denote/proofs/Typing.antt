@@ -548,4 +548,5 @@ module _ (w : World) (x : Input) (world : IsWorld w) (input : IsInput x) where
   strict_is (op.CallRes sy) r ss s vs e p h = callres_is sy ss s vs e h
   strict_is (op.CallFault sy) r ss s vs e p h = part_of (op.CallFault sy) sy F fault_part (λ reply m heap q. given false F (val.Fault (reply_fault reply)) (fault_gives sy reply q)) ss s vs e h
   strict_is (op.CallHeap sy) r ss s vs e p h = part_of (op.CallHeap sy) sy H heap_part (λ reply m heap q. given false H (val.Heap (reply_heap m reply)) (heap_gives sy reply m heap q)) ss s vs e h
+  strict_is (op.Var j q) r ss s vs e p h = leaf (op.Var j q) q ss s vs e h (inl (refl, refl))
   strict_is o r ss s vs e p h = absurd (cc)

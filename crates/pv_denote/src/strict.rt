@@ -66,7 +66,8 @@ impl Setting<'_> {
             | Op::Eval(_)
             | Op::Pass(_)
             | Op::Shift(_)
-            | Op::Root => Err(Stop::NoValue),
+            | Op::Root
+            | Op::Var(..) => Err(Stop::NoValue),
         }
     }
 

@@ -225,9 +225,10 @@ of_op (op.CallEnd s) = (33 ∷ []) ∷ of_symbol s
 of_op (op.CallRes s) = (34 ∷ []) ∷ of_symbol s
 of_op (op.CallFault s) = (35 ∷ []) ∷ of_symbol s
 of_op (op.CallHeap s) = (36 ∷ []) ∷ of_symbol s
+of_op (op.Var j s) = (37 ∷ []) ∷ (j ∷ of_sort s ∷ []) ∷ []
 
 abbrev op_at : ℕ → Code → Op
-op_at n c = if n == 0 then op.Int (number (first c)) else if n == 1 then op.Long (number (first c)) else if n == 2 then op.Null else if n == 3 then op.Literal (first c) else if n == 4 then op.Param (at_0 (first c)) (sort_of (at_1 (first c))) else if n == 5 then op.This else if n == 6 then op.Heap0 else if n == 7 then op.Unit else if n == 8 then op.Never else if n == 9 then op.Clear else if n == 10 then op.FNull else if n == 11 then op.FArith else if n == 12 then op.FIndex else if n == 13 then op.Zero else if n == 14 then op.Succ else if n == 15 then op.Thrown else if n == 16 then op.IsClear else if n == 17 then op.Both else if n == 18 then op.Phi else if n == 19 then op.Theta (at_0 (first c)) else if n == 20 then op.Eval (at_0 (first c)) else if n == 21 then op.Pass (at_0 (first c)) else if n == 22 then op.Shift (at_0 (first c)) else if n == 23 then op.Root else if n == 24 then op.Scalar (scalar_of (at_0 (first c))) else if n == 25 then op.Aeq else if n == 26 then op.GetStatic (symbol c) else if n == 27 then op.PutStatic (symbol c) else if n == 28 then op.GetField (symbol c) else if n == 29 then op.PutField (symbol c) else if n == 30 then op.Load (kind_of (at_0 (first c))) else if n == 31 then op.Store (kind_of (at_0 (first c))) else if n == 32 then op.Length else if n == 33 then op.CallEnd (symbol c) else if n == 34 then op.CallRes (symbol c) else if n == 35 then op.CallFault (symbol c) else op.CallHeap (symbol c)
+op_at n c = if n == 0 then op.Int (number (first c)) else if n == 1 then op.Long (number (first c)) else if n == 2 then op.Null else if n == 3 then op.Literal (first c) else if n == 4 then op.Param (at_0 (first c)) (sort_of (at_1 (first c))) else if n == 5 then op.This else if n == 6 then op.Heap0 else if n == 7 then op.Unit else if n == 8 then op.Never else if n == 9 then op.Clear else if n == 10 then op.FNull else if n == 11 then op.FArith else if n == 12 then op.FIndex else if n == 13 then op.Zero else if n == 14 then op.Succ else if n == 15 then op.Thrown else if n == 16 then op.IsClear else if n == 17 then op.Both else if n == 18 then op.Phi else if n == 19 then op.Theta (at_0 (first c)) else if n == 20 then op.Eval (at_0 (first c)) else if n == 21 then op.Pass (at_0 (first c)) else if n == 22 then op.Shift (at_0 (first c)) else if n == 23 then op.Root else if n == 24 then op.Scalar (scalar_of (at_0 (first c))) else if n == 25 then op.Aeq else if n == 26 then op.GetStatic (symbol c) else if n == 27 then op.PutStatic (symbol c) else if n == 28 then op.GetField (symbol c) else if n == 29 then op.PutField (symbol c) else if n == 30 then op.Load (kind_of (at_0 (first c))) else if n == 31 then op.Store (kind_of (at_0 (first c))) else if n == 32 then op.Length else if n == 33 then op.CallEnd (symbol c) else if n == 34 then op.CallRes (symbol c) else if n == 35 then op.CallFault (symbol c) else if n == 36 then op.CallHeap (symbol c) else op.Var (at_0 (first c)) (sort_of (at_1 (first c)))
 
 abbrev pub op_of : Code → Op
 op_of c = op_at (at_0 (first c)) (rest c)
@@ -270,6 +271,7 @@ op_back (op.CallEnd s) = refl
 op_back (op.CallRes s) = refl
 op_back (op.CallFault s) = refl
 op_back (op.CallHeap s) = refl
+op_back (op.Var j s) = ap (op.Var j) (sort_back s)
 
 pub operation : (a b : Op) → (a ≡ b) ⊎ (a ≢ b)
 operation a b = by_code of_op op_of op_back a b

@@ -18,7 +18,7 @@ use Rattle.pv_steps.specs.declared.step.Reason.TheVariants.{Same}
 use Rattle.pv_steps.specs.declared.step.Step.TheVariants.{Open, Close}
 use Rattle.pv_steps.specs.Steps.{AreOpen, Loop, OpenBlock, blocks, outer_of, assumed_in, Shows}
 use Rattle.pv_steps.specs.Right.{AreOfOneSort, ClosesPair, IsFresh, RightOver}
-use Rattle.pv_axioms.specs.Entries.{Instance}
+use Rattle.pv_axioms.specs.Entries.{ByAxioms}
 use Rattle.pv_classes.specs.declared.join.Join.{Join}
 use Rattle.pv_classes.specs.Blocks.{Block, depth_of, inner_of, joins_of, listed, pairs_of}
 use Rattle.pv_classes.specs.Grounds.{Context, IsDeeper, IsStep, JoinsGround, BlockGround, depths}
@@ -257,7 +257,7 @@ all_copies_sort w s d z outer source (pair ∷ pairs) (b ∷ begun) one h p (inl
 all_copies_sort w s d z outer source (pair ∷ pairs) (b ∷ begun) one h p (inr m) = all_copies_sort w s d z outer source pairs begun (λ x y c. one x y (in_rest pairs pair (x, y) c)) h.1 p m
 
 pub open_right : (w : Written) (s : Source) (level : Level) (b : Block) (begun : List Begun) (outer : List OpenBlock) (list : List (ℕ × ℕ)) → list ≡ both_copies begun → BlockStands w s level b → AreBegun w outer s (depth_of b) (pairs_of b) begun
-    → RightOver Instance w.graph w.before (Open (depth_of b) list)
+    → RightOver ByAxioms w.graph w.before (Open (depth_of b) list)
 open_right w s level b begun outer list e h all =
     let deeper = block_deeper s.graph.now.nodes (IsGiven s.graph.now h.assumed) h.ctx h.before b h.ground in (
       deep_is (depth_of b) deeper.least deeper.most,
@@ -417,7 +417,7 @@ closes_all w outer s d z (pair ∷ pairs) (b ∷ begun) (f ∷ fs) h k = (
 )
 
 pub block_close_right : (old new : Written) (s : Source) (d : ℕ) (pairs : List (ℕ × ℕ)) (begun : List Begun) (fs : List (Fact × Fact)) → GoesOn old new → IsInside old d begun → AreBegun old (outer_of (inside old)) s d pairs begun → AllZip (GoOn new) begun fs
-    → RightOver Instance new.graph new.before (Close d fs)
+    → RightOver ByAxioms new.graph new.before (Close d fs)
 block_close_right old new s d pairs begun fs goes is h k =
     let all = begun_later old new (outer_of (inside old)) s d h.0 pairs begun goes.later (λ f m n r. fact_goes old new f m n goes r) h.1 in
     close_right new d is.0 (both_copies begun) (outer_of (inside old)) fs (goes.blocks ∙ is.1) (closes_all new (outer_of (inside old)) s d h.0 pairs begun fs all k)

@@ -13,7 +13,7 @@ use Rattle.pv_steps.specs.Steps.{OpenBlock, blocks, open_after, assumed_in, stat
 use Rattle.pv_steps.specs.Right.{IsFresh}
 use Rattle.pv_steps.specs.Accepted.{AllRight, IsConcluded, Derives}
 use Rattle.pv_steps.proofs.Cited.{in_numbered}
-use Rattle.pv_axioms.specs.Entries.{Instance}
+use Rattle.pv_axioms.specs.Entries.{ByAxioms}
 use Rattle.pv_classes.specs.declared.join.Join.{Join}
 use Rattle.pv_classes.specs.Blocks.{Block}
 use Rattle.pv_classes.specs.Grounds.{JoinsGround}
@@ -105,14 +105,14 @@ concludes w f a b last outside shows =
     )
 
 -- so the section is accepted
-pub derives : (w : Written) (f : Fact) (a b : ℕ) (steps : List Step) → AllRight Instance w.least w.before → reverse steps ≡ w.before → f.step ≡ length w.before → inside w ≡ [] → IsFact w f a b → Derives Instance w.least a b steps
+pub derives : (w : Written) (f : Fact) (a b : ℕ) (steps : List Step) → AllRight ByAxioms w.least w.before → reverse steps ≡ w.before → f.step ≡ length w.before → inside w ≡ [] → IsFact w f a b → Derives ByAxioms w.least a b steps
 derives w f a b steps right order last outside shows =
-    subst (λ (bs : List Step). AllRight Instance w.least bs × IsConcluded bs a b) (sym order) (right, concludes w f a b last outside shows)
+    subst (λ (bs : List Step). AllRight ByAxioms w.least bs × IsConcluded bs a b) (sym order) (right, concludes w f a b last outside shows)
 
-pub section_derives : (w : Written) (least : Graph) (a b : ℕ) (steps : List Step) → w.least ≡ least → AllRight Instance w.least (reverse steps) → reverse steps ≡ w.before → inside w ≡ [] → HasLast w a b → Derives Instance least a b steps
+pub section_derives : (w : Written) (least : Graph) (a b : ℕ) (steps : List Step) → w.least ≡ least → AllRight ByAxioms w.least (reverse steps) → reverse steps ≡ w.before → inside w ≡ [] → HasLast w a b → Derives ByAxioms least a b steps
 section_derives w least a b steps is right order none last =
-    subst (λ (g : Graph). Derives Instance g a b steps) is
-    (derives w last.fact a b steps (subst (AllRight Instance w.least) order right) order last.last none last.shows)
+    subst (λ (g : Graph). Derives ByAxioms g a b steps) is
+    (derives w last.fact a b steps (subst (AllRight ByAxioms w.least) order right) order last.last none last.shows)
 
 -- before any step no block is open
 pub no_blocks : (w : Written) → w.before ≡ [] → inside w ≡ []

@@ -16,7 +16,7 @@ use Rattle.pv_steps.specs.declared.step.Step.TheVariants.{Assume, Finish}
 use Rattle.pv_steps.specs.Steps.{OpenBlock, blocks, assumed_in, open_after, Shows}
 use Rattle.pv_steps.specs.Right.{Gives, IsFresh, MayBeAssumed, RootKids, RightOver}
 use Rattle.pv_steps.proofs.Growing.{closed_kept, spine_kept}
-use Rattle.pv_axioms.specs.Entries.{Instance}
+use Rattle.pv_axioms.specs.Entries.{ByAxioms}
 use Rattle.pv_endings.specs.declared.root.RootParts.{RootParts}
 use Rattle.pv_endings.specs.Endings.{IsEnding, IsRootOver, WaitsFor}
 use Rattle.pv_writer.specs.Written.{Written, inside, IsLater, Pushed}
@@ -97,8 +97,8 @@ endings_low g p nodes h n m = let a = (h n m).1 in slice_get_within g.nodes n (n
 
 -- ---- a block is opened
 
-pub assume_right : (w : Written) (p : ℕ) (nodes list : List ℕ) → inside w ≡ [] → WaitsFor w.graph p nodes → list ≡ nodes → RightOver Instance w.graph w.before (Assume p list)
-assume_right w p nodes list none h e = subst (λ (ns : List ℕ). RightOver Instance w.graph w.before (Assume p ns)) (sym e) (record { outside = none; root = h.root; each = h.each })
+pub assume_right : (w : Written) (p : ℕ) (nodes list : List ℕ) → inside w ≡ [] → WaitsFor w.graph p nodes → list ≡ nodes → RightOver ByAxioms w.graph w.before (Assume p list)
+assume_right w p nodes list none h e = subst (λ (ns : List ℕ). RightOver ByAxioms w.graph w.before (Assume p ns)) (sym e) (record { outside = none; root = h.root; each = h.each })
 
 -- ---- inside it
 
@@ -118,7 +118,7 @@ outer_gives old new (Pair j) a b none later h = h
 -- ---- it is ended
 
 pub finish_right : (w : Written) (p q : ℕ) (k l : RootParts) (nodes : List ℕ) (t f r h : Reason) → IsInBlock w p nodes → IsRootOver w.graph p k → IsRootOver w.graph q l → Gives w.before [] [] t k.token l.token → Gives w.before (inside w) [] f k.fault l.fault
-    → Gives w.before (inside w) [] r k.result l.result → Gives w.before (inside w) [] h k.heap l.heap → RightOver Instance w.graph w.before (Finish p q t f r h)
+    → Gives w.before (inside w) [] r k.result l.result → Gives w.before (inside w) [] h k.heap l.heap → RightOver ByAxioms w.graph w.before (Finish p q t f r h)
 finish_right w p q k l nodes t f r h b left right tokens faults results heaps = record {
   opened = b.opened;
   nodes = nodes;

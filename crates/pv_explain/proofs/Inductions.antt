@@ -17,7 +17,7 @@ use Rattle.pv_scalar.specs.Table.{scalar_axioms}
 use Rattle.pv_loopax.specs.Table.{rule, eval, theta, shift, zero_, single, shifts, evals, family, loop_axioms}
 use Rattle.pv_heapax.specs.Table.{heap_axioms}
 use Rattle.pv_choiceax.specs.Table.{choice_axioms}
-use Rattle.pv_axioms.specs.Entries.{core_axioms, axioms, IsEntry, Instance}
+use Rattle.pv_axioms.specs.Entries.{core_axioms, axioms, IsEntry, ByAxioms, Instance}
 use Rattle.pv_steps.specs.declared.step.Fact.{Fact}
 use Rattle.pv_steps.specs.declared.step.Step.{Step}
 use Rattle.pv_steps.specs.declared.step.Step.TheVariants.{Open, Close}
@@ -105,7 +105,7 @@ opened_pair old new d n j a b pairs h at =
 -- ---- it is closed
 
 pub close_right : (w : Written) (d opened : ℕ) (pairs : List (ℕ × ℕ)) (outer : List OpenBlock) (fs : List (Fact × Fact)) → inside w ≡ record { opened = opened; block = Loop d pairs } ∷ outer → AllZip (ClosesPair w.graph w.before d (inside w) outer) pairs fs
-    → RightOver Instance w.graph w.before (Close d fs)
+    → RightOver ByAxioms w.graph w.before (Close d fs)
 close_right w d opened pairs outer fs at h = record { opened = opened; pairs = pairs; outer = outer; innermost = at; each = h }
 
 pub closes_blocks : (old new : Written) (d n opened : ℕ) (pairs : List (ℕ × ℕ)) (outer : List OpenBlock) (fs : List (Fact × Fact)) → Pushed old new (Close d fs) n → inside old ≡ record { opened = opened; block = Loop d pairs } ∷ outer

@@ -5,7 +5,7 @@ ghost use Rattle.pv_graph.specs.Graphs.{IsGraph};
 ghost use Rattle.pv_steps.specs.Steps.{assumed_in};
 ghost use Rattle.pv_steps.specs.Right.{Gives};
 ghost use Rattle.pv_steps.specs.Accepted.{Derives};
-ghost use Rattle.pv_axioms.specs.Entries.{Instance};
+ghost use Rattle.pv_axioms.specs.Entries.{ByAxioms};
 ghost use Rattle.pv_writer.specs.Written.{GoesOn, inside};
 ghost use Rattle.pv_explain.specs.Sections.{HasLinked, IsGrounded, IsGrown};
 ghost use Rattle.pv_explain.specs.Copying.{HasBase};
@@ -170,7 +170,7 @@ pub fn section(
     requires first { a < length least.now.nodes }
     requires second { b < length least.now.nodes }
     requires apart { a ≢ b }
-    ensures { IfOk result (λ steps. Derives Instance least.now a b steps) }
+    ensures { IfOk result (λ steps. Derives ByAxioms least.now a b steps) }
 {
     let mut writer = Writer::new(alloc, least)?;
     let why = explain(alloc, &mut writer, search, least.len(), a, b)?;

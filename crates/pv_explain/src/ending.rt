@@ -6,7 +6,7 @@ ghost use Rattle.pv_graph.specs.Walks.{In};
 ghost use Rattle.pv_steps.specs.Steps.{assumed_in};
 ghost use Rattle.pv_steps.specs.Right.{Gives};
 ghost use Rattle.pv_steps.specs.Accepted.{Derives};
-ghost use Rattle.pv_axioms.specs.Entries.{Instance};
+ghost use Rattle.pv_axioms.specs.Entries.{ByAxioms};
 ghost use Rattle.pv_endings.specs.Endings.{IsEnding, IsRootOver, WaitsFor};
 ghost use Rattle.pv_writer.specs.Written.{GoesOn, IsLater, inside};
 ghost use Rattle.pv_explain.specs.Sections.{HasLinked, IsGrounded, IsGrown};
@@ -123,7 +123,7 @@ pub fn ending_section(
     requires faults { HasLinked both.now.ending roots.now.left.fault roots.now.right.fault }
     requires results { HasLinked both.now.ending roots.now.left.result roots.now.right.result }
     requires heaps { HasLinked both.now.ending roots.now.left.heap roots.now.right.heap }
-    ensures { IfOk result (λ steps. Derives Instance least.now roots.now.first roots.now.second steps) }
+    ensures { IfOk result (λ steps. Derives ByAxioms least.now roots.now.first roots.now.second steps) }
 {
     let base = least.len();
     let mut writer = Writer::new(alloc, least)?;

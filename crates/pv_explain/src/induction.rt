@@ -4,7 +4,7 @@ ghost use Rattle.std.specs.Prelude.{◌≡◌, ℕ, ◌∷◌, [], IfOk, suc};
 ghost use Rattle.std.specs.List.{AllZip, Contains};
 ghost use Rattle.pv_steps.specs.Steps.{blocks, outer_of};
 ghost use Rattle.pv_steps.specs.Right.{IsFresh, RightOver};
-ghost use Rattle.pv_axioms.specs.Entries.{Instance};
+ghost use Rattle.pv_axioms.specs.Entries.{ByAxioms};
 ghost use Rattle.pv_classes.specs.Blocks.{depth_of, inner_of, joins_of, listed, pairs_of};
 ghost use Rattle.pv_writer.specs.Written.{AreCongruent, GoesOn, Pushed, States, inside};
 ghost use Rattle.pv_explain.specs.Lines.{AreStated, IsLevel, IsSource};
@@ -182,7 +182,7 @@ fn copies_of_pairs(alloc: Global, begun: &[Begun]) -> Result<Vec<(NodeId, NodeId
 
 // Opens an induction, and gives the number of the step.
 fn push_open(writer: &mut Writer, depth: u32, pairs: Vec<(NodeId, NodeId)>) -> Result<u32, Memory>
-    requires { RightOver Instance writer.old.graph writer.old.before (Step.Open depth pairs.items) }
+    requires { RightOver ByAxioms writer.old.graph writer.old.before (Step.Open depth pairs.items) }
     ensures { IfOk result (λ step. Pushed writer.old writer.new (Step.Open depth pairs.items) step) }
 {
     let step = writer.push(Step::Open(depth, Listed::from(pairs)))?;
@@ -257,7 +257,7 @@ fn all_next_facts(
 
 // Ends an induction, and gives the number of the step.
 fn push_close(writer: &mut Writer, depth: u32, facts: Vec<(Fact, Fact)>) -> Result<u32, Memory>
-    requires { RightOver Instance writer.old.graph writer.old.before (Step.Close depth facts.items) }
+    requires { RightOver ByAxioms writer.old.graph writer.old.before (Step.Close depth facts.items) }
     ensures { IfOk result (λ step. Pushed writer.old writer.new (Step.Close depth facts.items) step) }
 {
     let step = writer.push(Step::Close(depth, Listed::from(facts)))?;

@@ -1,6 +1,6 @@
 -- A graph with one node more.
-use Rattle.std.specs.Prelude.{◌≡◌, ◌≢◌, ◌⊎◌, ℕ, ◌+◌, ◌<◌, ◌^◌, Bool, true, false, List, [], ◌∷◌, ◌++◌, length, Some, None, slice_get, if◌then◌else◌, refl}
-use Rattle.std.proofs.Common.{inl, inr, sym, ap, ◌∙◌, subst, arith, length-append, take, get_or}
+use Rattle.std.specs.Prelude.{◌≡◌, ◌≢◌, ◌⊎◌, ℕ, ◌+◌, ◌<◌, Bool, true, false, List, [], ◌∷◌, ◌++◌, length, Some, None, slice_get, if◌then◌else◌, refl}
+use Rattle.std.proofs.Common.{inl, inr, sym, ap, ◌∙◌, subst, arith, length-append, take, get_or, ◌≤◌, false}
 use Rattle.std.proofs.lemmas.List.{take_more, length-take-le}
 use Rattle.std.proofs.lemmas.Option.{slice_get_within}
 use Rattle.pv_graph.specs.declared.node.Op.{Op}
@@ -8,7 +8,7 @@ use Rattle.pv_graph.specs.declared.node.OpSort.{OpSort}
 use Rattle.pv_graph.specs.declared.node.Node.{Node}
 use Rattle.pv_graph.proofs.Elements.{get_front, get_last, push_cases}
 use Rattle.pv_graph.specs.Nodes.{IsOpen, IsFirst, IsAbsent}
-use Rattle.pv_graph.specs.Ops.{HaveSorts, HasSort}
+use Rattle.pv_graph.specs.Ops.{HaveSorts, HasSort, is_variable}
 use Rattle.pv_graph.specs.Walks.{In}
 use Rattle.pv_graph.specs.Graphs.{Graph, IsUnfinished, IsRanged, IsGraph}
 use Rattle.pv_graph.specs.Calls.{appended}
@@ -121,36 +121,42 @@ module _ (g : Graph) (node : Node) (s : OpSort) (is : IsGraph g) (new : IsNew g 
       | inr last ↦ subst (λ (z : Node). IsRanged z.op) last.1 ranged
     ]
 
-    after_length : length after.nodes ≡ length g.nodes + 1
+    new_variables : (g.is_open ≡ false → is_variable node.op ≡ false) → (n : ℕ) (y : Node) → slice_get after.nodes n ≡ Some y → g.base ≤ n → g.is_open ≡ false → is_variable y.op ≡ false
+    new_variables none n y at high closed = elim (push_cases g.nodes node y n (ap (λ (xs : List Node). slice_get xs n) (sym nodes_) ∙ at)) [
+      | inl old ↦ is.variables n y old high
+      | inr last ↦ subst (λ (z : Node). is_variable z.op ≡ false) last.1 (none closed)
+    ]
+
+    pub after_length : length after.nodes ≡ length g.nodes + 1
     after_length = ap (λ (xs : List Node). length xs) nodes_ ∙ length-append g.nodes (node ∷ [])
 
     after_long : length after.sorts ≡ length after.nodes
     after_long = ap (λ (xs : List OpSort). length xs) sorts_ ∙ length-append g.sorts (s ∷ []) ∙ ap (λ (n : ℕ). n + 1) is.long ∙ sym after_length
 
-    pub is_graph : IsRanged node.op → length g.nodes + 1 < 2 ^ 32 → (b : Bool) → g.is_open ≡ b → after.base ≡ (if b then length g.nodes + 1 else g.base) → IsGraph after
-    is_graph ranged small true open_ base = record {
+    pub is_graph : IsRanged node.op → (g.is_open ≡ false → is_variable node.op ≡ false) → (b : Bool) → g.is_open ≡ b → after.base ≡ (if b then length g.nodes + 1 else g.base) → IsGraph after
+    is_graph ranged none true open_ base = record {
       long = after_long;
-      small = omega (arith, after_length);
       base = omega (arith, after_length);
       open_ = λ e. base ∙ sym after_length;
       sorted = new_sorted;
       early = λ n k y at low m. elim (kid_old n k y at m) [ inl old ↦ (let z = kid_within g is n k y old.0 m in omega arith) | inr last ↦ omega arith ];
       late = λ n k y at high m. (let z = slice_get_within after.nodes n y at in let e = after_length in absurd (omega arith));
       ranged = new_ranged ranged;
+      variables = λ n y at high. (let z = slice_get_within after.nodes n y at in let e = after_length in absurd (omega arith));
     }
-    is_graph ranged small false closed base = record {
+    is_graph ranged none false closed base = record {
       long = after_long;
-      small = omega (arith, after_length);
       base = (let z = is.base in let e = after_length in omega arith);
       open_ = λ e. absurd (let z = same in cc);
       sorted = new_sorted;
       early = λ n k y at low m. (let z = is.base in elim (kid_old n k y at m) [ inl old ↦ (let r = is.early n k y old.0 (omega arith) m in omega arith) | inr last ↦ absurd (omega arith) ]);
       late = λ n k y at high m. elim (kid_old n k y at m) [ inl old ↦ is.late n k y old.0 (omega arith) m | inr last ↦ omega arith ];
       ranged = new_ranged ranged;
+      variables = λ n y at high. new_variables none n y at (subst (λ (k : ℕ). k ≤ n) base high) closed;
     }
 
-  pub appended_graph : (prepared : Bool) → IsRanged node.op → length g.nodes + 1 < 2 ^ 32 → IsGraph (appended g node s prepared)
-  appended_graph prepared ranged small = is_graph (appended g node s prepared) refl refl refl ranged small g.is_open refl refl
+  pub appended_graph : (prepared : Bool) → IsRanged node.op → (g.is_open ≡ false → is_variable node.op ≡ false) → IsGraph (appended g node s prepared)
+  appended_graph prepared ranged none = is_graph (appended g node s prepared) refl refl refl ranged none g.is_open refl refl
 
 -- ---- an index made node by node
 

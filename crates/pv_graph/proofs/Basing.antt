@@ -1,5 +1,5 @@
 -- The sorts of a base: what the nodes take is what they have, wherever a list of sorts fits them.
-use Rattle.std.specs.Prelude.{◌≡◌, ◌≢◌, ◌⊎◌, ◌↔◌, ℕ, zero, suc, ◌+◌, ◌<◌, ◌≤◌, ◌^◌, Bool, true, false, ◌==◌, List, [], ◌∷◌, ◌++◌, map, length, Option, Some, None, slice_get, slice_set, refl}
+use Rattle.std.specs.Prelude.{◌≡◌, ◌≢◌, ◌⊎◌, ◌↔◌, ℕ, zero, suc, ◌+◌, ◌<◌, ◌≤◌, Bool, true, false, ◌==◌, List, [], ◌∷◌, ◌++◌, map, length, Option, Some, None, slice_get, slice_set, refl}
 use Rattle.std.specs.List.{range_with_len}
 use Rattle.std.proofs.Common.{inl, inr, sym, ap, ◌∙◌, subst, arith, get_or, take, length-append}
 use Rattle.std.proofs.lemmas.Bool.Decides.{nat_tests}
@@ -106,6 +106,7 @@ comes_from (op.CallFault y) ss s e =
 comes_from (op.CallHeap y) ss s e =
     let c = bind_some (call_sorts y) (λ c. exactly c.kids H ss) s e in
     fixed (op.CallHeap y) c.0.kids H ss s refl c.2
+comes_from (op.Var j t) ss s e = fixed (op.Var j t) [] t ss s refl e
 
 -- an operation with a sort of its own takes none
 no_source : (o : Op) (s : OpSort) (p : ℕ) → own_sort o ≡ Some s → is_source o p ≡ true → ⊥
@@ -406,14 +407,14 @@ fit_all nodes all i long done fit = record { long = long; each = λ n node s at 
 
 -- ---- the graph
 
-pub base_graph : (nodes : List Node) (sorts : List OpSort) → length nodes < 2 ^ 32 → AreSorts nodes sorts → AreRanged nodes → IsGraph (graph_of nodes sorts false (length nodes) None)
-base_graph nodes sorts small are ranged = record {
+pub base_graph : (nodes : List Node) (sorts : List OpSort) → AreSorts nodes sorts → AreRanged nodes → IsGraph (graph_of nodes sorts false (length nodes) None)
+base_graph nodes sorts are ranged = record {
   long = are.long;
-  small = small;
   base = omega arith;
   open_ = λ e. absurd (cc);
   sorted = λ n node s at at_s. inl (are.each n node s at at_s);
   early = λ n k node at low m. let p = place_of node.kids k m in sorts_within nodes sorts are n node at p.0 k p.1;
   late = λ n k node at high m. absurd (let z = slice_get_within nodes n node at in omega arith);
   ranged = ranged;
+  variables = λ n node at high. (let z = slice_get_within nodes n node at in absurd (omega arith));
 }

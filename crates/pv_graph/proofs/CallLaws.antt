@@ -1,6 +1,6 @@
 -- What the calls of a graph keep.
 use Rattle.std.specs.Prelude.{◌≡◌, ◌⊎◌, ℕ, zero, suc, ◌<◌, List, [], ◌∷◌, ◌++◌, length, Some, slice_get, refl}
-use Rattle.std.proofs.Common.{inl, inr, sym, ap, ◌∙◌, subst, arith, lit<, lit≤}
+use Rattle.std.proofs.Common.{inl, inr, sym, ap, ◌∙◌, subst, arith, lit≤}
 use Rattle.std.proofs.lemmas.Option.{slice_get_within, same_Some}
 use Rattle.pv_graph.specs.declared.node.Op.{Op}
 use Rattle.pv_graph.specs.declared.node.Op.TheVariants as op
@@ -27,13 +27,13 @@ pub empty_made : IsWellMade empty_graph
 empty_made = record {
   graph = record {
     long = refl;
-    small = lit< tt;
     base = lit≤ tt;
     open_ = λ e. refl;
     sorted = λ n node s e f. nothing_there _ n node e;
     early = λ n k node e l m. nothing_there _ n node e;
     late = λ n k node e l m. nothing_there _ n node e;
     ranged = λ n node e. nothing_there _ n node e;
+    variables = λ n node e high. nothing_there _ n node e;
   };
   rule = λ n m ms w. no_walk n m ms n w;
 }

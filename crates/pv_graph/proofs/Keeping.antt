@@ -1,19 +1,19 @@
 -- What a graph keeps beside its nodes stays right.
 use Rattle.std.specs.Prelude.{◌≡◌, ℕ, ◌+◌, ◌<◌, ◌^◌, Bool, List, [], ◌∷◌, ◌++◌, length, Option, Some, None, if◌then◌else◌, refl}
-use Rattle.std.proofs.Common.{inl, inr, sym, ap, ◌∙◌, subst, arith}
+use Rattle.std.proofs.Common.{inl, inr, sym, ap, ◌∙◌, subst, arith, false}
 use Rattle.std.proofs.lemmas.Option.{slice_get_within, same_Some}
 use Rattle.pv_graph.specs.declared.node.Op.{Op}
 use Rattle.pv_graph.specs.declared.node.Node.{Node}
 use Rattle.pv_graph.specs.declared.node.OpSort.{OpSort}
 use Rattle.pv_graph.specs.declared.prepared.Prepared.{Prepared}
 use Rattle.pv_graph.specs.Nodes.{node_of, IsOpen, IsFirst, IsAbsent}
-use Rattle.pv_graph.specs.Ops.{sort_over, HaveSorts, HasSort}
+use Rattle.pv_graph.specs.Ops.{sort_over, HaveSorts, HasSort, is_variable}
 use Rattle.pv_graph.specs.Graphs.{Graph, IsRanged, IsGraph}
 use Rattle.pv_graph.proofs.Elements.{found}
 use Rattle.pv_graph.specs.Calls.{MayAdd, FitsOver, Added, appended}
 use Rattle.pv_graph.specs.Index.{Numbers, number_in, Renumbers, IsIndex}
 use Rattle.pv_graph.specs.Kept.{graph_of, IsKept}
-use Rattle.pv_graph.proofs.Appending.{index_same, index_push, first_last, is_graph}
+use Rattle.pv_graph.proofs.Appending.{index_same, index_push, first_last, is_graph, after_length}
 
 pub same_parts : (nodes nodes' : List Node) (sorts sorts' : List OpSort) (open_ : Bool) (base : ℕ) (prepared : Option Prepared) → nodes ≡ nodes' → sorts ≡ sorts' → graph_of nodes sorts open_ base prepared ≡ graph_of nodes' sorts' open_ base prepared
 same_parts nodes nodes' sorts sorts' open_ base prepared e f = ap (λ (xs : List Node). graph_of xs sorts open_ base prepared) e ∙ ap (λ (ss : List OpSort). graph_of nodes' ss open_ base prepared) f
@@ -21,7 +21,7 @@ same_parts nodes nodes' sorts sorts' open_ base prepared e f = ap (λ (xs : List
 -- the same graph, with the same numbers
 pub kept_same : (g after : Graph) (old new : Numbers) (prepared : Option Prepared) → IsKept g old prepared → after ≡ g → ((node : Node) → number_in new node ≡ number_in old node) → IsKept after new prepared
 kept_same g after old new prepared is e same =
-    subst (λ (x : Graph). IsKept x new prepared) (sym e) (record { graph = is.graph; index = index_same g.nodes old new same is.index; tables = is.tables })
+    subst (λ (x : Graph). IsKept x new prepared) (sym e) (record { graph = is.graph; few = is.few; index = index_same g.nodes old new same is.index; tables = is.tables })
 
 nothing_prepared : (nodes : List Node) (p : Prepared) {X : Type 0} → None ≡ Some p → X
 nothing_prepared nodes p e = absurd (cc)
@@ -33,30 +33,32 @@ copied nodes nodes' sorts sorts' open_ base prepared old new is e f index =
     subst (λ (xs : List Node). IsKept (graph_of xs sorts' open_ base None) new None) (sym e)
     (subst (λ (ss : List OpSort). IsKept (graph_of nodes ss open_ base None) new None) (sym f)
     (record {
-      graph = record { long = is.graph.long; small = is.graph.small; base = is.graph.base; open_ = is.graph.open_; sorted = is.graph.sorted; early = is.graph.early; late = is.graph.late; ranged = is.graph.ranged };
+      graph = record { long = is.graph.long; base = is.graph.base; open_ = is.graph.open_; sorted = is.graph.sorted; early = is.graph.early; late = is.graph.late; ranged = is.graph.ranged; variables = is.graph.variables };
+      few = is.few;
       index = index;
       tables = λ p none. nothing_prepared nodes p none;
     }))
 
 -- a node more, which has its number
 pub kept_push : (g after : Graph) (old new : Numbers) (prepared : Option Prepared) (node : Node) (s : OpSort) → IsKept g old prepared
-    → IsAbsent g.nodes node → (IsOpen node → ⊥) → HasSort g.sorts node.op node.kids s → IsRanged node.op → length g.nodes + 1 < 2 ^ 32 → Renumbers old new node (length g.nodes)
+    → IsAbsent g.nodes node → (IsOpen node → ⊥) → HasSort g.sorts node.op node.kids s → IsRanged node.op → (g.is_open ≡ false → is_variable node.op ≡ false) → length g.nodes + 1 < 2 ^ 32 → Renumbers old new node (length g.nodes)
     → after.nodes ≡ g.nodes ++ node ∷ [] → after.sorts ≡ g.sorts ++ s ∷ [] → after.is_open ≡ g.is_open → (b : Bool) → g.is_open ≡ b → after.base ≡ (if b then length g.nodes + 1 else g.base) → IsKept after new None
-kept_push g after old new prepared node s is absent tied has ranged small by nodes_ sorts_ same b open_ base = record {
-  graph = is_graph g node s is.graph (inl has) after nodes_ sorts_ same ranged small b open_ base;
+kept_push g after old new prepared node s is absent tied has ranged none few by nodes_ sorts_ same b open_ base = record {
+  graph = is_graph g node s is.graph (inl has) after nodes_ sorts_ same ranged none b open_ base;
+  few = subst (λ (n : ℕ). n < 2 ^ 32) (sym (after_length g node s is.graph (inl has) after nodes_ sorts_ same)) few;
   index = subst (λ (xs : List Node). IsIndex xs new) (sym nodes_) (index_push g.nodes node old new absent tied by is.index);
   tables = λ p e. nothing_prepared g.nodes p e;
 }
 
 -- what `append` does, of a graph that is seen as `now`
 pub kept_append : (g now after : Graph) (old new : Numbers) (prepared : Option Prepared) (node copy : Node) (s : OpSort) (n : ℕ) → IsKept g old prepared → g ≡ now
-    → IsAbsent now.nodes node → (IsOpen node → ⊥) → HasSort now.sorts node.op node.kids s → IsRanged node.op → n ≡ length g.nodes → n + 1 < 2 ^ 32 → copy ≡ node → Renumbers old new copy n
+    → IsAbsent now.nodes node → (IsOpen node → ⊥) → HasSort now.sorts node.op node.kids s → IsRanged node.op → (g.is_open ≡ false → is_variable node.op ≡ false) → n ≡ length g.nodes → n + 1 < 2 ^ 32 → copy ≡ node → Renumbers old new copy n
     → after.nodes ≡ g.nodes ++ node ∷ [] → after.sorts ≡ g.sorts ++ s ∷ [] → after.is_open ≡ g.is_open → (b : Bool) → g.is_open ≡ b → after.base ≡ (if b then n + 1 else g.base) → IsKept after new None
-kept_append g now after old new prepared node copy s n is view absent tied has ranged number small same_copy by nodes_ sorts_ same b open_ base =
+kept_append g now after old new prepared node copy s n is view absent tied has ranged none number few same_copy by nodes_ sorts_ same b open_ base =
     kept_push g after old new prepared node s is
     (subst (λ (x : Graph). IsAbsent x.nodes node) (sym view) absent) tied
-    (subst (λ (x : Graph). HasSort x.sorts node.op node.kids s) (sym view) has) ranged
-    (subst (λ (k : ℕ). k + 1 < 2 ^ 32) number small)
+    (subst (λ (x : Graph). HasSort x.sorts node.op node.kids s) (sym view) has) ranged none
+    (subst (λ (k : ℕ). k + 1 < 2 ^ 32) number few)
     (subst (λ (x : Node). Renumbers old new x (length g.nodes)) same_copy (subst (λ (k : ℕ). Renumbers old new copy k) number by))
     nodes_ sorts_ same b open_ (base ∙ ap (λ (k : ℕ). if b then k + 1 else g.base) number)
 

@@ -1,16 +1,13 @@
 -- What is known of the first nodes stays right while a graph grows.
-use Rattle.std.specs.Prelude.{◌≡◌, ◌≢◌, ◌⊎◌, ◌↔◌, ℕ, zero, suc, ◌+◌, ◌-◌, ◌<◌, ◌≤◌, Bool, true, false, IsTrue, List, [], ◌∷◌, ◌++◌, take, length, Option, Some, None, slice_get, slice_set, Vec, refl}
+use Rattle.std.specs.Prelude.{◌≡◌, ◌≢◌, ◌⊎◌, ◌↔◌, ℕ, zero, suc, ◌+◌, ◌-◌, ◌<◌, ◌≤◌, Bool, IsTrue, List, [], ◌∷◌, ◌++◌, take, length, Option, Some, slice_get, slice_set, Vec, refl}
 use Rattle.std.specs.declared.alloc.Global.{Global}
 use Rattle.std.proofs.Common.{inl, inr, sym, ap, ◌∙◌, subst, arith, get_or, length-append}
 use Rattle.std.proofs.lemmas.Option.{slice_get_within, slice_get_read, same_Some}
 use Rattle.pv_value.specs.Spelled.{bind}
-use Rattle.pv_graph.specs.declared.node.Op.{Op}
 use Rattle.pv_graph.specs.declared.node.Node.{Node}
 use Rattle.pv_graph.specs.declared.known.Known.{Known}
-use Rattle.pv_graph.proofs.Elements.{found, push_cases, get_front}
-use Rattle.pv_graph.specs.Ops.{shape}
-use Rattle.pv_graph.specs.Walks.{In, Free, here, below, open_kids}
-use Rattle.pv_graph.specs.Forms.{form}
+use Rattle.pv_graph.proofs.Elements.{push_cases, get_front}
+use Rattle.pv_graph.specs.Walks.{In, Free, here, below}
 use Rattle.pv_graph.specs.Graphs.{Graph, form_of, form_at, IsGraph}
 use Rattle.pv_graph.specs.Reach.{AreFree, AreFreeAfter}
 use Rattle.pv_graph.specs.Known.{IsShut, IsAscending, AreAllFree, AreKnown, HasMark, Knows, Shortens, Cuts}

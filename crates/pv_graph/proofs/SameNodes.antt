@@ -90,6 +90,11 @@ same_ops (op.CallEnd s) (op.CallEnd t) e = ap op.CallEnd (same_syms s t e)
 same_ops (op.CallRes s) (op.CallRes t) e = ap op.CallRes (same_syms s t e)
 same_ops (op.CallFault s) (op.CallFault t) e = ap op.CallFault (same_syms s t e)
 same_ops (op.CallHeap s) (op.CallHeap t) e = ap op.CallHeap (same_syms s t e)
+same_ops (op.Var j s) (op.Var k t) e =
+    let parts = and_parts (j == k) (sort_eq.it s t) e in
+    let number : j ≡ k = (Decides-eqb j k).0 parts.0 in
+    let sort_ : s ≡ t = same_sorts s t parts.1 in
+    cc (number, sort_)
 same_ops a b e = absurd (true≢false (sym e))
 
 pub same_nodes : (a b : Node) → node_eq.it a b ≡ true → a ≡ b

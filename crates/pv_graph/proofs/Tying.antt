@@ -1,7 +1,7 @@
 -- Thetas that are begun and tied, and the base that is closed.
 use Rattle.std.specs.Prelude.{◌≡◌, ◌≢◌, ◌⊎◌, ℕ, zero, suc, ◌+◌, ◌<◌, ◌≤◌, ◌^◌, Bool, true, false, min, List, [], ◌∷◌, ◌++◌, length, Option, Some, None, slice_get, slice_set, if◌then◌else◌, refl}
 use Rattle.std.specs.List.{AllZip}
-use Rattle.std.proofs.Common.{inl, inr, sym, ap, ◌∙◌, subst, arith, get_or}
+use Rattle.std.proofs.Common.{inl, inr, sym, ap, ◌∙◌, subst, arith, get_or, ◌≤◌, false}
 use Rattle.std.proofs.lemmas.Option.{slice_get_within, slice_get_read, same_Some}
 use Rattle.pv_graph.specs.declared.node.Op.{Op}
 use Rattle.pv_graph.specs.declared.node.Op.TheVariants as op
@@ -11,14 +11,14 @@ use Rattle.pv_graph.specs.declared.node.OpSort.TheVariants.{I, L, A, N, F, T, H,
 use Rattle.pv_graph.specs.declared.prepared.Prepared.{Prepared}
 use Rattle.pv_graph.proofs.Elements.{found}
 use Rattle.pv_graph.specs.Nodes.{node_of, AreTied, IsOpen, IsFirst, IsAbsent}
-use Rattle.pv_graph.specs.Ops.{is_depth, alike, sort_over, HasSort}
+use Rattle.pv_graph.specs.Ops.{is_depth, alike, sort_over, HasSort, is_variable}
 use Rattle.pv_graph.specs.Walks.{In}
 use Rattle.pv_graph.specs.Graphs.{Graph, IsUnfinished, IsRanged, IsGraph}
 use Rattle.pv_graph.specs.Calls.{appended, Begun, HaveItsSort, Tied, IsFinished}
 use Rattle.pv_graph.specs.Index.{Numbers, number_in, least_of, Renumbers, IsIndex}
 use Rattle.pv_graph.specs.Kept.{graph_of, IsKept}
 use Rattle.pv_graph.proofs.SameNodes.{same_or_other}
-use Rattle.pv_graph.proofs.Appending.{index_push_open, is_graph}
+use Rattle.pv_graph.proofs.Appending.{index_push_open, is_graph, after_length}
 use Rattle.pv_graph.proofs.CallLaws.{sorted_low}
 use Rattle.pv_graph.proofs.Keeping.{appended_is}
 
@@ -52,14 +52,15 @@ pub kept_sealed : (nodes : List Node) (sorts : List OpSort) (open_ : Bool) (base
 kept_sealed nodes sorts open_ base prepared numbers is tied = record {
   graph = record {
     long = is.graph.long;
-    small = is.graph.small;
     base = is.graph.base;
     open_ = λ e. absurd (let z = e in cc);
     sorted = λ n node s at t. by n node s at (is.graph.sorted n node s at t);
     early = is.graph.early;
     late = is.graph.late;
     ranged = is.graph.ranged;
+    variables = is.graph.variables;
   };
+  few = is.few;
   index = is.index;
   tables = is.tables;
 }
@@ -74,7 +75,7 @@ nothing_prepared : (p : Prepared) {X : Type 0} → None ≡ Some p → X
 nothing_prepared p e = absurd (cc)
 
 module _ (g after : Graph) (numbers : Numbers) (prepared : Option Prepared) (node : Node) (d : ℕ) (s : OpSort) (is : IsKept g numbers prepared) (open_ : g.is_open ≡ true) (loop : is_depth d ≡ true) (sort_ : s ≢ R) (theta_ : node ≡ node_of (op.Theta d) [])
-    (small : length g.nodes + 1 < 2 ^ 32) (nodes_ : after.nodes ≡ g.nodes ++ node ∷ []) (sorts_ : after.sorts ≡ g.sorts ++ s ∷ []) (same : after.is_open ≡ g.is_open) (base : after.base ≡ length g.nodes + 1) where
+    (few : length g.nodes + 1 < 2 ^ 32) (nodes_ : after.nodes ≡ g.nodes ++ node ∷ []) (sorts_ : after.sorts ≡ g.sorts ++ s ∷ []) (same : after.is_open ≡ g.is_open) (base : after.base ≡ length g.nodes + 1) where
   unfinished : IsUnfinished node s
   unfinished = record { depth = d; theta_ = ap (λ (x : Node). x.op) theta_; loop = loop; kids = ap (λ (x : Node). x.kids) theta_; sort_ = sort_ }
 
@@ -83,7 +84,8 @@ module _ (g after : Graph) (numbers : Numbers) (prepared : Option Prepared) (nod
 
   pub kept_begun : IsKept after numbers None
   kept_begun = record {
-    graph = is_graph g node s is.graph (inr (open_, unfinished)) after nodes_ sorts_ same ranged small true open_ base;
+    graph = is_graph g node s is.graph (inr (open_, unfinished)) after nodes_ sorts_ same ranged (λ closed. absurd (cc (closed, open_))) true open_ base;
+    few = subst (λ (n : ℕ). n < 2 ^ 32) (sym (after_length g node s is.graph (inr (open_, unfinished)) after nodes_ sorts_ same)) few;
     index = subst (λ (xs : List Node). IsIndex xs numbers) (sym nodes_) (index_push_open g.nodes node numbers (d, theta_) is.index);
     tables = λ p e. nothing_prepared p e;
   }
@@ -251,7 +253,6 @@ module _ (g : Graph) (is : IsGraph g) (n d first second : ℕ) (at : slice_get g
   pub tied_graph : (prepared : Bool) → IsGraph (record g { nodes = tied_nodes; is_prepared = prepared })
   tied_graph prepared = record {
     long = is.long ∙ sym (set_length g.nodes n tied_node);
-    small = subst (λ (k : ℕ). k < 2 ^ 32) (sym (set_length g.nodes n tied_node)) is.small;
     base = subst (λ (k : ℕ). g.base ≤ k) (sym (set_length g.nodes n tied_node)) is.base;
     open_ = λ e. is.open_ e ∙ sym (set_length g.nodes n tied_node);
     sorted = λ k node s at_ sort_at. each_node (λ m x. (t : OpSort) → slice_get g.sorts m ≡ Some t → HasSort g.sorts x.op x.kids t ⊎ ((g.is_open ≡ true) × IsUnfinished x t))
@@ -261,6 +262,7 @@ module _ (g : Graph) (is : IsGraph g) (n d first second : ℕ) (at : slice_get g
     late = λ k j node at_ high m. each_node (λ i x. i < length g.nodes → g.base ≤ i → In x.kids j → j < i) (λ lt le _. (let b = base_all in absurd (omega arith))) (λ i x there _ le y. is.late i j x there le y) k node at_
         (let z = slice_get_within tied_nodes k node at_ in let l = set_length g.nodes n tied_node in omega arith) high m;
     ranged = λ k node at_. each_node (λ i x. IsRanged x.op) tt (λ i x there. is.ranged i x there) k node at_;
+    variables = λ k node at_ high. each_node (λ i x. g.base ≤ i → is_variable x.op ≡ false) (λ z. refl) (λ i x there z. is.variables i x there z) k node at_ high;
   }
 
 pub kept_tied : (g : Graph) (old new : Numbers) (prepared : Option Prepared) (n d first second : ℕ) → IsKept g old prepared → slice_get g.nodes n ≡ Some (node_of (op.Theta d) []) → HaveItsSort g n first second
@@ -268,6 +270,7 @@ pub kept_tied : (g : Graph) (old new : Numbers) (prepared : Option Prepared) (n 
     → IsKept (record g { nodes = slice_set g.nodes n (node_of (op.Theta d) (first ∷ second ∷ [])); is_prepared = false }) new None
 kept_tied g old new prepared n d first second is at fits by = record {
   graph = tied_graph g is.graph n d first second at fits false;
+  few = subst (λ (k : ℕ). k < 2 ^ 32) (sym (set_length g.nodes n (node_of (op.Theta d) (first ∷ second ∷ [])))) is.few;
   index = index_tied g.nodes n (node_of (op.Theta d) []) (node_of (op.Theta d) (first ∷ second ∷ [])) at (d, refl) (λ o. absurd (let z = ap (λ (x : Node). x.kids) o.1 in cc)) old new is.index by;
   tables = λ p e. nothing_prepared p e;
 }

@@ -38,6 +38,7 @@ empty_graph = record { nodes = []; sorts = []; is_open = true; base = 0; is_prep
 --        requires kids { AreNodes self.old kids.now }
 --        requires closed { MayAdd self.old op }
 --        ensures ok { IfOk result (λ n. Added self.old self.new op kids.now n) }
+--        ensures few { IfOk result (λ n. n + 1 < 2 ^ 32) }
 --        ensures sort { result ≡ Err GraphFault.Sort → FitsOver self.old op kids.now → ⊥ }
 --        ensures err { OnErr result (IsSame self.old self.new) }
 

@@ -1,5 +1,5 @@
 -- Graphs: nodes with their sorts, a base in which cycles may stand, and thetas that are not tied yet.
-use Rattle.std.specs.Prelude.{◌≡◌, ◌≢◌, ◌⊎◌, ℕ, ◌<◌, ◌≤◌, ◌^◌, Bool, true, List, [], length, Option, Some, slice_get, FitsSigned}
+use Rattle.std.specs.Prelude.{◌≡◌, ◌≢◌, ◌⊎◌, ℕ, ◌<◌, ◌≤◌, Bool, true, false, List, [], length, Option, Some, slice_get, FitsSigned}
 use Rattle.std.specs.Int.{w32, w64}
 use Rattle.pv_value.specs.Spelled.{bind}
 use Rattle.pv_graph.specs.declared.node.Op.{Op}
@@ -7,7 +7,7 @@ use Rattle.pv_graph.specs.declared.node.Op.TheVariants as op
 use Rattle.pv_graph.specs.declared.node.OpSort.{OpSort}
 use Rattle.pv_graph.specs.declared.node.OpSort.TheVariants.{R}
 use Rattle.pv_graph.specs.declared.node.Node.{Node}
-use Rattle.pv_graph.specs.Ops.{is_depth, HasSort}
+use Rattle.pv_graph.specs.Ops.{is_depth, is_variable, HasSort}
 use Rattle.pv_graph.specs.Forms.{Form, form}
 use Rattle.pv_graph.specs.Walks.{In, KeepsRule}
 
@@ -41,10 +41,9 @@ IsRanged (op.Long c) = FitsSigned w64 c
 IsRanged o = Unit {0}
 
 -- what every graph is: sorts fit, only an open graph has thetas that are not tied, nodes of the base
--- have their kids in the base, and each later node has smaller kids
+-- have their kids in the base, and each later node has smaller kids and is no variable
 pub record IsGraph (g : Graph) : Type 0 where
   pub long : length g.sorts ≡ length g.nodes
-  pub small : length g.nodes < 2 ^ 32
   pub base : g.base ≤ length g.nodes
   pub open_ : g.is_open ≡ true → g.base ≡ length g.nodes
   pub sorted : (n : ℕ) (node : Node) (s : OpSort) → slice_get g.nodes n ≡ Some node → slice_get g.sorts n ≡ Some s
@@ -52,6 +51,7 @@ pub record IsGraph (g : Graph) : Type 0 where
   pub early : (n k : ℕ) (node : Node) → slice_get g.nodes n ≡ Some node → n < g.base → In node.kids k → k < g.base
   pub late : (n k : ℕ) (node : Node) → slice_get g.nodes n ≡ Some node → g.base ≤ n → In node.kids k → k < n
   pub ranged : (n : ℕ) (node : Node) → slice_get g.nodes n ≡ Some node → IsRanged node.op
+  pub variables : (n : ℕ) (node : Node) → slice_get g.nodes n ≡ Some node → g.base ≤ n → is_variable node.op ≡ false
 
 -- .. whose cycles keep the rule
 pub record IsWellMade (g : Graph) : Type 0 where

@@ -1,5 +1,5 @@
 -- A graph as it is kept: with the numbers of its nodes, with what `prepare` has found, and with what is known of its first nodes.
-use Rattle.std.specs.Prelude.{◌≡◌, ◌+◌, ℕ, Bool, List, [], length, Option, Some, slice_get, is_some, Vec}
+use Rattle.std.specs.Prelude.{◌≡◌, ◌+◌, ◌<◌, ◌^◌, ℕ, Bool, List, [], length, Option, Some, slice_get, is_some, Vec}
 use Rattle.std.specs.declared.alloc.Global.{Global}
 use Rattle.pv_graph.specs.declared.node.Node.{Node}
 use Rattle.pv_graph.specs.declared.node.OpSort.{OpSort}
@@ -21,9 +21,10 @@ pub record IsPrepared (nodes : List Node) (p : Prepared) : Type 0 where
 abbrev pub graph_of : List Node → List OpSort → Bool → ℕ → Option Prepared → Graph
 graph_of nodes sorts open_ base prepared = record { nodes = nodes; sorts = sorts; is_open = open_; base = base; is_prepared = is_some prepared }
 
--- a graph, the numbers of its nodes, and what was found of them, if anything
+-- a graph, of whose nodes each has a number of 32 bits, these numbers, and what was found of the nodes, if anything
 pub record IsKept (g : Graph) (numbers : Numbers) (prepared : Option Prepared) : Type 0 where
   pub graph : IsGraph g
+  pub few : length g.nodes < 2 ^ 32
   pub index : IsIndex g.nodes numbers
   pub tables : (p : Prepared) → prepared ≡ Some p → IsPrepared g.nodes p
 

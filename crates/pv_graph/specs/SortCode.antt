@@ -65,6 +65,7 @@ own_sort (op.CallEnd s) = Some T
 own_sort (op.CallRes s) = own_result s
 own_sort (op.CallFault s) = Some F
 own_sort (op.CallHeap s) = Some H
+own_sort (op.Var j s) = Some s
 own_sort o = None
 
 -- the kid at this place is the one whose sort the operation takes: a phi's second, and the first of a theta, an eval or a shift

@@ -6,7 +6,7 @@ ghost use Rattle.std.specs.Bool.{OnTrue, OnFalse};
 ghost use Rattle.pv_graph.specs.Nodes.{node_of, AreTied, IsOpen, IsAbsent};
 ghost use Rattle.pv_graph.specs.Index.{IsIndex};
 ghost use Rattle.pv_graph.specs.Reach.{IsSearched};
-ghost use Rattle.pv_graph.specs.Ops.{HasSort, is_depth};
+ghost use Rattle.pv_graph.specs.Ops.{HasSort, is_depth, is_variable};
 ghost use Rattle.pv_graph.specs.Calls.{AreFreeMarks, AreNodes, AreSettledMarks, AreSorts, Added, FitsOver, Begun, HaveItsSort, HaveOneSort, IsBase, IsDistinct, IsFinished, IsFree, IsOpenTheta, IsSame, IsSettledIn, LeavesNoSortOpen, MayAdd, Sealed, Tied, empty_graph};
 
 use crate::base::{base_sorts, see_ranges};
@@ -188,7 +188,9 @@ impl Graph {
         requires tied { IsOpen node → ⊥ }
         requires sorted { HasSort self.old.sorts node.op node.kids sort }
         requires ranged { IsRanged node.op }
+        requires variables { self.old.is_open ≡ false → is_variable node.op ≡ false }
         ensures ok { IfOk result (λ n. Added self.old self.new node.op node.kids n) }
+        ensures few { IfOk result (λ n. n + 1 < 2 ^ 32) }
         ensures err { OnErr result (IsSame self.old self.new) }
     {
         let copy = node.copy(alloc)?;
@@ -205,17 +207,22 @@ impl Graph {
 
     /// The least number of the node with this operation and these kids, which is added after the others
     /// where there is none. After an error the graph is as it was: `Sort` says that the operation
-    /// doesn't take such kids, `Memory` that memory ran out or the graph has 2^32 - 1 nodes.
+    /// doesn't take such kids, `Memory` that memory ran out, that the graph has 2^32 - 1 nodes, or that it is
+    /// sealed and the operation is a variable.
     pub fn add(&mut self, alloc: Global, op: Op, kids: &[NodeId]) -> Result<NodeId, GraphFault>
         requires kids { AreNodes self.old kids.now }
         requires theta { MayAdd self.old op }
         ensures ok { IfOk result (λ n. Added self.old self.new op kids.now n) }
+        ensures few { IfOk result (λ n. n + 1 < 2 ^ 32) }
         ensures sort { result ≡ Err GraphFault.Sort → FitsOver self.old op kids.now → ⊥ }
         ensures err { OnErr result (IsSame self.old self.new) }
     {
         let node = Node::new(alloc, op, kids)?;
         if let Some(n) = self.index.get(&node) {
             return Ok(n);
+        }
+        if !self.is_open && node.op.is_variable() {
+            return Err(GraphFault::Memory);
         }
         let sorts = sorts_of(alloc, &self.sorts, kids)?;
         let Some(sort) = sort_of(alloc, &node.op, &sorts)? else {

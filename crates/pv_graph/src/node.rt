@@ -6,6 +6,7 @@ ghost use Rattle.std.specs.Cmp.Rules.{comparing, hashing};
 ghost use Rattle.std.specs.Hash as fed;
 ghost use Rattle.std.proofs.Common.{rules};
 ghost use Rattle.pv_graph.specs.Nodes.{node_of, HasName, IsOpen};
+ghost use Rattle.pv_graph.specs.Ops.{is_variable};
 
 use pv_value::{Kind, Memory, Name, ScalarOp, Sym};
 use std::alloc::Global;
@@ -17,7 +18,8 @@ pub type NodeId = u32;
 
 /// An operation, with its parameters: a constant, a text, an argument's number and sort, a depth of
 /// loops, an operation on numbers, a kind of elements or a symbol. The faults that the machine makes
-/// are `FNull`, `FArith` and `FIndex`; `Clear` stands for none.
+/// are `FNull`, `FArith` and `FIndex`; `Clear` stands for none. `Var(j, sort)` is variable j of a lemma of a
+/// certificate, counted from 0: any node of its sort may stand for it, and it has no value itself. No method has one.
 #[derive(Debug, Drop, PartialEq, Eq, Hash)]
 pub enum Op {
     Int(i32),
@@ -57,6 +59,7 @@ pub enum Op {
     CallRes(Sym),
     CallFault(Sym),
     CallHeap(Sym),
+    Var(u32, OpSort),
 }
 
 fn copy_name(alloc: Global, name: &Name) -> Result<Name, Memory>
@@ -76,6 +79,13 @@ fn copy_sym(alloc: Global, sym: &Sym) -> Result<Sym, Memory>
 }
 
 impl Op {
+    /// Whether it is a variable of a lemma.
+    pub fn is_variable(&self) -> bool
+        ensures { result ≡ is_variable self.now }
+    {
+        matches!(self, Op::Var(..))
+    }
+
     /// An equal operation. It takes memory where the operation has a text or a symbol.
     pub fn copy(&self, alloc: Global) -> Result<Op, Memory>
         ensures { IfOk result (λ copy. copy ≡ self.now) }
@@ -128,6 +138,7 @@ impl Op {
             Op::Load(kind) => Op::Load(*kind),
             Op::Store(kind) => Op::Store(*kind),
             Op::Length => Op::Length,
+            Op::Var(j, sort) => Op::Var(*j, *sort),
             _ => unreachable!(),
         }
     }

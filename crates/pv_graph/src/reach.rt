@@ -30,7 +30,7 @@ impl Look {
     {
         match (self, op) {
             (Look::Free(d), Op::Theta(e)) => *e == d,
-            (Look::All, Op::Never | Op::Pass(_) | Op::CallEnd(_)) => true,
+            (Look::All, Op::Never | Op::Pass(_) | Op::CallEnd(_) | Op::Var(..)) => true,
             _ => false,
         }
     }

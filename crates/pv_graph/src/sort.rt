@@ -288,6 +288,7 @@ pub(crate) fn sort_of(alloc: Global, op: &Op, kids: &[OpSort]) -> Result<Option<
         Op::CallRes(sym) => result_sort(alloc, sym, kids),
         Op::CallFault(sym) => part_sort(alloc, sym, F, kids),
         Op::CallHeap(sym) => part_sort(alloc, sym, H, kids),
+        Op::Var(_, sort) => Ok(exactly(&[], *sort, kids)),
     }
 }
 
@@ -340,7 +341,7 @@ pub(crate) fn own_sort(alloc: Global, op: &Op) -> Result<Option<OpSort>, Memory>
         Op::Int(_) | Op::IsClear | Op::Aeq | Op::Length => Ok(Some(I)),
         Op::Long(_) => Ok(Some(L)),
         Op::Null | Op::Literal(_) | Op::This => Ok(Some(A)),
-        Op::Param(_, sort) => Ok(Some(*sort)),
+        Op::Param(_, sort) | Op::Var(_, sort) => Ok(Some(*sort)),
         Op::Heap0 | Op::PutStatic(_) | Op::PutField(_) | Op::Store(_) | Op::CallHeap(_) => Ok(Some(
             H,
         )),

@@ -19,7 +19,7 @@ use Rattle.pv_denote.specs.Denote.{Index, at_depth, Value, SameAt}
 use Rattle.pv_denote.proofs.Cited.{den_makes, value_says, means_map, Moves, Stays, at_same}
 use Rattle.pv_steps.specs.Steps.{Loop, Ending}
 use Rattle.pv_steps.specs.Steps as steps
-use Rattle.pv_steps.specs.Right.{IsFresh}
+use Rattle.pv_steps.specs.Right.{by_axiom, IsFresh}
 use Rattle.pv_steps.specs.Facts.{View, Keeps, Satisfies, Holds}
 use Rattle.pv_steps.proofs.Blocks.{Under, holds_under}
 use Rattle.pv_axioms.proofs.Cited.{sound}
@@ -153,7 +153,7 @@ module _ (g : Graph) (made : IsWellMade g) (sealed : g.is_open ≡ false) (assum
   mutual
     ground_holds : (ctx : Context) (before : List Join) (blocks : List Block) (j : Join) → JoinGround g.nodes (IsGiven g assumed) ctx before blocks j → AllHold (form_at g.nodes) (around ctx assumed) before
         → Holds (form_at g.nodes) (around ctx assumed) j.first j.second
-    ground_holds ctx before blocks j (JoinGround.by_axiom _ _ _ n nodes why h) all = λ w x world input it s i y. sound.same g assumed n nodes j.first j.second made sealed h.instance_ w x world input s.0 i
+    ground_holds ctx before blocks j (JoinGround.by_axiom _ _ _ n nodes why h) all = λ w x world input it s i y. sound.same g assumed (by_axiom n) nodes j.first j.second made sealed h.instance_ w x world input s.0 i
     ground_holds ctx before blocks j (JoinGround.by_kids _ _ _ _ h) all = of_kids ctx before j h all
     ground_holds ctx before blocks j (JoinGround.by_induction _ _ _ _ n b why at_n there h) all = block_holds ctx before b h all j.first j.second there
     ground_holds ctx before blocks j (JoinGround.by_pair d pairs outer _ _ _ n why at_n) all = λ w x world input it s i y. s.0 i y j.first j.second (get_in pairs n (j.first, j.second) at_n)

@@ -241,6 +241,7 @@ no_roots (op.CallRes y) ss s e =
     exactly_no_roots c.0.kids t.0 ss s (call_no_roots y c.0 c.1) t.2
 no_roots (op.CallFault y) ss s e = let c = bind_some (call_sorts y) _ s e in exactly_no_roots c.0.kids F ss s (call_no_roots y c.0 c.1) c.2
 no_roots (op.CallHeap y) ss s e = let c = bind_some (call_sorts y) _ s e in exactly_no_roots c.0.kids H ss s (call_no_roots y c.0 c.1) c.2
+no_roots (op.Var j t) ss s e = exactly_no_roots [] t ss s tt e
 
 -- a side that the test reads has no root's sort
 exactly_not_root : (takes : List OpSort) (gives : OpSort) (ss : List OpSort) (s : OpSort) → gives ≢ R → exactly takes gives ss ≡ Some s → s ≢ R

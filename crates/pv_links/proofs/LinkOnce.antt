@@ -1,7 +1,7 @@
 -- Of two sections that are both accepted nothing but `equivalent` is said.
 use Rattle.std.proofs.Common.{◌≡◌, ℕ, List, sym, subst, refl, ◌∙◌}
 use Rattle.pv_graph.specs.Graphs.{Graph}
-use Rattle.pv_axioms.specs.Entries.{Instance}
+use Rattle.pv_axioms.specs.Entries.{ByAxioms}
 use Rattle.pv_steps.specs.Accepted.{Derives}
 use Rattle.pv_steps.proofs.Cited.{accepted_not_rejected}
 use Rattle.pv_class.specs.declared.file.ClassFile.{ClassFile}
@@ -25,9 +25,9 @@ use Rattle.pv_links.specs.Findings.{AreOf, IsFinding, IsFindingOn}
 not_rejected : (f : ClassFile) (m : Method) (g : ClassFile) (n : Method) (s : Section) (k : ℕ) → HasBytes m → HasBytes n → section.IsAccepted f m g n s → section.IsRejected f m g n s k → ⊥
 not_rejected f m g n s k x y (l, h, derives) (j, i, rejects) =
     let same = one_rooted f m g n l j x y h i in
-    let there = subst (λ (q : Graph). Derives Instance q l.first l.second s.steps) (sym same.graph) (derives_prepared l.graph j.graph.is_prepared l.first l.second s.steps derives) in
-    let over = subst (λ (r : ℕ). Derives Instance j.graph j.first r s.steps) same.second (subst (λ (r : ℕ). Derives Instance j.graph r l.second s.steps) same.first there) in
-    accepted_not_rejected Instance j.graph j.first j.second s.steps k over rejects
+    let there = subst (λ (q : Graph). Derives ByAxioms q l.first l.second s.steps) (sym same.graph) (derives_prepared l.graph j.graph.is_prepared l.first l.second s.steps derives) in
+    let over = subst (λ (r : ℕ). Derives ByAxioms j.graph j.first r s.steps) same.second (subst (λ (r : ℕ). Derives ByAxioms j.graph r l.second s.steps) same.first there) in
+    accepted_not_rejected ByAxioms j.graph j.first j.second s.steps k over rejects
 
 -- on three methods
 link_once : (f : ClassFile) (m : Method) (g : ClassFile) (n : Method) (h : ClassFile) (p : Method) (s t : Section) (x : LinkFinding) → HasBytes m → HasBytes n → HasBytes p → section.IsAccepted f m g n s → section.IsAccepted g n h p t

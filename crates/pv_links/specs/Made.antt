@@ -2,7 +2,7 @@
 use Rattle.std.specs.Global.{Vec}
 use Rattle.std.specs.Prelude.{◌≡◌, ◌<◌, ℕ, List, length, MatchOption, Option, Some, None, Result, Ok, Err, slice_get}
 use Rattle.pv_alike.specs.Least.{Rooted}
-use Rattle.pv_axioms.specs.Entries.{Instance}
+use Rattle.pv_axioms.specs.Entries.{ByAxioms}
 use Rattle.pv_check.specs.declared.checker.Checked.{Checked}
 use Rattle.pv_check.specs.declared.checker.Checked.TheVariants as checked
 use Rattle.pv_steps.specs.Accepted.{Derives, Rejects}
@@ -165,8 +165,8 @@ stage_at side.Second one two = two
 
 -- what a check of a section says
 abbrev pub IsChecked : Rooted → Section → Checked → Type 0
-IsChecked l s checked.Accepted = Derives Instance l.graph l.first l.second s.steps
-IsChecked l s (checked.Rejected n) = Rejects Instance l.graph l.first l.second s.steps n
+IsChecked l s checked.Accepted = Derives ByAxioms l.graph l.first l.second s.steps
+IsChecked l s (checked.Rejected n) = Rejects ByAxioms l.graph l.first l.second s.steps n
 
 -- ---- a report
 

@@ -1,5 +1,5 @@
 -- Equal parameters and classes are those of one match, and the other way round.
-use Rattle.std.proofs.Common.{◌≡◌, ℕ, Bool, true, false, ◌||◌, ◌&&◌, List, [], ◌∷◌, ◌++◌, length, Some, flat_map, ◌⊎◌, inl, inr, refl, sym, ap, ap₂, ◌∙◌, subst, arith, nat_le, if◌then◌else◌, length-append}
+use Rattle.std.proofs.Common.{◌≡◌, ℕ, Bool, true, false, ◌||◌, ◌&&◌, List, [], ◌∷◌, ◌++◌, length, Some, flat_map, ◌⊎◌, inl, inr, refl, sym, ap, ap₂, ◌∙◌, subst, arith, if◌then◌else◌, length-append}
 use Rattle.pv_value.specs.declared.number.Num.{Num}
 use Rattle.pv_value.specs.declared.number.Num.TheVariants as num
 use Rattle.pv_graph.specs.declared.node.Op.{Op}
@@ -20,7 +20,7 @@ use Rattle.pv_heights.specs.Filled.{number_op}
 use Rattle.pv_heights.specs.Matches.{AgreeOn}
 use Rattle.pv_heights.specs.Searches as searches
 use Rattle.pv_heights.proofs.Cited.{In-left, In-right, name_same}
-use Rattle.pv_match.specs.Reading.{reads, reads_all, families, all_families}
+use Rattle.pv_match.specs.Reading.{is_told, reads, reads_all, families, all_families}
 use Rattle.pv_match.proofs.Numbered.{bind_some}
 use Rattle.pv_match.proofs.Sound.{split_in, by_cases}
 use Rattle.pv_match.proofs.Rebuilt.{op_once, same_count}
@@ -151,9 +151,9 @@ no_operation (store k) (inl e) = absurd (cc)
 no_operation (store k) (inr v) = v
 
 module _ (m n : Names) where
-  -- one number, and that of no constant, text or argument
+  -- one number, and that of no constant, text, argument or variable
   abbrev SameNumber : Type 0
-  SameNumber = (op_number m.op_ ≡ op_number n.op_) × (nat_le 5 (op_number m.op_) ≡ true)
+  SameNumber = (op_number m.op_ ≡ op_number n.op_) × (is_told (op_number m.op_) ≡ true)
 
   mutual
     same_family : (i k : ℕ) (p : Pattern) → reads i p ≡ Some k → families p ≡ true → HasFamilies m p → HasFamilies n p → In (names p) name.Operation → SameNumber
@@ -164,7 +164,7 @@ module _ (m n : Names) where
     same_family i k (narrowed b p) r f u v o = absurd (cc)
     same_family i k (over h ps) r f u v o =
         by_cases (split_in (listed_name (head_name h)) (names_in ps) name.Operation o) (λ w. absurd (no_operation h w)) (λ w. same_families i k ps r f u v w)
-    same_family i k (over_each w e) r f u v o = (u ∙ sym v, subst (λ q. nat_le 5 q ≡ true) (sym u) f)
+    same_family i k (over_each w e) r f u v o = (u ∙ sym v, subst (λ q. is_told q ≡ true) (sym u) f)
 
     pub same_families : (i k : ℕ) (ps : Patterns) → reads_all i ps ≡ Some k → all_families ps ≡ true → HaveFamilies m ps → HaveFamilies n ps → In (names_in ps) name.Operation → SameNumber
     same_families i k none r f u v o = absurd o

@@ -9,6 +9,7 @@ use Rattle.pv_graph.specs.declared.node.Op.TheVariants as op
 use Rattle.pv_pattern.specs.Numbers.{op_number}
 use Rattle.pv_match.specs.declared.found.Param.{Param}
 use Rattle.pv_match.specs.declared.found.Param.TheVariants as param
+use Rattle.pv_match.specs.Reading.{is_told}
 use Rattle.pv_match.specs.Parameters.{params_in}
 
 no_symbol : Sym
@@ -95,7 +96,7 @@ rebuilt n ps =
     if n == 75 then op.Store (kind_of ps) else
     op.Unit
 
-op_rebuilt : (o : Op) → nat_le 5 (op_number o) ≡ true → rebuilt (op_number o) (params_in o) ≡ o
+op_rebuilt : (o : Op) → is_told (op_number o) ≡ true → rebuilt (op_number o) (params_in o) ≡ o
 op_rebuilt (op.Int c) e = absurd (cc)
 op_rebuilt (op.Long c) e = absurd (cc)
 op_rebuilt op.Null e = absurd (cc)
@@ -163,16 +164,17 @@ op_rebuilt (op.CallEnd s) e = refl
 op_rebuilt (op.CallRes s) e = refl
 op_rebuilt (op.CallFault s) e = refl
 op_rebuilt (op.CallHeap s) e = refl
+op_rebuilt (op.Var j s) e = absurd (cc)
 op_rebuilt (op.Load k) e = refl
 op_rebuilt (op.Store k) e = refl
 
-pub op_once : (o p : Op) → nat_le 5 (op_number o) ≡ true → op_number o ≡ op_number p → params_in o ≡ params_in p → o ≡ p
-op_once o p l e f = sym (op_rebuilt o l) ∙ (ap₂ rebuilt e f ∙ op_rebuilt p (subst (λ n. nat_le 5 n ≡ true) e l))
+pub op_once : (o p : Op) → is_told (op_number o) ≡ true → op_number o ≡ op_number p → params_in o ≡ params_in p → o ≡ p
+op_once o p l e f = sym (op_rebuilt o l) ∙ (ap₂ rebuilt e f ∙ op_rebuilt p (subst (λ n. is_told n ≡ true) e l))
 
 -- how many parameters the operation with a number has
 abbrev param_count : ℕ → ℕ
 param_count n =
-    if nat_le 70 n then (if n == 76 then 0 else 1) else
+    if nat_le 70 n then (if n == 76 then 0 else if n == 90 then 0 else 1) else
     if nat_le 23 n then 0 else
     if nat_le 19 n then 1 else
     if nat_le 5 n then 0 else
@@ -246,6 +248,7 @@ counted (op.CallEnd s) = refl
 counted (op.CallRes s) = refl
 counted (op.CallFault s) = refl
 counted (op.CallHeap s) = refl
+counted (op.Var j s) = refl
 counted (op.Load k) = refl
 counted (op.Store k) = refl
 

@@ -24,10 +24,14 @@ abbrev mutual
   reads_all n none = Some n
   reads_all n (first p ps) = bind (reads n p) (λ k. reads_all k ps)
 
--- the operation of a family is no constant, text or argument, so it is known by its number and its parameter
+-- the number of an operation that is no constant, text, argument or variable: it is known by its number and its parameter
+abbrev pub is_told : ℕ → Bool
+is_told n = nat_le 5 n && nat_le n 83
+
+-- the operation of a family is such a one
 abbrev mutual
   pub families : Pattern → Bool
-  families (over_each which e) = nat_le 5 which
+  families (over_each which e) = is_told which
   families (over h ps) = all_families ps
   families p = true
 

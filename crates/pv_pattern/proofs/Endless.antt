@@ -1,5 +1,5 @@
 -- A graph in which a loop never ends, and what the axioms without their conditions say of it.
-use Rattle.std.specs.Prelude.{◌≡◌, ℕ, zero, suc, ◌+◌, ◌<◌, ◌≤◌, ℤ, pos, true, false, List, [], ◌∷◌, Some, None, slice_get, refl}
+use Rattle.std.specs.Prelude.{◌≡◌, ℕ, zero, suc, ◌+◌, ◌<◌, ◌≤◌, ℤ, pos, Bool, true, false, List, [], ◌∷◌, Some, None, slice_get, refl, if◌then◌else◌}
 use Rattle.std.specs.List.{AllByRecursion}
 use Rattle.std.specs.FinMap.{empty, get-empty}
 use Rattle.std.specs.FinSet as set
@@ -24,7 +24,7 @@ use Rattle.pv_graph.specs.declared.node.Op.TheVariants as op
 use Rattle.pv_graph.specs.declared.node.OpSort.{OpSort}
 use Rattle.pv_graph.specs.declared.node.OpSort.TheVariants.{I, N, H}
 use Rattle.pv_graph.specs.declared.node.Node.{Node}
-use Rattle.pv_graph.specs.Ops.{plain, theta, shape, HasSort, may_not_end}
+use Rattle.pv_graph.specs.Ops.{plain, theta, shape, HasSort, may_not_end, is_variable}
 use Rattle.pv_graph.specs.Forms.{form}
 use Rattle.pv_denote.specs.Denote.{Index, outside, strict, truth, den, Value}
 use Rattle.pv_graph.specs.Walks.{In, Free, here, below, open_kids, Reaches, itself, along, Move, Edge, Walk, stop, step, KeepsRule}
@@ -96,6 +96,20 @@ low_at : (j : ℕ) (xs : List Node) → Low j xs → (n : ℕ) (x : Node) → sl
 low_at j [] h n x e = absurd (cc)
 low_at j (y ∷ xs) h zero x e = subst (λ (q : Node). AllByRecursion (λ k. k < j + 0) q.kids × IsRanged q.op) (same_Some y x e) (subst (λ (b : ℕ). AllByRecursion (λ k. k < b) y.kids) (omega arith) h.0.0, h.0.1)
 low_at j (y ∷ xs) h (suc n) x e = let r = low_at (suc j) xs h.1 n x e in (subst (λ (b : ℕ). AllByRecursion (λ k. k < b) x.kids) (omega arith) r.0, r.1)
+
+-- no variable is among them
+abbrev is_without : List Node → Bool
+is_without [] = true
+is_without (x ∷ xs) = if is_variable x.op then false else is_without xs
+
+first_without : (b c : Bool) → (if b then false else c) ≡ true → (b ≡ false) × (c ≡ true)
+first_without true c e = absurd (cc)
+first_without false c e = (refl, e)
+
+without_at : (xs : List Node) → is_without xs ≡ true → (n : ℕ) (x : Node) → slice_get xs n ≡ Some x → is_variable x.op ≡ false
+without_at [] h n x e = absurd (cc)
+without_at (y ∷ xs) h zero x e = subst (λ (q : Node). is_variable q.op ≡ false) (same_Some y x e) (first_without (is_variable y.op) (is_without xs) h).0
+without_at (y ∷ xs) h (suc n) x e = without_at xs (first_without (is_variable y.op) (is_without xs) h).1 n x e
 
 all_sorted : Sorted nodes sorts
 unfolding field_at
@@ -191,13 +205,13 @@ all_low = (
 is_graph : IsGraph graph
 is_graph = record {
   long = refl;
-  small = lit< tt;
   base = omega arith;
   open_ = λ e. absurd (cc);
   sorted = λ n x s e f. inl (sorted_at nodes sorts all_sorted n x s e f);
   early = λ n k x e low. absurd (omega arith);
   late = λ n k x e high m. all_in (λ k. k < n) x.kids (subst (λ (b : ℕ). AllByRecursion (λ k. k < b) x.kids) (omega arith) (low_at 0 nodes all_low n x e).0) k m;
   ranged = λ n x e. (low_at 0 nodes all_low n x e).1;
+  variables = λ n x e high. without_at nodes refl n x e;
 }
 
 in_at : (ks : List ℕ) (p k : ℕ) → slice_get ks p ≡ Some k → In ks k

@@ -200,20 +200,36 @@ impl Reading<'_> {
         n < self.graph.len() && self.graph.free_now(n, self.depth())
     }
 
+    // Whether the node of a variable is settled, on a prepared graph.
+    fn is_var_settled_now(&self, j: u32) -> bool
+        requires { self.now.graph.now.is_prepared ≡ true }
+        ensures { IsTrue result ↔ Holds self.now.graph.now [] (names_of self.now) (settled j) }
+    {
+        match self.var(j) {
+            Some(n) => self.is_settled_now(n),
+            None => false,
+        }
+    }
+
+    // Whether the depth isn't free in the node of a variable, on a prepared graph.
+    fn is_var_not_free_now(&self, j: u32) -> bool
+        requires { self.now.graph.now.is_prepared ≡ true }
+        ensures { IsTrue result ↔ Holds self.now.graph.now [] (names_of self.now) (not_free j) }
+    {
+        match self.var(j) {
+            Some(n) => !self.is_free_now(n),
+            None => false,
+        }
+    }
+
     // Whether a condition holds, on a prepared graph.
     fn holds_now(&self, side: Side) -> bool
         requires { self.now.graph.now.is_prepared ≡ true }
         ensures { IsTrue result ↔ Holds self.now.graph.now [] (names_of self.now) (side_seen side) }
     {
         match side {
-            Side::Settled(j) => match self.vars.get(j as usize) {
-                Some(n) => self.is_settled_now(*n),
-                None => false,
-            },
-            Side::NotFree(j) => match self.vars.get(j as usize) {
-                Some(n) => !self.is_free_now(*n),
-                None => false,
-            },
+            Side::Settled(j) => self.is_var_settled_now(j),
+            Side::NotFree(j) => self.is_var_not_free_now(j),
             _ => self.differs(side),
         }
     }

@@ -2,7 +2,7 @@
 use Rattle.std.specs.Prelude.{◌≡◌, ℕ, List, Option, Some, None, slice_get}
 use Rattle.std.specs.List.{AllByRecursion}
 use Rattle.pv_alike.specs.Least.{Rooted}
-use Rattle.pv_axioms.specs.Entries.{Instance}
+use Rattle.pv_axioms.specs.Entries.{ByAxioms}
 use Rattle.pv_cert.specs.declared.cert.Section.{Section}
 use Rattle.pv_cert.specs.StepLines.{StepFits}
 use Rattle.pv_class.specs.declared.file.ClassFile.{ClassFile}
@@ -23,7 +23,7 @@ use Rattle.pv_report.specs.Shown.{Show, AreShown}
 
 -- the steps derive that the roots are equal; each is the last or is cited by a later one, and has a spelling
 pub record AreStepsFor (l : Rooted) (steps : List Step) : Type 0 where
-  pub derives : Derives Instance l.graph l.first l.second steps
+  pub derives : Derives ByAxioms l.graph l.first l.second steps
   pub lean : IsLean steps
   pub spelled : AllByRecursion StepFits steps
 

@@ -1,7 +1,7 @@
 -- The sections that show what a report says.
 use Rattle.std.specs.Prelude.{◌≡◌, ℕ, List, [], ◌∷◌, Option, Some, None}
 use Rattle.std.specs.List.{AllZip}
-use Rattle.pv_axioms.specs.Entries.{Instance}
+use Rattle.pv_axioms.specs.Entries.{ByAxioms}
 use Rattle.pv_cert.specs.declared.cert.Section.{Section}
 use Rattle.pv_cert.specs.Reading.{SectionFits}
 use Rattle.pv_class.specs.declared.file.ClassFile.{ClassFile}
@@ -20,7 +20,7 @@ use Rattle.pv_report.specs.Verdicts.{IsVerdict}
 
 -- over the least graph of the two methods' roots the steps derive that these are equal
 abbrev pub Show : ClassFile → Method → ClassFile → Method → List Step → Type 0
-Show first m second p steps = OnLeast first m second p (λ l. Derives Instance l.graph l.first l.second steps)
+Show first m second p steps = OnLeast first m second p (λ l. Derives ByAxioms l.graph l.first l.second steps)
 
 -- the section is of this method, and its steps show that it is equivalent to its partner; each of them is the last or is cited by a
 -- later one, and the section has a spelling

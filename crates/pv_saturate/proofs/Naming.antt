@@ -1,5 +1,5 @@
 -- Names, each once, are the names; and what a match's left side names has parameters of its own.
-use Rattle.std.proofs.Common.{◌≡◌, ◌↔◌, ◌⊎◌, inl, inr, ℕ, Bool, true, false, ◌&&◌, ◌||◌, List, [], ◌∷◌, ◌++◌, length, Some, refl, sym, ap, ◌∙◌, subst, ◌==◌, if◌then◌else◌, nat_le, None, arith}
+use Rattle.std.proofs.Common.{◌≡◌, ◌↔◌, ◌⊎◌, inl, inr, ℕ, Bool, true, false, ◌&&◌, ◌||◌, List, [], ◌∷◌, ◌++◌, length, Some, refl, sym, ap, ◌∙◌, subst, ◌==◌, if◌then◌else◌, None, arith}
 use Rattle.pv_value.specs.declared.number.Num.{Num}
 use Rattle.pv_value.specs.declared.number.Num.TheVariants as num
 use Rattle.pv_graph.specs.declared.node.Op.{Op}
@@ -19,7 +19,7 @@ use Rattle.pv_heights.specs.Sides.{Match}
 use Rattle.pv_heights.specs.Searches.{IsMatchAt}
 use Rattle.pv_heights.proofs.Named.{In-left, In-right, name_same}
 use Rattle.pv_match.specs.Parameters.{name_params, number_param, params_in, is_among, once_more}
-use Rattle.pv_match.specs.Reading.{reads, reads_all, families, all_families, IsReadable}
+use Rattle.pv_match.specs.Reading.{is_told, reads, reads_all, families, all_families, IsReadable}
 use Rattle.pv_match.proofs.Sound.{by_cases, split_in}
 use Rattle.pv_match.proofs.Decoded.{no_operation}
 use Rattle.pv_saturate.specs.Operations.{op_of, count_of}
@@ -152,7 +152,7 @@ own_told m family (name.Symbol s) h = refl
 own_told m family (name.Kind k) h = refl
 own_told m family (name.Constant j) h = constant_told (m.constants j) h.0 h.1
 own_told m family name.Operation h =
-    let found = (op_found m.op_ (subst (λ (n : ℕ). nat_le 5 n ≡ true) (sym h.0) h.1)).0 in
+    let found = (op_found m.op_ (subst (λ (n : ℕ). is_told n ≡ true) (sym h.0) h.1)).0 in
     sym (ap or_unit (subst (λ (n : ℕ). op_of n (params_in m.op_) ≡ Some m.op_) h.0 found))
 
 pub own_counted : (m : Params) (family : ℕ) (i : NameId) → HasOwn m family i → length (name_params (named m) i) ≡ own_count family i
@@ -160,4 +160,4 @@ own_counted m family name.Depth h = refl
 own_counted m family (name.Symbol s) h = refl
 own_counted m family (name.Kind k) h = refl
 own_counted m family (name.Constant j) h = constant_count (m.constants j) h.0 h.1
-own_counted m family name.Operation h = (op_found m.op_ (subst (λ (n : ℕ). nat_le 5 n ≡ true) (sym h.0) h.1)).1 ∙ ap count_of h.0
+own_counted m family name.Operation h = (op_found m.op_ (subst (λ (n : ℕ). is_told n ≡ true) (sym h.0) h.1)).1 ∙ ap count_of h.0

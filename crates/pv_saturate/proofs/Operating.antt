@@ -1,17 +1,18 @@
 -- An operation is found by its number and its parameters.
-use Rattle.std.proofs.Common.{◌≡◌, true, length, Some, refl, nat_le}
+use Rattle.std.proofs.Common.{◌≡◌, true, length, Some, refl}
 use Rattle.pv_value.specs.declared.operation.ScalarOp.TheVariants.{Iadd, Isub, Imul, Idiv, Irem, Ishl, Ishr, Iushr, Iand, Ior, Ixor, Ieq, Ilt, Ineg, I2b, I2c, I2s, I2l, Ladd, Lsub, Lmul, Ldiv, Lrem, Lshl, Lshr, Lushr, Land, Lor, Lxor, Leq, Lcmp, Lneg, L2i}
 use Rattle.pv_graph.specs.declared.node.Op.{Op}
 use Rattle.pv_graph.specs.declared.node.Op.TheVariants as op
 use Rattle.pv_pattern.specs.Numbers.{op_number}
+use Rattle.pv_match.specs.Reading.{is_told}
 use Rattle.pv_match.specs.Parameters.{params_in}
 use Rattle.pv_saturate.specs.Operations.{op_of, count_of}
 
 abbrev pub IsFoundBy : Op → Type 0
 IsFoundBy o = (op_of (op_number o) (params_in o) ≡ Some o) × (length (params_in o) ≡ count_of (op_number o))
 
--- of no constant, text or argument
-pub op_found : (o : Op) → nat_le 5 (op_number o) ≡ true → IsFoundBy o
+-- of no constant, text, argument or variable
+pub op_found : (o : Op) → is_told (op_number o) ≡ true → IsFoundBy o
 op_found (op.Int c) e = absurd (cc)
 op_found (op.Long c) e = absurd (cc)
 op_found op.Null e = absurd (cc)
@@ -46,6 +47,7 @@ op_found (op.CallEnd s) e = (refl, refl)
 op_found (op.CallRes s) e = (refl, refl)
 op_found (op.CallFault s) e = (refl, refl)
 op_found (op.CallHeap s) e = (refl, refl)
+op_found (op.Var j s) e = absurd (cc)
 op_found (op.Load k) e = (refl, refl)
 op_found (op.Store k) e = (refl, refl)
 op_found (op.Scalar Iadd) e = (refl, refl)

@@ -1,5 +1,5 @@
 -- What a pattern has, and what the names of a left side stand for by a list of parameters.
-use Rattle.std.specs.Prelude.{◌≡◌, ℕ, true, pos, List, ◌∷◌, flat_map, ◌==◌, nat_le, slice_get, unwrap_or, if◌then◌else◌, Some}
+use Rattle.std.specs.Prelude.{◌≡◌, ℕ, true, pos, List, ◌∷◌, flat_map, ◌==◌, slice_get, unwrap_or, if◌then◌else◌, Some}
 use Rattle.pv_value.specs.declared.heap.Kind as kinds
 use Rattle.pv_value.specs.declared.heap.Kind.TheVariants as kind
 use Rattle.pv_value.specs.declared.name.Sym.{Sym}
@@ -16,6 +16,7 @@ use Rattle.pv_heights.specs.Filled.{Params, named, number_op}
 use Rattle.pv_heights.specs.Matches.{AgreeOn}
 use Rattle.pv_match.specs.declared.found.Param.{Param}
 use Rattle.pv_match.specs.declared.found.Param.TheVariants as param
+use Rattle.pv_match.specs.Reading.{is_told}
 use Rattle.pv_match.specs.Parameters.{name_params}
 use Rattle.pv_saturate.specs.Operations.{op_of, count_of}
 
@@ -80,10 +81,10 @@ pub record IsTold (family : ℕ) (own : List Param) (i : NameId) (old new : Para
 
 -- ---- all names
 
--- a constant is an int or a long, and the operation has this number, which is that of no constant, text or argument
+-- a constant is an int or a long, and the operation has this number, which is that of no constant, text, argument or variable
 abbrev pub HasOwn : Params → ℕ → NameId → Type 0
 HasOwn m family (name.Constant j) = (o : Op) × (number_op (m.constants j) ≡ Some o)
-HasOwn m family name.Operation = (op_number m.op_ ≡ family) × (nat_le 5 family ≡ true)
+HasOwn m family name.Operation = (op_number m.op_ ≡ family) × (is_told family ≡ true)
 HasOwn m family i = Unit {0}
 
 -- p says of these names what each m says whose parameters these are

@@ -2,7 +2,7 @@
 use Rattle.std.specs.Prelude.{◌≡◌}
 use Rattle.pv_alike.specs.Least.{Rooted}
 use Rattle.pv_alike.proofs.Cited.{least_within}
-use Rattle.pv_axioms.specs.Entries.{Instance}
+use Rattle.pv_axioms.specs.Entries.{ByAxioms}
 use Rattle.pv_axioms.proofs.Cited.{sound}
 use Rattle.pv_class.specs.declared.file.ClassFile.{ClassFile}
 use Rattle.pv_class.specs.declared.file.Method.{Method}
@@ -17,10 +17,10 @@ use Rattle.pv_steps.proofs.Cited.{accepted_same}
 use Rattle.pv_sections.specs.Findings.{IsAccepted}
 
 -- the steps make the roots of the least graph the same
-derived_same : (first : ClassFile) (m : Method) (second : ClassFile) (p : Method) (s : Section) (l : Rooted) → HaveLeast first m second p l → Derives Instance l.graph l.first l.second s.steps → Same l.graph l.first l.second
+derived_same : (first : ClassFile) (m : Method) (second : ClassFile) (p : Method) (s : Section) (l : Rooted) → HaveLeast first m second p l → Derives ByAxioms l.graph l.first l.second s.steps → Same l.graph l.first l.second
 derived_same first m second p s l h derives =
     let within = least_within h.least.least in
-    accepted_same Instance sound l.graph l.first l.second s.steps h.least.made h.least.sealed within.first within.second derives
+    accepted_same ByAxioms sound l.graph l.first l.second s.steps h.least.made h.least.sealed within.first within.second derives
 
 pub accepted_meaning : (first : ClassFile) (m : Method) (second : ClassFile) (p : Method) (s : Section) → IsAccepted first m second p s → p.desc ≡ m.desc → HasBytes m → HasBytes p → AreEquivalentMethods first m second p
 accepted_meaning first m second p s (l, h, derives) = least_meaning first m second p l h (derived_same first m second p s l h derives)

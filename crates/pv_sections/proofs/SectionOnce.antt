@@ -4,7 +4,7 @@ use Rattle.std.specs.Prelude.{slice_get}
 use Rattle.std.specs.List.{AllByRecursion, AllZip, Contains}
 use Rattle.pv_graph.specs.Graphs.{Graph}
 use Rattle.pv_alike.specs.Least.{Rooted}
-use Rattle.pv_axioms.specs.Entries.{Instance}
+use Rattle.pv_axioms.specs.Entries.{ByAxioms}
 use Rattle.pv_steps.specs.Accepted.{Derives}
 use Rattle.pv_steps.proofs.Cited.{accepted_not_rejected}
 use Rattle.pv_pool.proofs.Cited.{IsBytes}
@@ -35,22 +35,22 @@ module _ (a b : List ℕ) (first second : ClassFile) (bytes_a : IsBytes a) (byte
     p_bytes = all_at HasBytes second.methods p (class_bytes b second bytes_b second_is) partner.among
 
     -- its steps derive over the least graph of the two methods
-    least : (l : Rooted) × HaveLeast first m second p l × Derives Instance l.graph l.first l.second s.steps
-    least = subst (λ (q : Method). (l : Rooted) × HaveLeast first m second q l × Derives Instance l.graph l.first l.second s.steps)
+    least : (l : Rooted) × HaveLeast first m second p l × Derives ByAxioms l.graph l.first l.second s.steps
+    least = subst (λ (q : Method). (l : Rooted) × HaveLeast first m second q l × Derives ByAxioms l.graph l.first l.second s.steps)
         (partner_once m second.methods shown.partner p second_is.describes.distinct shown.partner_is partner) shown.shows
 
     -- .. and over each of them
-    derives_over : (k : Rooted) → HaveLeast first m second p k → Derives Instance k.graph k.first k.second s.steps
+    derives_over : (k : Rooted) → HaveLeast first m second p k → Derives ByAxioms k.graph k.first k.second s.steps
     derives_over k h =
         let l = least.0 in
         let same = one_rooted first m second p l k m_bytes p_bytes least.1 h in
-        let there = subst (λ (g : Graph). Derives Instance g l.first l.second s.steps) (sym same.graph) (derives_prepared l.graph k.graph.is_prepared l.first l.second s.steps least.2) in
-        subst (λ (n : ℕ). Derives Instance k.graph k.first n s.steps) same.second (subst (λ (n : ℕ). Derives Instance k.graph n l.second s.steps) same.first there)
+        let there = subst (λ (g : Graph). Derives ByAxioms g l.first l.second s.steps) (sym same.graph) (derives_prepared l.graph k.graph.is_prepared l.first l.second s.steps least.2) in
+        subst (λ (n : ℕ). Derives ByAxioms k.graph k.first n s.steps) same.second (subst (λ (n : ℕ). Derives ByAxioms k.graph n l.second s.steps) same.first there)
 
     -- so that it isn't rejected, and the methods lack no root
     on_methods : (f : Finding) → IsFindingOn first m second p s f → f ≡ finding.Verdict verdict.Equivalent
     on_methods (finding.Verdict verdict.Equivalent) on = refl
-    on_methods (finding.Rejected n) (k, h, rejects) = absurd (accepted_not_rejected Instance k.graph k.first k.second s.steps n (derives_over k h) rejects)
+    on_methods (finding.Rejected n) (k, h, rejects) = absurd (accepted_not_rejected ByAxioms k.graph k.first k.second s.steps n (derives_over k h) rejects)
     on_methods (finding.Verdict v) on = absurd (no_lack first m second p v least.0 m_bytes p_bytes least.1 on)
 
   -- what is found of a section of a method

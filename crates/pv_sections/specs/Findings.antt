@@ -1,6 +1,6 @@
 -- What is said of a section of a certificate: the first of these cases that holds.
 use Rattle.std.specs.Prelude.{ℕ}
-use Rattle.pv_axioms.specs.Entries.{Instance}
+use Rattle.pv_axioms.specs.Entries.{ByAxioms}
 use Rattle.pv_class.specs.declared.file.ClassFile.{ClassFile}
 use Rattle.pv_class.specs.declared.file.Method.{Method}
 use Rattle.pv_cert.specs.declared.cert.Section.{Section}
@@ -23,11 +23,11 @@ AreMissing first second s = (m p : Method) → AreOf first second s m p → ⊥
 
 -- the steps derive, over the least graph of the methods' roots, that these are equal
 abbrev pub IsAccepted : ClassFile → Method → ClassFile → Method → Section → Type 0
-IsAccepted first m second p s = OnLeast first m second p (λ l. Derives Instance l.graph l.first l.second s.steps)
+IsAccepted first m second p s = OnLeast first m second p (λ l. Derives ByAxioms l.graph l.first l.second s.steps)
 
 -- .. or step n is the first that isn't right, or one more than the last
 abbrev pub IsRejected : ClassFile → Method → ClassFile → Method → Section → ℕ → Type 0
-IsRejected first m second p s n = OnLeast first m second p (λ l. Rejects Instance l.graph l.first l.second s.steps n)
+IsRejected first m second p s n = OnLeast first m second p (λ l. Rejects ByAxioms l.graph l.first l.second s.steps n)
 
 -- what is said of a section on two methods
 abbrev pub IsFindingOn : ClassFile → Method → ClassFile → Method → Section → Finding → Type 0

@@ -11,7 +11,7 @@ use Rattle.pv_graph.specs.Graphs.{Graph, form_at, IsGraph, IsWellMade, Extends}
 use Rattle.pv_graph.specs.Nodes.{node_of}
 use Rattle.pv_graph.specs.Calls.{Added, appended}
 use Rattle.pv_graph.proofs.Cited.{found, kid_within, node_at, form_there, appended_graph, new_added, added_made, added_extends}
-use Rattle.pv_steps.specs.Steps.{Step, Axiom, Flip, Chain, Set, Open, Close, Assume, Finish}
+use Rattle.pv_steps.specs.Steps.{Step, Axiom, Use, Flip, Chain, Set, Open, Close, Assume, Finish}
 use Rattle.pv_steps.specs.Steps as steps
 use Rattle.pv_steps.specs.Right.{AddsNode, Grows, GraphAfter}
 
@@ -30,7 +30,7 @@ extends_trans a b c p q = record { nodes = λ n x e. q.nodes n x (p.nodes n x e)
 adds_added : (old new : Graph) (n : ℕ) (o : Op) (kids : List ℕ) → IsGraph old → AddsNode old n o kids new → Added old new o kids n
 adds_added old new n o kids is h =
     new_added old new (node_of o kids) h.fits.0 n h.absent h.fits.1 h.number (h.grown ∙ ap (λ (p : Bool). appended old (node_of o kids) h.fits.0 p) (sym (ap (λ (g : Graph). g.is_prepared) h.grown)))
-    (subst IsGraph (sym h.grown) (appended_graph old (node_of o kids) h.fits.0 is (inl h.fits.1) false h.ranged (let z = h.room in let y = h.number in omega (arith, z, y))))
+    (subst IsGraph (sym h.grown) (appended_graph old (node_of o kids) h.fits.0 is (inl h.fits.1) false h.ranged (λ sealed. h.plain_)))
 
 pub adds_grown : (old new : Graph) (n : ℕ) (o : Op) (kids : List ℕ) → IsWellMade old → old.is_open ≡ false → AddsNode old n o kids new → Grown old new
 adds_grown old new n o kids made sealed h =
@@ -47,6 +47,7 @@ grown_self old new made sealed e = subst (Grown old) (sym e) (record { made = ma
 pub step_grown : (s : Step) (old new : Graph) → IsWellMade old → old.is_open ≡ false → Grows s old new → Grown old new
 step_grown (steps.Node n o kids) old new made sealed h = adds_grown old new n o kids made sealed h
 step_grown (Axiom n a b nodes) old new made sealed h = grown_self old new made sealed h
+step_grown (Use n a b nodes) old new made sealed h = grown_self old new made sealed h
 step_grown (Flip a b f) old new made sealed h = grown_self old new made sealed h
 step_grown (Chain a b f i) old new made sealed h = grown_self old new made sealed h
 step_grown (Set cs) old new made sealed h = grown_self old new made sealed h
@@ -89,6 +90,7 @@ adds_same old new other n o kids h i =
 step_same : (s : Step) (old new other : Graph) → Grows s old new → Grows s old other → new ≡ other
 step_same (steps.Node n o kids) old new other h i = adds_same old new other n o kids h i
 step_same (Axiom n a b nodes) old new other h i = h ∙ sym i
+step_same (Use n a b nodes) old new other h i = h ∙ sym i
 step_same (Flip a b f) old new other h i = h ∙ sym i
 step_same (Chain a b f j) old new other h i = h ∙ sym i
 step_same (Set cs) old new other h i = h ∙ sym i

@@ -16,8 +16,8 @@ use Rattle.pv_graph.specs.Graphs.{Graph, form_at, IsGraph, IsWellMade, Extends}
 use Rattle.pv_graph.proofs.Cited.{found, bind_some}
 use Rattle.pv_denote.proofs.Cited.{den_makes, Moves, means_map, value_says, closed_value, spine_has, growth_law}
 use Rattle.pv_steps.specs.Steps as steps
-use Rattle.pv_steps.specs.Steps.{Fact, Reason, Same, By, Pair, Congruence, Step, Axiom, Flip, Chain, Set, Open, Close, Assume, Finish, Block, Loop, Ending, OpenBlock, blocks, outer_of, pairs_of, assumed_in, Stated, both_sides, states, open_after, stated_at, numbered, Equality, equality_of, equality_at, AreOpen, Shows}
-use Rattle.pv_steps.specs.Right.{IsFresh, looks_at, GraphAfter, Gives, GiveAll, AreOutside, RightCongruence, ClosesPair, RightClose, RightAssume, RightFinish, Instances, RightOver, Right}
+use Rattle.pv_steps.specs.Steps.{Fact, Reason, Same, By, Pair, Congruence, Step, Axiom, Use, Flip, Chain, Set, Open, Close, Assume, Finish, Block, Loop, Ending, OpenBlock, blocks, outer_of, pairs_of, assumed_in, Stated, both_sides, states, open_after, stated_at, numbered, Equality, equality_of, equality_at, AreOpen, Shows}
+use Rattle.pv_steps.specs.Right.{IsFresh, looks_at, GraphAfter, Gives, GiveAll, AreOutside, RightCongruence, ClosesPair, RightClose, RightAssume, RightFinish, Rule, by_axiom, by_lemma, Instances, RightOver, Right}
 use Rattle.pv_steps.specs.Accepted.{AllRight}
 use Rattle.pv_steps.specs.Facts.{View, HaveValues, Satisfies, Holds}
 use Rattle.pv_steps.specs.Laws.{AreSound}
@@ -101,7 +101,7 @@ given view before all inside Same a b h = holds_same view (blocks inside) a b h
 given view before all inside (By f) a b h = shown view before all inside f a b h
 given view before all inside (Pair n) a b h = absurd (in_numbered {A = ℕ × ℕ} [] n (a, b) h)
 
--- ---- axioms
+-- ---- rules
 
 block_assumed : (view : View) (w : World) (x : Input) (it : Index) (ps : List OpenBlock) (b : Block) → Satisfies view w x it (b ∷ blocks ps) → (Satisfies view w x it (blocks ps) → HaveValues view w x (assumed_in ps))
     → HaveValues view w x (elim b [ Loop d qs ↦ assumed_in ps | Ending n es ↦ es ])
@@ -122,14 +122,14 @@ assumed_low : (view : View) (g : Graph) (ps : List OpenBlock) → AreProper view
 assumed_low view g [] h = λ n m. absurd m
 assumed_low view g (p ∷ ps) h = block_low view g ps p.block h.0 (assumed_low view g ps h.1)
 
-axiom_step : (Instance : Instances) → AreSound Instance → (last old : Graph) → IsWellMade old → old.is_open ≡ false → Extends old last → (inside : List OpenBlock) → AreProper (form_at last.nodes) old inside
-    → (n a b : ℕ) (nodes : List ℕ) → Instance old (assumed_in inside) n nodes a b → Holds (form_at last.nodes) (blocks inside) a b
-axiom_step Instance sound last old made sealed ext inside proper n a b nodes is w x world input it s i y v =
-    let sides = sound.sides old (assumed_in inside) n nodes a b made is in
+rule_step : (Instance : Instances) → AreSound Instance → (last old : Graph) → IsWellMade old → old.is_open ≡ false → Extends old last → (inside : List OpenBlock) → AreProper (form_at last.nodes) old inside
+    → (r : Rule) (a b : ℕ) (nodes : List ℕ) → Instance old (assumed_in inside) r nodes a b → Holds (form_at last.nodes) (blocks inside) a b
+rule_step Instance sound last old made sealed ext inside proper r a b nodes is w x world input it s i y v =
+    let sides = sound.sides old (assumed_in inside) r nodes a b made is in
     let have = assumed_have (form_at last.nodes) w x it inside s in
     let kept : (m : ℕ) (j : Index) (u : Val) → m < length old.nodes → Value (form_at last.nodes) w x m j u ↔ Value (form_at old.nodes) w x m j u = λ m j u low. growth_law old last made.graph ext m low w x j u in
     let have' : HaveValues (form_at old.nodes) w x (assumed_in inside) = λ e j m. let z = have e j m in (z.0, (kept e j z.0 (assumed_low (form_at last.nodes) old inside proper e m)).0 z.1) in
-    let same = sound.same old (assumed_in inside) n nodes a b made sealed is w x world input have' i v in
+    let same = sound.same old (assumed_in inside) r nodes a b made sealed is w x world input have' i v in
     (λ z. (kept b i v sides.1).1 (same.0 ((kept a i v sides.0).0 z)), λ z. (kept a i v sides.0).1 (same.1 ((kept b i v sides.1).0 z)))
 
 -- ---- set
@@ -323,7 +323,9 @@ pub step_holds : (Instance : Instances) → AreSound Instance → (g last : Grap
     → StatedHolds (form_at last.nodes) (states s k (open_after before)) × AreProper (form_at last.nodes) g (states s k (open_after before)).around
 step_holds Instance sound g last made sealed ext before all proper (steps.Node n o kids) k right = (λ a b m. absurd m, proper)
 step_holds Instance sound g last made sealed ext before all proper (Axiom n a b nodes) k right =
-    (λ c e m. single (form_at last.nodes) _ a b c e m (axiom_step Instance sound last g made sealed ext (open_after before) proper n a b nodes right), proper)
+    (λ c e m. single (form_at last.nodes) _ a b c e m (rule_step Instance sound last g made sealed ext (open_after before) proper (by_axiom n) a b nodes right), proper)
+step_holds Instance sound g last made sealed ext before all proper (Use n a b nodes) k right =
+    (λ c e m. single (form_at last.nodes) _ a b c e m (rule_step Instance sound last g made sealed ext (open_after before) proper (by_lemma n) a b nodes right), proper)
 step_holds Instance sound g last made sealed ext before all proper (Flip a b f) k right =
     (λ c e m. single (form_at last.nodes) _ a b c e m (holds_flip (form_at last.nodes) _ a b (shown (form_at last.nodes) before all (open_after before) f b a right)), proper)
 step_holds Instance sound g last made sealed ext before all proper (Chain a b f h) k right = (
@@ -369,6 +371,7 @@ graph_there Instance g (s ∷ before) right = go s right.0
     go : (s : Step) → Right Instance g before s → (now : Graph) × GraphAfter g (s ∷ before) now
     go (steps.Node n o kids) h = (h.2.0, (h.0, h.1, h.2.1))
     go (Axiom n a b nodes) h = (h.0, (h.0, h.1, refl))
+    go (Use n a b nodes) h = (h.0, (h.0, h.1, refl))
     go (Flip a b f) h = (h.0, (h.0, h.1, refl))
     go (Chain a b f i) h = (h.0, (h.0, h.1, refl))
     go (Set cs) h = (h.0, (h.0, h.1, refl))

@@ -10,13 +10,13 @@ use Rattle.pv_denote.specs.Meaning.{Same}
 use Rattle.pv_alike.specs.Least.{Rooted, IsLeastOf}
 use Rattle.pv_steps.specs.Steps.{Step}
 use Rattle.pv_steps.specs.Facts.{HaveValues}
-use Rattle.pv_steps.specs.Right.{Instances}
+use Rattle.pv_steps.specs.Right.{Rule, Instances}
 use Rattle.pv_steps.specs.Accepted.{Derives, Rejects}
 
--- the two sides of an instance of an axiom are nodes, and the same in each world and input in which the assumed nodes have values
+-- the two sides of an instance of a rule are nodes, and the same in each world and input in which the assumed nodes have values
 pub record AreSound (Instance : Instances) : Type 0 where
-  pub sides : (g : Graph) (assumed : List ℕ) (n : ℕ) (nodes : List ℕ) (a b : ℕ) → IsWellMade g → Instance g assumed n nodes a b → (a < length g.nodes) × (b < length g.nodes)
-  pub same : (g : Graph) (assumed : List ℕ) (n : ℕ) (nodes : List ℕ) (a b : ℕ) → IsWellMade g → g.is_open ≡ false → Instance g assumed n nodes a b
+  pub sides : (g : Graph) (assumed : List ℕ) (r : Rule) (nodes : List ℕ) (a b : ℕ) → IsWellMade g → Instance g assumed r nodes a b → (a < length g.nodes) × (b < length g.nodes)
+  pub same : (g : Graph) (assumed : List ℕ) (r : Rule) (nodes : List ℕ) (a b : ℕ) → IsWellMade g → g.is_open ≡ false → Instance g assumed r nodes a b
       → (w : World) (x : Input) → IsWorld w → IsInput x → HaveValues (form_at g.nodes) w x assumed → (i : Index) → SameAt (form_at g.nodes) w x i a b
 
 -- an accepted section makes its two roots the same

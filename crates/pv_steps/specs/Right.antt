@@ -4,12 +4,12 @@ use Rattle.std.specs.List.{AllZip}
 use Rattle.pv_graph.specs.declared.node.Op.{Op}
 use Rattle.pv_graph.specs.declared.node.Op.TheVariants as op
 use Rattle.pv_graph.specs.declared.node.OpSort.{OpSort}
-use Rattle.pv_graph.specs.Ops.{Shape, theta, eval, pass, shift, shape, is_depth}
+use Rattle.pv_graph.specs.Ops.{Shape, theta, eval, pass, shift, shape, is_depth, is_variable}
 use Rattle.pv_graph.specs.Walks.{In, IsClosed, Spine}
 use Rattle.pv_graph.specs.Graphs.{Graph, form_at, IsRanged}
 use Rattle.pv_graph.specs.Nodes.{node_of, IsAbsent}
 use Rattle.pv_graph.specs.Calls.{AreNodes, FitsOver, appended}
-use Rattle.pv_steps.specs.Steps.{Fact, Reason, Same, By, Pair, Congruence, Step, Node, Axiom, Flip, Chain, Set, Open, Close, Assume, Finish, Block, Loop, Ending, OpenBlock, blocks, assumed_in, both_sides, open_after, numbered, Equality, equality_at, Shows}
+use Rattle.pv_steps.specs.Steps.{Fact, Reason, Same, By, Pair, Congruence, Step, Node, Axiom, Use, Flip, Chain, Set, Open, Close, Assume, Finish, Block, Loop, Ending, OpenBlock, blocks, assumed_in, both_sides, open_after, numbered, Equality, equality_at, Shows}
 
 -- node n is this operation over these kids
 abbrev pub Is : Graph → ℕ → Op → List ℕ → Type 0
@@ -35,14 +35,15 @@ looks_at s = None
 
 -- ---- the graph grows
 
--- the node is new and has the next number, its kids are smaller, and their sorts fit; its number stays in the range of
--- numbers of nodes, and its constant in that of its sort
+-- the node is new and no variable, it has the next number, its kids are smaller, and their sorts fit; its number stays in
+-- the range of numbers of nodes, and its constant in that of its sort
 pub record AddsNode (old : Graph) (n : ℕ) (o : Op) (kids : List ℕ) (new : Graph) : Type 0 where
   pub number : n ≡ length old.nodes
   pub room : n + 1 < 2 ^ 32
   pub smaller : AreNodes old kids
   pub fits : FitsOver old o kids
   pub ranged : IsRanged o
+  pub plain_ : is_variable o ≡ false
   pub absent : IsAbsent old.nodes (node_of o kids)
   pub grown : new ≡ appended old (node_of o kids) fits.0 false
 
@@ -156,15 +157,21 @@ pub record RightFinish (g : Graph) (before : List Step) (p q : ℕ) (t f r h : R
   pub results : Gives before (open_after before) [] r left.result right.result
   pub heaps : Gives before (open_after before) [] h left.heap right.heap
 
--- the axioms: over a graph, with some nodes assumed to end, the axiom with this number has the left side a and the right
--- side b where these nodes stand for its variables, and its conditions hold
+-- by what two nodes are equal without facts: the axiom, or the lemma, with a number
+pub data Rule : Type 0 where
+  by_axiom : ℕ → Rule
+  by_lemma : ℕ → Rule
+
+-- the rules: over a graph, with some nodes assumed to end, the rule has the left side a and the right side b where these
+-- nodes stand for its variables, and its conditions hold
 abbrev pub Instances : Type 1
-Instances = Graph → List ℕ → ℕ → List ℕ → ℕ → ℕ → Type 0
+Instances = Graph → List ℕ → Rule → List ℕ → ℕ → ℕ → Type 0
 
 -- a step is right over the graph that the steps before it made
 abbrev pub RightOver : Instances → Graph → List Step → Step → Type 0
 RightOver Instance g before (Node n o kids) = (new : Graph) × AddsNode g n o kids new
-RightOver Instance g before (Axiom n a b nodes) = Instance g (assumed_in (open_after before)) n nodes a b
+RightOver Instance g before (Axiom n a b nodes) = Instance g (assumed_in (open_after before)) (by_axiom n) nodes a b
+RightOver Instance g before (Use n a b nodes) = Instance g (assumed_in (open_after before)) (by_lemma n) nodes a b
 RightOver Instance g before (Flip a b f) = Shows before (open_after before) f b a
 RightOver Instance g before (Chain a b f h) = (c : ℕ) × Shows before (open_after before) f a c × Shows before (open_after before) h c b
 RightOver Instance g before (Set cs) = (c : Congruence) → In cs c → RightCongruence g before (open_after before) cs c

@@ -6,7 +6,7 @@ pub use Rattle.pv_steps.specs.declared.step.Reason.{Reason}
 pub use Rattle.pv_steps.specs.declared.step.Reason.TheVariants.{Same, By, Pair}
 pub use Rattle.pv_steps.specs.declared.step.Congruence.{Congruence}
 pub use Rattle.pv_steps.specs.declared.step.Step.{Step}
-pub use Rattle.pv_steps.specs.declared.step.Step.TheVariants.{Node, Axiom, Flip, Chain, Set, Open, Close, Assume, Finish}
+pub use Rattle.pv_steps.specs.declared.step.Step.TheVariants.{Node, Axiom, Use, Flip, Chain, Set, Open, Close, Assume, Finish}
 
 -- ---- blocks
 
@@ -56,6 +56,7 @@ both_sides (c ∷ cs) = (c.left, c.right) ∷ both_sides cs
 abbrev pub states : Step → ℕ → List OpenBlock → Stated
 states (Node n o kids) k inside = record { around = inside; pairs = [] }
 states (Axiom n a b nodes) k inside = record { around = inside; pairs = (a, b) ∷ [] }
+states (Use n a b nodes) k inside = record { around = inside; pairs = (a, b) ∷ [] }
 states (Flip a b f) k inside = record { around = inside; pairs = (a, b) ∷ [] }
 states (Chain a b f g) k inside = record { around = inside; pairs = (a, b) ∷ [] }
 states (Set cs) k inside = record { around = inside; pairs = both_sides cs }

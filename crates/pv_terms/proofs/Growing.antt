@@ -52,7 +52,7 @@ flat_or_out d a b grows = grows_wider IsFlat (IsFlatOrOut d) a b (λ o is. inl i
 
 -- an equal graph, prepared or not
 same_graph : (old : Graph) (prepared : Bool) → IsGraph old → IsGraph (record old { is_prepared = prepared })
-same_graph old prepared g = record { long = g.long; small = g.small; base = g.base; open_ = g.open_; sorted = g.sorted; early = g.early; late = g.late; ranged = g.ranged }
+same_graph old prepared g = record { long = g.long; base = g.base; open_ = g.open_; sorted = g.sorted; early = g.early; late = g.late; ranged = g.ranged; variables = g.variables }
 
 same_grows : (P : Op → Type 0) (old : Graph) (prepared : Bool) → IsGraph old → GrowsBy P old (record old { is_prepared = prepared })
 same_grows P old prepared is = record {

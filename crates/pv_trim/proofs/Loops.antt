@@ -13,7 +13,7 @@ use Rattle.pv_steps.specs.declared.step.Congruence.{Congruence}
 use Rattle.pv_steps.specs.declared.step.Reason.{Reason}
 use Rattle.pv_steps.specs.declared.step.Step.{Step}
 use Rattle.pv_steps.specs.declared.step.Step.TheVariants as steps
-use Rattle.pv_steps.specs.declared.step.Step.TheVariants.{Axiom, Flip, Chain, Set, Open, Close, Assume, Finish}
+use Rattle.pv_steps.specs.declared.step.Step.TheVariants.{Axiom, Use, Flip, Chain, Set, Open, Close, Assume, Finish}
 use Rattle.pv_steps.specs.Steps.{OpenBlock, outer_of, open_after}
 use Rattle.pv_steps.specs.Accepted.{first_steps}
 use Rattle.pv_steps.proofs.Cited.{next_steps}
@@ -56,6 +56,7 @@ first_number (p ∷ ps) = refl
 numbers_after : (s : Step) (before : List Step) → numbers (open_after (s ∷ before)) ≡ stack_after (effect_of s) (suc (length before)) (numbers (open_after before))
 numbers_after (steps.Node n o kids) before = refl
 numbers_after (Axiom n a b nodes) before = refl
+numbers_after (Use n a b nodes) before = refl
 numbers_after (Flip a b x) before = refl
 numbers_after (Chain a b x y) before = refl
 numbers_after (Set cs) before = refl
@@ -67,6 +68,7 @@ numbers_after (Finish p q t u v w) before = sym (without_numbers (open_after bef
 ended_is : (s : Step) (inside : List OpenBlock) → ended_by (effect_of s) (numbers inside) ≡ ended s inside
 ended_is (steps.Node n o kids) inside = refl
 ended_is (Axiom n a b nodes) inside = refl
+ended_is (Use n a b nodes) inside = refl
 ended_is (Flip a b x) inside = refl
 ended_is (Chain a b x y) inside = refl
 ended_is (Set cs) inside = refl

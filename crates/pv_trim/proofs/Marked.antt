@@ -9,7 +9,7 @@ use Rattle.pv_graph.proofs.Cited.{bind_some}
 use Rattle.pv_steps.specs.declared.step.Fact.{Fact}
 use Rattle.pv_steps.specs.declared.step.Step.{Step}
 use Rattle.pv_steps.specs.declared.step.Step.TheVariants as steps
-use Rattle.pv_steps.specs.declared.step.Step.TheVariants.{Axiom, Flip, Chain, Set, Open, Close, Assume, Finish}
+use Rattle.pv_steps.specs.declared.step.Step.TheVariants.{Axiom, Use, Flip, Chain, Set, Open, Close, Assume, Finish}
 use Rattle.pv_steps.specs.declared.step.Reason.{Reason}
 use Rattle.pv_steps.specs.declared.step.Reason.TheVariants.{Same, By, Pair}
 use Rattle.pv_steps.specs.declared.step.Congruence.{Congruence}
@@ -200,6 +200,7 @@ module _ (Instance : Instances) (of_nodes : AreOfNodes Instance) (g : Graph) (ma
         ]
       ])
   node_kept k (Axiom n a b xs) there = tt
+  node_kept k (Use n a b xs) there = tt
   node_kept k (Flip a b x) there = tt
   node_kept k (Chain a b x y) there = tt
   node_kept k (Set cs) there = tt
@@ -429,6 +430,7 @@ module _ (Instance : Instances) (of_nodes : AreOfNodes Instance) (g : Graph) (ma
           absurd (cc e)
       go (steps.Node n o kids) same z = absurd (let w : true ≡ false = sym z ∙ ap is_end same in cc w)
       go (Axiom n x y xs) same z = absurd (let w : true ≡ false = sym z ∙ ap is_end same in cc w)
+      go (Use n x y xs) same z = absurd (let w : true ≡ false = sym z ∙ ap is_end same in cc w)
       go (Flip x y f) same z = absurd (let w : true ≡ false = sym z ∙ ap is_end same in cc w)
       go (Chain x y f e) same z = absurd (let w : true ≡ false = sym z ∙ ap is_end same in cc w)
       go (Set cs) same z = absurd (let w : true ≡ false = sym z ∙ ap is_end same in cc w)
@@ -436,8 +438,9 @@ module _ (Instance : Instances) (of_nodes : AreOfNodes Instance) (g : Graph) (ma
       go (Assume x ns) same z = absurd (let w : true ≡ false = sym z ∙ ap is_end same in cc w)
 
   has_members : (a b : ℕ) → LastStates (reverse section) a b → (k : ℕ) (s : Step) → slice_get section k ≡ Some s → IsOn marks k → HasMembers s
-  has_members a b last k (steps.Node n o kids) there on = tt
+  has_members a b last k (steps.Node n o kids) there on = (right_there k (steps.Node n o kids) there).2.1.plain_
   has_members a b last k (Axiom n x y xs) there on = tt
+  has_members a b last k (Use n x y xs) there on = tt
   has_members a b last k (Flip x y f) there on = tt
   has_members a b last k (Chain x y f e) there on = tt
   has_members a b last k (Set cs) there on = some_sides cs (elim (used a b last k (Set cs) there on refl) [
@@ -470,8 +473,9 @@ module _ (Instance : Instances) (of_nodes : AreOfNodes Instance) (g : Graph) (ma
   reason_moved r (Pair j) h = h
 
   members_moved : (f r : ℕ → ℕ) (s : Step) → HasMembers s → HasMembers (moved f r s)
-  members_moved f r (steps.Node n o kids) h = tt
+  members_moved f r (steps.Node n o kids) h = h
   members_moved f r (Axiom n x y xs) h = tt
+  members_moved f r (Use n x y xs) h = tt
   members_moved f r (Flip x y z) h = tt
   members_moved f r (Chain x y z e) h = tt
   members_moved f r (Set cs) h = some_map (moved_congruence f r) cs h

@@ -7,7 +7,7 @@ use Rattle.pv_graph.specs.Graphs.{Graph, IsWellMade}
 use Rattle.pv_graph.proofs.Cited.{in_front, in_last}
 use Rattle.pv_steps.specs.declared.step.Step.{Step}
 use Rattle.pv_steps.specs.Accepted.{LastStates, Derives}
-use Rattle.pv_axioms.specs.Entries.{Instance}
+use Rattle.pv_axioms.specs.Entries.{ByAxioms}
 use Rattle.pv_trim.specs.Citing.{IsLean}
 use Rattle.pv_trim.specs.Spelling.{HaveMembers}
 use Rattle.pv_trim.specs.Moving.{count, moved, kept_steps}
@@ -18,7 +18,7 @@ use Rattle.pv_trim.proofs.Bound.{of_nodes}
 use Rattle.pv_trim.proofs.Instances.{carried}
 
 pub record IsDone (g : Graph) (a b : ℕ) (new : List Step) : Type 0 where
-  pub derives : Derives Instance g a b new
+  pub derives : Derives ByAxioms g a b new
   pub lean : IsLean new
   pub members : HaveMembers new
 
@@ -27,7 +27,7 @@ in_reverse [] x h = absurd h
 in_reverse (y ∷ xs) x (inl e) = subst (λ (q : List Step). In q x) (sym (reverse-append (y ∷ []) xs)) (subst (In (reverse xs ++ y ∷ [])) e (in_last (reverse xs) y))
 in_reverse (y ∷ xs) x (inr h) = subst (λ (q : List Step). In q x) (sym (reverse-append (y ∷ []) xs)) (in_front (reverse xs) y x (in_reverse xs x h))
 
-pub done : (g : Graph) → IsWellMade g → g.is_open ≡ false → (a b : ℕ) → a < length g.nodes → b < length g.nodes → (section : List Step) → Derives Instance g a b section → (a ≡ b → ⊥) → (ends : List (Option ℕ)) → AreEnds section ends
+pub done : (g : Graph) → IsWellMade g → g.is_open ≡ false → (a b : ℕ) → a < length g.nodes → b < length g.nodes → (section : List Step) → Derives ByAxioms g a b section → (a ≡ b → ⊥) → (ends : List (Option ℕ)) → AreEnds section ends
     → (marks nodes : List Bool) (base : ℕ) → base ≡ length g.nodes → AreMarks section ends base (base + length section) 0 marks nodes → (steps_ nodes_ : List Bool) → steps_ ≡ marks → nodes_ ≡ nodes
     → (new : List Step) → reverse new ≡ kept_steps (is_on steps_) (count (is_on nodes_)) (count (is_on steps_)) (reverse section) → IsDone g a b new
 done g made sealed a b low low' section h differ ends are marks nodes base e m steps_ nodes_ u v new is = finish h.1.1
@@ -41,9 +41,9 @@ done g made sealed a b low low' section h differ ends are marks nodes base e m s
     finish (inl same) = absurd (differ same)
     finish (inr states) =
         let m_ : AreMarks section ends (length g.nodes) (length g.nodes + length section) 0 marks nodes = subst (λ (n : ℕ). AreMarks section ends n (n + length section) 0 marks nodes) e m in
-        let r = kept_derive Instance of_nodes g made sealed section h.0 ends are marks nodes m_ carried a b low low' h.1.0 states in
-        let t : IsTrimmed Instance g a b (reverse new) = subst (IsTrimmed Instance g a b) (sym (is ∙ flags)) r in
-        let ms : HaveMembers (reverse new) = subst HaveMembers (sym (is ∙ flags)) (members Instance of_nodes g made sealed section h.0 ends are marks nodes m_ a b states (count (is_on nodes)) (count (is_on marks))) in
+        let r = kept_derive ByAxioms of_nodes g made sealed section h.0 ends are marks nodes m_ carried a b low low' h.1.0 states in
+        let t : IsTrimmed ByAxioms g a b (reverse new) = subst (IsTrimmed ByAxioms g a b) (sym (is ∙ flags)) r in
+        let ms : HaveMembers (reverse new) = subst HaveMembers (sym (is ∙ flags)) (members ByAxioms of_nodes g made sealed section h.0 ends are marks nodes m_ a b states (count (is_on nodes)) (count (is_on marks))) in
         record {
           derives = (t.right, t.concluded);
           lean = λ j one less. t.cited j one (let z = length-reverse new in omega (arith, z, less));

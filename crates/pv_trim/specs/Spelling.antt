@@ -1,11 +1,13 @@
 -- What a step owes to have a spelling, beyond numbers, constants and texts in the ranges of their types.
-use Rattle.std.specs.Prelude.{◌≢◌, ℕ, List, []}
+use Rattle.std.specs.Prelude.{◌≡◌, ◌≢◌, ℕ, false, List, []}
+use Rattle.pv_graph.specs.Ops.{is_variable}
 use Rattle.pv_graph.specs.Walks.{In}
 use Rattle.pv_token.specs.Tokens.{u32_token}
 use Rattle.pv_steps.specs.declared.step.Fact.{Fact}
 use Rattle.pv_steps.specs.declared.step.Reason.{Reason}
 use Rattle.pv_steps.specs.declared.step.Reason.TheVariants.{Pair}
 use Rattle.pv_steps.specs.declared.step.Step.{Step}
+use Rattle.pv_steps.specs.declared.step.Step.TheVariants as steps
 use Rattle.pv_steps.specs.declared.step.Step.TheVariants.{Set, Open, Close, Finish}
 use Rattle.pv_cert.specs.Reasons.{fact_token}
 
@@ -14,8 +16,9 @@ abbrev pub IsNoPair : Reason → Type 0
 IsNoPair (Pair j) = ⊥
 IsNoPair why = Unit {0}
 
--- a list of the step that must have a member has one, and a finish rests on no pair
+-- a list of the step that must have a member has one, a node is no variable, and a finish rests on no pair
 abbrev pub HasMembers : Step → Type 0
+HasMembers (steps.Node n o kids) = is_variable o ≡ false
 HasMembers (Set cs) = cs ≢ []
 HasMembers (Open d ps) = ps ≢ []
 HasMembers (Close d fs) = fs ≢ []

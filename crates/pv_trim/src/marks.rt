@@ -61,7 +61,7 @@ fn mark_named(marks: &mut Vec<bool>, step: &Step)
 {
     match step {
         Step::Node(_, _, kids) => mark_nodes(marks, kids.as_slice()),
-        Step::Axiom(_, a, b, nodes) => {
+        Step::Axiom(_, a, b, nodes) | Step::Use(_, a, b, nodes) => {
             mark_two(marks, *a, *b);
             mark_nodes(marks, nodes.as_slice())
         }
@@ -150,7 +150,7 @@ fn mark_facts(marks: &mut Vec<bool>, k: usize, step: &Step)
 {
     match step {
         Step::Node(_, _, _) => {}
-        Step::Axiom(_, _, _, _) => {}
+        Step::Axiom(_, _, _, _) | Step::Use(_, _, _, _) => {}
         Step::Flip(_, _, fact) => mark_fact(marks, k, *fact),
         Step::Chain(_, _, first, second) => mark_both(marks, k, *first, *second),
         Step::Set(set) => mark_set(marks, k, set.as_slice()),

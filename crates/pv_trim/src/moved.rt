@@ -140,6 +140,12 @@ impl Numbers {
                 self.node(*b),
                 self.kids(alloc, nodes.as_slice())?,
             ),
+            Step::Use(number, a, b, nodes) => Step::Use(
+                *number,
+                self.node(*a),
+                self.node(*b),
+                self.kids(alloc, nodes.as_slice())?,
+            ),
             Step::Flip(a, b, fact) => Step::Flip(self.node(*a), self.node(*b), self.fact(*fact)),
             Step::Chain(a, b, first, second) => Step::Chain(
                 self.node(*a),

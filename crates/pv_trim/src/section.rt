@@ -4,7 +4,7 @@ ghost use Rattle.std.specs.Prelude.{◌≡◌, ◌≢◌, ◌<◌, ◌≤◌, []
 ghost use Rattle.std.specs.List.{AllByRecursion};
 ghost use Rattle.pv_graph.specs.Graphs.{IsWellMade};
 ghost use Rattle.pv_steps.specs.Accepted.{Derives};
-ghost use Rattle.pv_axioms.specs.Entries.{Instance};
+ghost use Rattle.pv_axioms.specs.Entries.{ByAxioms};
 ghost use Rattle.pv_cert.specs.StepLines.{StepFits};
 ghost use Rattle.pv_trim.specs.Citing.{IsLean};
 ghost use Rattle.pv_trim.specs.Moving.{count, kept_steps};
@@ -42,8 +42,8 @@ fn needed(alloc: Global, least: &Least, steps: &[Step]) -> Result<Vec<Step>, Mem
     requires first { least.now.first < length least.now.graph.nodes }
     requires second { least.now.second < length least.now.graph.nodes }
     requires two { least.now.first ≢ least.now.second }
-    requires derives { Derives Instance least.now.graph least.now.first least.now.second steps.now }
-    ensures derives { IfOk result (λ new. Derives Instance least.now.graph least.now.first least.now.second new.items) }
+    requires derives { Derives ByAxioms least.now.graph least.now.first least.now.second steps.now }
+    ensures derives { IfOk result (λ new. Derives ByAxioms least.now.graph least.now.first least.now.second new.items) }
     ensures lean { IfOk result (λ new. IsLean new.items) }
     ensures members { IfOk result (λ new. HaveMembers new.items) }
     ensures size { IfOk result (λ new. length new.items ≤ length steps.now) }
@@ -70,9 +70,9 @@ pub fn trim(alloc: Global, least: &Least, steps: &Listed<Step>) -> Result<Listed
     requires sealed { least.now.graph.is_open ≡ false }
     requires first { least.now.first < length least.now.graph.nodes }
     requires second { least.now.second < length least.now.graph.nodes }
-    requires derives { Derives Instance least.now.graph least.now.first least.now.second steps.now }
+    requires derives { Derives ByAxioms least.now.graph least.now.first least.now.second steps.now }
     ensures none { IfOk result (λ new. least.now.first ≡ least.now.second → new ≡ []) }
-    ensures derives { IfOk result (λ new. Derives Instance least.now.graph least.now.first least.now.second new) }
+    ensures derives { IfOk result (λ new. Derives ByAxioms least.now.graph least.now.first least.now.second new) }
     ensures lean { IfOk result (λ new. IsLean new) }
     ensures spelled { IfOk result (λ new. AllByRecursion StepFits new) }
     ensures size { IfOk result (λ new. length new ≤ length steps.now) }

@@ -1,11 +1,13 @@
 //! Steps have a spelling.
 //!
 //! The text of a certificate is the spelling of its steps. A step has one where its numbers, constants and texts are
-//! in range and no list of it that must have a member is empty. The first holds of each value of the types, and the
-//! second of the steps that are left. Each function here says so of a part of a step: it walks over the part, and
+//! in range, no list of it that must have a member is empty, and the node that it adds is no variable. The first holds
+//! of each value of the types, and the others of the steps that are left. Each function here says so of a part of a step: it walks over the part, and
 //! does nothing.
 
+ghost use Rattle.std.specs.Prelude.{◌≡◌, false};
 ghost use Rattle.std.specs.List.{AllByRecursion};
+ghost use Rattle.pv_graph.specs.Ops.{is_variable};
 ghost use Rattle.pv_steps.specs.declared.step.Step.TheVariants as steps;
 ghost use Rattle.pv_token.specs.Spellings.{AreBytes};
 ghost use Rattle.pv_token.specs.Tokens.{int_token, long_token, u32_token};
@@ -134,6 +136,7 @@ fn set_fits(set: &[Congruence])
 }
 
 fn operation_fits(op: &Op)
+    requires { is_variable op.now ≡ false }
     ensures { OpFits op.now }
 {
     match op {
@@ -150,10 +153,12 @@ fn operation_fits(op: &Op)
         Op::FNull | Op::FArith | Op::FIndex | Op::Zero | Op::Succ | Op::Thrown => {}
         Op::IsClear | Op::Both | Op::Phi | Op::Root | Op::Aeq | Op::Length => {}
         Op::Scalar(_) | Op::Load(_) | Op::Store(_) => {}
+        Op::Var(..) => unreachable!(),
     }
 }
 
 fn node_fits(number: NodeId, op: &Op, kids: &[NodeId])
+    requires { is_variable op.now ≡ false }
     ensures { StepFits (steps.Node number op.now kids.now) }
 {
     number_fits(number);
@@ -178,7 +183,7 @@ fn step_fits(step: &Step)
 {
     match step {
         Step::Node(n, op, kids) => node_fits(*n, op, kids.as_slice()),
-        Step::Axiom(number, a, b, nodes) => {
+        Step::Axiom(number, a, b, nodes) | Step::Use(number, a, b, nodes) => {
             number_fits(*number);
             pair_fits((*a, *b));
             nodes_fit(nodes.as_slice());

@@ -74,13 +74,13 @@ module _ (g : Graph) (numbers : List ℕ) (is_graph : IsGraph g) (sealed : g.is_
   pub numbered_graph : IsGraph (numbered g numbers)
   numbered_graph = record {
     long = length-take-le (length numbers) g.sorts (let z = is_graph.long in let y = is.few in omega (arith, z, y)) ∙ sym (numbered_long g numbers is);
-    small = (let z = is_graph.small in let y = is.few in let x = numbered_long g numbers is in omega (arith, z, y, x));
     base = (let y = is.base in let x = numbered_long g numbers is in omega (arith, y, x));
     open_ = λ o. absurd (true≢false (sym o ∙ sealed));
     sorted = λ n node s e at_. inl (sorted_first n node s e at_);
     early = λ n j node e low i. is_graph.early n j node (of_first (length numbers) g.nodes n node e) low i;
     late = λ n j node e high i. is_graph.late n j node (of_first (length numbers) g.nodes n node e) high i;
     ranged = λ n node e. is_graph.ranged n node (of_first (length numbers) g.nodes n node e);
+    variables = λ n node e high. is_graph.variables n node (of_first (length numbers) g.nodes n node e) high;
   }
     where
       sorted_first : (n : ℕ) (node : Node) (s : OpSort) → slice_get (numbered g numbers).nodes n ≡ Some node → slice_get (numbered g numbers).sorts n ≡ Some s → HasSort (numbered g numbers).sorts node.op node.kids s

@@ -19,7 +19,7 @@ fn ends(op: &Op) -> bool
     ensures { IsTrue result ↔ (may_not_end op.now ≡ false) }
 {
     match op {
-        Op::Never | Op::Pass(_) | Op::CallEnd(_) => false,
+        Op::Never | Op::Pass(_) | Op::CallEnd(_) | Op::Var(..) => false,
         _ => true,
     }
 }

@@ -5,7 +5,7 @@ ghost use Rattle.pv_graph.specs.Calls.{Added, AreNodes, FitsOver, IsSame};
 ghost use Rattle.pv_steps.specs.Accepted.{AllRight};
 ghost use Rattle.pv_steps.specs.Steps.{assumed_in};
 ghost use Rattle.pv_steps.specs.Right.{RightOver};
-ghost use Rattle.pv_axioms.specs.Entries.{Instance};
+ghost use Rattle.pv_axioms.specs.Entries.{ByAxioms, Instance};
 ghost use Rattle.pv_writer.specs.Written.{AreCongruent, HasNode, IsFact, IsNoNode, Pushed, PutsNode, States, inside};
 
 use pv_graph::{Graph, GraphFault, Kids, NodeId, Op};
@@ -76,6 +76,7 @@ fn add(alloc: Global, graph: &mut Graph, op: &Op, kids: &[NodeId]) -> Result<Nod
     requires kids { AreNodes graph.old kids.now }
     requires fits { FitsOver graph.old op.now kids.now }
     ensures ok { IfOk result (λ n. Added graph.old graph.new op.now kids.now n) }
+    ensures few { IfOk result (λ n. n + 1 < 2 ^ 32) }
     ensures err { OnErr result (IsSame graph.old graph.new) }
 {
     let op = op.copy(alloc)?;
@@ -150,7 +151,7 @@ impl<'a> Writer<'a> {
 
     /// Takes a right step that adds no node, and gives its number, which counts from 1. Where memory runs out nothing changes.
     pub fn push(&mut self, step: Step) -> Result<u32, Memory>
-        requires right { RightOver Instance self.old.graph self.old.before step }
+        requires right { RightOver ByAxioms self.old.graph self.old.before step }
         requires no_node { IsNoNode step }
         ensures ok { IfOk result (λ n. Pushed self.old self.new step n) }
         ensures err { OnErr result (self.new ≡ self.old) }
@@ -224,7 +225,7 @@ impl<'a> Writer<'a> {
     /// The steps, in order.
     pub fn into_steps(self) -> Listed<Step>
         ensures steps { reverse result ≡ self.entry.before }
-        ensures right { AllRight Instance self.entry.least (reverse result) }
+        ensures right { AllRight ByAxioms self.entry.least (reverse result) }
     {
         Listed::from(self.steps)
     }

@@ -9,7 +9,7 @@ pub overflow_add-done : goal.overflow_add-done
 overflow_add-done c =
     let at : slice_get c.loop-k.order c.loop-k.done ≡ Some c.in-Some.k = sym c.get.ensures ∙ c.in-Some.is in
     let lt : c.loop-k.done < length c.loop-k.order = slice_get_within c.loop-k.order c.loop-k.done c.in-Some.k at in
-    omega (arith, lt, upward_few c.args.g.now.nodes c.loop-k.order c.loop-k.invariant.up, c.requires.graph.small)
+    omega (arith, lt, upward_few c.args.g.now.nodes c.loop-k.order c.loop-k.invariant.up, c.requires.few)
 
 pub loop-k-smaller : goal.loop-k-smaller
 loop-k-smaller c =

@@ -1,4 +1,4 @@
-use Rattle.std.proofs.Common.{◌≡◌, ◌∙◌, ◌∷◌, [], ℕ, List, Some, sym, ap, subst}
+use Rattle.std.proofs.Common.{◌≡◌, ◌∙◌, ◌∷◌, [], ℕ, List, Some, sym, ap, subst, arith}
 use Rattle.pv_graph.specs.declared.node.Node.{Node}
 use Rattle.pv_alike.specs.Renumbered.{IsClosed, IsRenumbered}
 use Rattle.pv_alike.specs.Visits.{Visits}
@@ -27,3 +27,6 @@ returns c =
     subst (λ (ns : List Node). IsRenumbered ns order c.in_ok-renumbered.field-0.items) c.deref-2.ensures.value c.in_ok-renumbered.ensures in
     search_finds c.args.g.now number q a b c.in_ok-renumbered.field-0.items c.place.result c.place-2.result c.requires.made.graph c.in_ok-numbers.ensures.numbered c.in_ok-nodes.ensures.by_number c.requires.first c.requires.second
     (record { order = order; visits = visits; copies = copies; first = c.place.ensures ∙ ap Some first; second = c.place-2.ensures ∙ ap Some second })
+
+pub visited-requires-clause-small : goal.visited-requires-clause-small
+visited-requires-clause-small c = let long = c.in_ok-nodes.ensures.long in let few = c.in_ok-numbers.ensures.few in let same = c.deref.ensures.len in omega (arith, long, few, same)

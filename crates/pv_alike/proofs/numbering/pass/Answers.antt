@@ -1,4 +1,4 @@
-use Rattle.std.proofs.Common.{◌≡◌, ◌<◌, ◌≤◌, ◌∙◌, ℕ, List, length, get_or, sym, ap, subst, arith}
+use Rattle.std.proofs.Common.{◌≡◌, ◌<◌, ◌≤◌, ◌^◌, ◌∙◌, ℕ, List, length, get_or, sym, ap, subst, arith}
 use Rattle.pv_graph.specs.declared.node.Node.{Node}
 use Rattle.pv_alike.specs.Keys.{Keyed, number_at, key_of, IsOnto}
 use Rattle.pv_alike.proofs.Places.{read_at}
@@ -7,7 +7,14 @@ use Rattle.pv_alike.proofs.Keying.{passing_more, passing_end, passing_onto, keye
 use Rattle.pv_alike.proofs.numbering.pass.Goals as goal
 
 pub number-requires : goal.number-requires
-number-requires c = omega (arith, c.loop-n.invariant.few, c.loop-n.invariant.reached, upward_few c.args.g.now.nodes c.args.order.now c.requires.order.up, c.requires.graph.small)
+number-requires c =
+    let few : length c.args.g.now.nodes < 2 ^ 32 = (let range = c.len.type_inv in let long = c.len.ensures.len in omega (arith, range, long)) in
+    omega (arith, c.loop-n.invariant.few, c.loop-n.invariant.reached, upward_few c.args.g.now.nodes c.args.order.now c.requires.order.up, few)
+
+pub returns-clause-few : goal.returns-clause-few
+returns-clause-few c =
+    let few : length c.args.g.now.nodes < 2 ^ 32 = (let range = c.len.type_inv in let long = c.len.ensures.len in omega (arith, range, long)) in
+    omega (arith, c.len-2.ensures, c.loop-n.invariant.few, c.loop-n.invariant.reached, upward_few c.args.g.now.nodes c.args.order.now c.requires.order.up, few)
 
 pub index_mut-requires : goal.index_mut-requires
 index_mut-requires c =

@@ -8,7 +8,7 @@ returns-clause-clearing c =
     let g = c.args.g.now in
     let nodes = c.in_ok-nodes.nodes.items in
     is_clearing g c.args.counted.now c.in_ok-settled.settled.items nodes c.in_ok-settled.ensures
-    (subst (λ (marks : List Bool). AreReplaced g marks (length g.nodes) nodes) c.deref.ensures.value c.in_ok-nodes.ensures)
+    (subst (λ (marks : List Bool). AreReplaced g marks (length g.nodes) nodes) c.deref.ensures.value c.in_ok-nodes.ensures.replaced)
 
 pub returns-clause-within : goal.returns-clause-within
 returns-clause-within c =
@@ -16,4 +16,4 @@ returns-clause-within c =
     let nodes = c.in_ok-nodes.nodes.items in
     clearing_within g c.args.counted.now nodes c.requires
     (is_clearing g c.args.counted.now c.in_ok-settled.settled.items nodes c.in_ok-settled.ensures
-    (subst (λ (marks : List Bool). AreReplaced g marks (length g.nodes) nodes) c.deref.ensures.value c.in_ok-nodes.ensures))
+    (subst (λ (marks : List Bool). AreReplaced g marks (length g.nodes) nodes) c.deref.ensures.value c.in_ok-nodes.ensures.replaced))

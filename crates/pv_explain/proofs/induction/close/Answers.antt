@@ -1,5 +1,5 @@
 use Rattle.std.proofs.Common.{ℕ, sym, subst}
-use Rattle.pv_axioms.specs.Entries.{Instance}
+use Rattle.pv_axioms.specs.Entries.{ByAxioms}
 use Rattle.pv_classes.specs.Blocks.{depth_of, pairs_of}
 use Rattle.pv_steps.specs.Steps.{outer_of}
 use Rattle.pv_steps.specs.declared.step.Step.TheVariants.{Close}
@@ -11,7 +11,7 @@ use Rattle.pv_explain.proofs.induction.close.Goals as goal
 pub push_close-requires : goal.push_close-requires
 push_close-requires c =
     let now = c.all_next_facts.new.writer in
-    subst (λ (d : ℕ). RightOver Instance now.graph now.before (Close d c.in_ok-facts.facts.items)) (sym c.depth.ensures)
+    subst (λ (d : ℕ). RightOver ByAxioms now.graph now.before (Close d c.in_ok-facts.facts.items)) (sym c.depth.ensures)
     (block_close_right c.args.writer.now now c.args.source.now (depth_of c.args.block.now) (pairs_of c.args.block.now) c.args.begun.now c.in_ok-facts.facts.items c.in_ok-facts.ensures.goes c.requires.inside c.requires.begun c.in_ok-facts.ensures.facts)
 
 pub returns-clause-ends : goal.returns-clause-ends

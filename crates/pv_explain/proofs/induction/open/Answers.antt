@@ -1,5 +1,5 @@
 use Rattle.std.proofs.Common.{ℕ, length, ◌∙◌, ap, sym, subst}
-use Rattle.pv_axioms.specs.Entries.{Instance}
+use Rattle.pv_axioms.specs.Entries.{ByAxioms}
 use Rattle.pv_classes.specs.Blocks.{depth_of}
 use Rattle.pv_steps.specs.declared.step.Step.TheVariants.{Open}
 use Rattle.pv_steps.specs.Right.{RightOver}
@@ -13,7 +13,7 @@ use Rattle.pv_explain.proofs.induction.open.Goals as goal
 pub push_open-requires : goal.push_open-requires
 push_open-requires c =
     let w = c.args.writer.now in
-    subst (λ (d : ℕ). RightOver Instance w.graph w.before (Open d c.in_ok-pairs.pairs.items)) (sym c.depth.ensures)
+    subst (λ (d : ℕ). RightOver ByAxioms w.graph w.before (Open d c.in_ok-pairs.pairs.items)) (sym c.depth.ensures)
     (open_right w c.args.source.now c.args.level.now c.args.block.now c.args.begun.now (inside w) c.in_ok-pairs.pairs.items c.in_ok-pairs.ensures c.requires.stands c.requires.begun)
 
 pub of-requires : goal.of-requires

@@ -1,4 +1,4 @@
-use Rattle.std.proofs.Common.{◌+◌, List, Vec, Bool, sym, subst, arith}
+use Rattle.std.proofs.Common.{List, Vec, Bool, sym, subst, arith}
 use Rattle.std.specs.declared.alloc.Global.{Global}
 use Rattle.pv_graph.specs.Known.{AreAllFree}
 use Rattle.pv_graph.proofs.Knowing.{all_free_more}

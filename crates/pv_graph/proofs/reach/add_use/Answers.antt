@@ -1,4 +1,4 @@
-use Rattle.std.proofs.Common.{◌≡◌, ◌<◌, ◌-◌, Some, length, slice_get, refl, arith}
+use Rattle.std.proofs.Common.{◌<◌, ◌-◌, length, refl, arith}
 use Rattle.std.proofs.lemmas.Option.{slice_get_read}
 use Rattle.pv_graph.proofs.Reaching.{gains_none, gains_set}
 use Rattle.pv_graph.proofs.reach.add_use.Goals as goal

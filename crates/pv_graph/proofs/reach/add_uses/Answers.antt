@@ -1,4 +1,4 @@
-use Rattle.std.proofs.Common.{◌<◌, ◌+◌, ◌∙◌, ℕ, List, get_or, vec_len, refl, sym, subst, take_all}
+use Rattle.std.proofs.Common.{◌<◌, ◌+◌, ◌∙◌, ℕ, List, get_or, refl, sym, subst, take_all}
 use Rattle.std.proofs.lemmas.Option.{slice_get-get_or}
 use Rattle.pv_graph.specs.Reach.{Grows}
 use Rattle.pv_graph.proofs.Reaching.{grows_none, grows_more}

@@ -1,6 +1,7 @@
 use Rattle.std.proofs.Common.{◌≡◌, ◌+◌, true, false, length, None, refl, sym, ap, ◌∙◌, subst, ◌<◌, ◌^◌, ◌++◌, ◌∷◌, [], ℕ, List}
 use Rattle.pv_graph.specs.declared.node.Node.{Node}
 use Rattle.pv_graph.specs.declared.node.OpSort.{OpSort}
+use Rattle.pv_graph.specs.Ops.{is_variable}
 use Rattle.pv_graph.specs.Graphs.{Graph}
 use Rattle.pv_graph.specs.Calls.{Added}
 use Rattle.pv_graph.specs.Kept.{graph_of, IsKept}
@@ -32,10 +33,10 @@ module _ (c : goal.After-self-then-self-1) where
 
   kept_then : IsKept after_then c.insert.new.self.numbers None
   kept_then =
-      let small : c.len-n.result + 1 < 2 ^ 32 = subst (λ (k : ℕ). k + 1 < 2 ^ 32) (sym c.len-n.ensures) c.in_ok-reserve.ensures.few in
+      let few : c.len-n.result + 1 < 2 ^ 32 = subst (λ (k : ℕ). k + 1 < 2 ^ 32) (sym c.len-n.ensures) c.in_ok-reserve.ensures.few in
       kept_append (graph_of c.self.inside.nodes.items c.self.inside.sorts.items c.self.inside.is_open c.self.inside.base c.self.inside.prepared) c.args.self.now after_then
       c.self.inside.index.numbers c.insert.new.self.numbers c.self.inside.prepared c.args.node c.in_ok-copy.copy c.args.sort c.len-n.result c.self.invariant.kept c.self.view_is
-      c.requires.absent c.requires.tied c.requires.sorted c.requires.ranged number_then small c.in_ok-copy.ensures c.in_ok-insert.ensures.ok nodes_then sorts_then refl true c.if-self.true refl
+      c.requires.absent c.requires.tied c.requires.sorted c.requires.ranged (subst (λ (g : Graph). g.is_open ≡ false → is_variable c.args.node.op ≡ false) (sym c.self.view_is) c.requires.variables) number_then few c.in_ok-copy.ensures c.in_ok-insert.ensures.ok nodes_then sorts_then refl true c.if-self.true refl
 
   known_then : AreKnown c.put.new.nodes.items c.self.inside.known
   known_then =
@@ -62,10 +63,10 @@ module _ (c : goal.Else-self) where
 
   kept_else : IsKept after_else c.insert.new.self.numbers None
   kept_else =
-      let small : c.len-n.result + 1 < 2 ^ 32 = subst (λ (k : ℕ). k + 1 < 2 ^ 32) (sym c.len-n.ensures) c.in_ok-reserve.ensures.few in
+      let few : c.len-n.result + 1 < 2 ^ 32 = subst (λ (k : ℕ). k + 1 < 2 ^ 32) (sym c.len-n.ensures) c.in_ok-reserve.ensures.few in
       kept_append (graph_of c.self.inside.nodes.items c.self.inside.sorts.items c.self.inside.is_open c.self.inside.base c.self.inside.prepared) c.args.self.now after_else
       c.self.inside.index.numbers c.insert.new.self.numbers c.self.inside.prepared c.args.node c.in_ok-copy.copy c.args.sort c.len-n.result c.self.invariant.kept c.self.view_is
-      c.requires.absent c.requires.tied c.requires.sorted c.requires.ranged number_else small c.in_ok-copy.ensures c.in_ok-insert.ensures.ok nodes_else sorts_else refl false c.if-self.false refl
+      c.requires.absent c.requires.tied c.requires.sorted c.requires.ranged (subst (λ (g : Graph). g.is_open ≡ false → is_variable c.args.node.op ≡ false) (sym c.self.view_is) c.requires.variables) number_else few c.in_ok-copy.ensures c.in_ok-insert.ensures.ok nodes_else sorts_else refl false c.if-self.false refl
 
   known_else : AreKnown c.put.new.nodes.items c.self.inside.known
   known_else =

@@ -1,9 +1,6 @@
-use Rattle.std.proofs.Common.{◌≡◌, ◌∙◌, ℕ, Bool, List, None, sym, ap, subst}
+use Rattle.std.proofs.Common.{◌≡◌, ◌∙◌, List, subst}
 use Rattle.pv_graph.specs.declared.node.Node.{Node}
-use Rattle.pv_graph.specs.declared.node.OpSort.{OpSort}
-use Rattle.pv_graph.specs.Graphs.{IsGraph}
 use Rattle.pv_graph.specs.Index.{IsIndex}
-use Rattle.pv_graph.specs.Kept.{graph_of}
 use Rattle.pv_graph.proofs.Keeping.{copied}
 use Rattle.pv_graph.proofs.Knowing.{known_none}
 use Rattle.pv_graph.proofs.graph.Graph.copy.Goals as goal

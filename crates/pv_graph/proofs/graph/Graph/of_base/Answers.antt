@@ -21,13 +21,13 @@ module _ (c : goal.After-new) where
   made : IsGraph (graph_of c.args.nodes.items c.in-Some.sorts.items false c.len-2.result None)
   made =
       subst (λ (n : ℕ). IsGraph (graph_of c.args.nodes.items c.in-Some.sorts.items false n None)) (sym long)
-      (base_graph c.args.nodes.items c.in-Some.sorts.items (omega (arith, c.if-len-gt-MOST_NODES.false, c.len.ensures, c.args.nodes.ok.0))
+      (base_graph c.args.nodes.items c.in-Some.sorts.items
       (subst (λ (nodes : List Node). AreSorts nodes c.in-Some.sorts.items) c.deref.ensures.value fit)
       (subst AreRanged c.deref-2.ensures.value c.see_ranges.ensures))
 
 pub invariant_of-result : goal.invariant_of-result
 invariant_of-result c = record {
-  kept = record { graph = made c; index = subst (λ (nodes : List Node). IsIndex nodes c.in_ok-index.index.numbers) c.deref-3.ensures.value c.in_ok-index.ensures; tables = λ p e. absurd (let z = e in cc) };
+  kept = record { graph = made c; few = omega (arith, c.if-len-gt-MOST_NODES.false, c.len.ensures, c.args.nodes.ok.0); index = subst (λ (nodes : List Node). IsIndex nodes c.in_ok-index.index.numbers) c.deref-3.ensures.value c.in_ok-index.ensures; tables = λ p e. absurd (let z = e in cc) };
   free = known_none c.args.nodes.items c.new.result c.new.ensures.marks c.new.ensures.shut;
 }
 

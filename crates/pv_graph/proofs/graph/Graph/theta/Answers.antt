@@ -19,8 +19,8 @@ module _ (c : goal.After-self-2-1) where
   number : c.len-n.result ≡ length c.self.inside.nodes.items
   number = c.len-n.ensures ∙ c.reserve.new.nodes.ok.0 ∙ ap (λ (xs : List Node). length xs) c.reserve.ensures.nodes
 
-  small : length c.self.inside.nodes.items + 1 < 2 ^ 32
-  small = subst (λ (k : ℕ). k + 1 < 2 ^ 32) (sym c.len-n.ensures ∙ number) c.in_ok-reserve.ensures.few
+  few : length c.self.inside.nodes.items + 1 < 2 ^ 32
+  few = subst (λ (k : ℕ). k + 1 < 2 ^ 32) (sym c.len-n.ensures ∙ number) c.in_ok-reserve.ensures.few
 
   nodes_ : c.put.new.nodes.items ≡ c.self.inside.nodes.items ++ c.in_ok-node.node ∷ []
   nodes_ = c.put.ensures.nodes ∙ ap (λ (xs : List Node). xs ++ c.in_ok-node.node ∷ []) c.reserve.ensures.nodes
@@ -33,7 +33,7 @@ module _ (c : goal.After-self-2-1) where
 
   kept : IsKept after c.self.inside.index.numbers None
   kept =
-      kept_begun before after c.self.inside.index.numbers c.self.inside.prepared c.in_ok-node.node c.args.d c.args.sort c.self.invariant.kept open_ c.requires.depth c.requires.sort c.in_ok-node.ensures small nodes_ sorts_ refl
+      kept_begun before after c.self.inside.index.numbers c.self.inside.prepared c.in_ok-node.node c.args.d c.args.sort c.self.invariant.kept open_ c.requires.depth c.requires.sort c.in_ok-node.ensures few nodes_ sorts_ refl
       (ap (λ (k : ℕ). k + 1) number)
 
   free : AreKnown c.put.new.nodes.items c.begin.new.self
@@ -47,7 +47,7 @@ module _ (c : goal.After-self-2-1) where
   gives =
       subst (λ (g : Graph). Begun g after c.args.d c.args.sort c.len-n.result) c.self.view_is
       (subst (λ (k : ℕ). Begun before after c.args.d c.args.sort k) (sym number)
-      (begun before after c.self.inside.index.numbers c.self.inside.prepared c.in_ok-node.node c.args.d c.args.sort c.self.invariant.kept open_ c.requires.depth c.requires.sort c.in_ok-node.ensures small nodes_ sorts_ refl
+      (begun before after c.self.inside.index.numbers c.self.inside.prepared c.in_ok-node.node c.args.d c.args.sort c.self.invariant.kept open_ c.requires.depth c.requires.sort c.in_ok-node.ensures few nodes_ sorts_ refl
       (ap (λ (k : ℕ). k + 1) number)))
 
 pub invariant_of-self-2 : goal.invariant_of-self-2

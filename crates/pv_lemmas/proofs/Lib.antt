@@ -1,0 +1,10 @@
+pub mod Lists
+pub mod Variables
+pub mod Expanding
+pub mod Kept
+pub mod Instances
+pub mod Same
+pub mod Sets
+pub mod Shown
+pub mod Sound
+pub mod Cited

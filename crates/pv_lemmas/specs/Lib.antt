@@ -1,0 +1,3 @@
+-- what public contracts and laws say
+pub mod Lemmas
+pub mod Laws

@@ -7,11 +7,12 @@ it once more with a count of each edge between blocks. That is proved by nothing
     self        a class file against itself: validate, with --cert, --counted and --axioms all, and refute
     pair        a class file against one of those that stand in crates/cases/stdin, as the first or as the second
     check       a certificate for a pair
+    migrate     the same in version 1
     chain       a chain, also with its first lines given; and the first or the second certificate for compose
     words       the words of a command, one a line, for any command
     listing     a listing, by `assemble` of the program of cases
 
-The seeds are those of tests/fuzz.py and tests/listings.py, and the certificates that the program makes for the pairs. A signal and a status over 7
+The seeds are those of tests/fuzz.py and tests/listings.py, and the certificates that the program makes for the pairs, also with uses of lemmas. A signal and a status over 7
 count as crashes. An input that takes more than 5 seconds is ended, and run again if it reaches edges that no such input did before: then more
 than 60 seconds count as a hang. In the end each input that was kept is run again, and its lines must be such as docs/LINES.md knows; of a listing the
 class must be that of tests/listings.py.
@@ -315,7 +316,7 @@ class Kind:
             return text == ""
         words = self.command(whole(path))
         if not words:
-            return bool(status == 0 and re.fullmatch(r"made \d+ methods\n", text)) or any(fuzz.is_text(STATUSES[status], text, it) for it in (*fuzz.LINES, "compose"))
+            return bool(status == 0 and re.fullmatch(r"made \d+ methods\n", text)) or any(fuzz.is_text(STATUSES[status], text, it) for it in (*fuzz.LINES, *fuzz.BAD))
         command = "self" if words[0] == "validate" and words[-2:] == ["I", "I"] else words[0]
         return bool(fuzz.is_text(STATUSES[status], text, command))
 
@@ -345,12 +346,18 @@ def check_kind(kind, seeds):
         kind.setup(words, fuzz.head(one, other) + body)
 
 
+def migrate_kind(kind, seeds):
+    texts = [fuzz.head(one, other) + body for one, other, body in seeds.proved]
+    kind.setup(["migrate", "I", "OUT"], *(text.replace(b"peggy-cert 2", b"peggy-cert 1", 1) for text in texts))
+
+
 def chain_kind(kind, seeds):
-    """Chains from a class to its partner, and from there to the partner again or back."""
-    proved = {(one, other): body for one, other, body in seeds.proved}
-    for number, ((one, middle), body) in enumerate(proved.items()):
-        last = one if (middle, one) in proved else middle
-        first, second = fuzz.head(one, middle) + body, fuzz.head(middle, last) + proved.get((middle, last), b"")
+    """Chains from a class to its partner, with lemmas, and from there to the partner again or back, without."""
+    used = {(one, other): body for one, other, body in seeds.proved}
+    plain = {(one, other): body for one, other, body in reversed(seeds.proved)}
+    for number, ((one, middle), body) in enumerate(used.items()):
+        last = one if (middle, one) in plain else middle
+        first, second = fuzz.head(one, middle) + body, fuzz.head(middle, last) + plain.get((middle, last), b"")
         text = fuzz.chain(middle, first, second)
         files = [kind.file(f"{name}-{number}", data) for name, data in (("one", one), ("middle", middle), ("last", last), ("first", first), ("second", second))]
         given = text.index(b"lines ")
@@ -366,7 +373,7 @@ def words_kind(kind, seeds):
         kind.file(name, data)
     lines = (
         "validate A B", "validate --axioms all --rounds 1 --budget 20 A B", "validate A --workers=2 B --counted", "validate --cert OUT -- A B", "validate --axioms core --rounds=0 A A",
-        "check A B C", "check --workers 16 A B C", "refute A B", "refute --tries 3 --steps=9 A B", "compose A B A C C OUT", "check-chain A B C", "check-chain --workers 1 A A OUT", "make 7 3 A B",
+        "check A B C", "check --workers 16 A B C", "migrate C OUT", "refute A B", "refute --tries 3 --steps=9 A B", "compose A B A C C OUT", "check-chain A B C", "check-chain --workers 1 A A OUT", "make 7 3 A B",
         "make 18446744073709551615 1 OUT OUT", "--help", "",
     )  # fmt: skip
     kind.setup([], *(line.replace(" ", "\n").encode() for line in lines))
@@ -376,7 +383,7 @@ def listing_kind(kind, _):
     kind.setup(["line", "assemble"], *listings.SEEDS)
 
 
-KINDS = {"self": self_kind, "pair": pair_kind, "check": check_kind, "chain": chain_kind, "words": words_kind, "listing": listing_kind}
+KINDS = {"self": self_kind, "pair": pair_kind, "check": check_kind, "migrate": migrate_kind, "chain": chain_kind, "words": words_kind, "listing": listing_kind}
 
 
 class Seeds(fuzz.Seeds):

@@ -42,11 +42,13 @@ run '5 300' '5 100000 1 60' tests/counted.py
 run '1 200' '1 20000' tests/axioms.py
 run '1 200' '1 20000' tests/search.py
 run '20000' '1000000' tests/certs.py
-run '2000' '150000' tests/sections.py
+run '500' '20000' tests/migrate.py
+run '6000' '150000' tests/sections.py
 run '500' '12000' tests/trims.py
 run '2 2 50' '2 200 50' tests/mutants.py
 run '1 2 50' '1 40 50' tests/differences.py
 run "$jars" "$jars /usr/share/java/commons-io.jar /usr/share/java/commons-lang3.jar" tests/pairs.py --cert
+run "$jars" "$jars /usr/share/java/commons-io.jar /usr/share/java/commons-lang3.jar" tests/lemmas.py --jars
 run '8 3 1' '11 12 3' tests/wide.py
 run '10000' '100000' tests/rounds.py
 run '200' '2000' tests/workers.py

@@ -3,11 +3,11 @@
 
 It takes classes of random methods and their twins (tests/twins.py), such classes with an instruction exchanged, and some with methods that aren't compared
 or have no code; has the program write certificates for each two neighbours of three classes (`validate --cert`), and chains of them (`compose`), which must
-be spelled as here; and changes these at random: a byte, a line or a number, a digest, the names or the steps of sections, the middle class with the digests
-that go with it, the classes at the ends, or only the front is left. Then it asks what `check-chain` says of each, and what `compose` says of changed
-certificates. It prints each difference, and counts. The reader below is a second one, written from the definitions of `pv_chain` and `pv_links`; the steps of
-sections are checked by tests/checker.py, over graphs of tests/converter.py. Whether bytes are a class, and why methods are refused, is asked of the program
-(`validate` of a class and itself).
+be spelled as here, also with uses of lemmas in place of axioms (`with_uses` of tests/certs.py); and changes these at random: a byte, a line or a number, a
+digest, a lemma, the names or the steps of sections, the middle class with the digests that go with it, the classes at the ends, or only the front is
+left. Then it asks what `check-chain` says of each, and what `compose` says of changed certificates. It prints each difference, and counts. The reader
+below is a second one, written from the definitions of `pv_chain` and `pv_links`; the steps of sections are checked by tests/checker.py, over graphs of
+tests/converter.py. Whether bytes are a class, and why methods are refused, is asked of the program (`validate` of a class and itself).
 
 At the end the reader has one wrong rule after the other, and each must answer some of the questions otherwise than the program did.
 
@@ -27,13 +27,15 @@ import time
 from collections import Counter
 
 from cases import sample_class
-from certs import ROWS, fits, read
+from certs import ROWS, fits, lemma_changed, parted, read, with_uses
 from checked import methods_of
 from checker import verdict
 from converter import least_graph, with_deep_calls
 from mutants import mutated
 from programs import ask
 from sections import changed as with_changed_steps
+from sections import known
+from sections import lemma_changed as with_changed_lemma
 from twins import written_twins
 
 BATCH = 2000
@@ -102,14 +104,15 @@ class Classes:
         said = asked([f"validate {written(data)} {written(data)}" for data in new]) if new else []
         self.known.update((data, Class(data, answer)) for data, answer in zip(new, said))
 
-    def rejected(self, first, second, title, steps):
+    def rejected(self, first, second, section):
         """The number with which a section for a method of two classes is rejected, or None."""
+        title, steps, lemmas = section
         key = (first.data, second.data, title)
         if key not in self.graphs:
             self.graphs[key] = least_graph(first.methods[title], second.methods[title])
-        if (key, steps) not in self.verdicts:
-            self.verdicts[key, steps] = verdict(self.graphs[key], [step.decode("ascii") for step in steps])
-        return self.verdicts[key, steps]
+        if (key, steps, lemmas) not in self.verdicts:
+            self.verdicts[key, steps, lemmas] = verdict(self.graphs[key], steps, known(lemmas))
+        return self.verdicts[key, steps, lemmas]
 
 
 # ---- chains and certificates
@@ -127,16 +130,13 @@ def cert_of(text):
 
 
 class Cert:
-    """The digests of a certificate that is read, and its sections, each with its title and its steps."""
+    """The digests of a certificate that is read, and its sections, each with its title, its steps, and the lemmas before it."""
 
     def __init__(self, text):
-        lines = text.split(b"\n")[:-1]
-        self.first, self.second = (line.split(b" ")[1].decode() for line in lines[1:3])
-        self.sections, at = [], 3
-        while at < len(lines):
-            end = lines.index(b"end", at)
-            self.sections.append((lines[at].removeprefix(b"method ").decode(), tuple(lines[at + 1 : end])))
-            at = end + 1
+        lines = text.decode("ascii").split("\n")[:-1]
+        self.first, self.second = (line.split(" ")[1] for line in lines[1:3])
+        lemmas, sections = parted(lines[3:])
+        self.sections = [(title, tuple(steps), tuple(map(tuple, lemmas))) for title, steps in sections]
 
 
 class Rules:
@@ -226,8 +226,8 @@ class Rules:
         return None
 
     def checked(self, classes, section, other):
-        for word, (_, steps), one, two in zip(("first", "second"), (section, other), classes, classes[1:]):
-            number = self.classes.rejected(one, two, section[0], steps)
+        for word, it, one, two in zip(("first", "second"), (section, other), classes, classes[1:]):
+            number = self.classes.rejected(one, two, (section[0], *it[1:]))
             if number is not None:
                 return f"rejected {word} {number}"
         return "equivalent"
@@ -303,8 +303,18 @@ class FirstAlone(Rules):
 
 class SecondAlone(Rules):
     def checked(self, classes, section, other):
-        number = self.classes.rejected(classes[1], classes[2], section[0], other[1])
+        number = self.classes.rejected(classes[1], classes[2], (section[0], *other[1:]))
         return "equivalent" if number is None else f"rejected second {number}"
+
+
+class NoLemmas(Rules):
+    def checked(self, classes, section, other):
+        return super().checked(classes, (*section[:2], ()), (*other[:2], ()))
+
+
+class LemmasOfFirst(Rules):
+    def checked(self, classes, section, other):
+        return super().checked(classes, section, (*other[:2], section[2]))
 
 
 class EndsAlone(Rules):
@@ -415,14 +425,15 @@ def digest_changed(text, rand):
 
 
 def sections_of(cert):
-    """The head of a certificate, and its sections with their lines."""
+    """The head of a certificate with its lemmas, and its sections with their lines."""
     lines = cert.split(b"\n")[:-1]
-    found, at = [], 3
+    first = at = next((n for n, line in enumerate(lines) if line.startswith(b"method ")), len(lines))
+    found = []
     while at < len(lines) and b"end" in lines[at:]:
         end = lines.index(b"end", at)
         found.append(lines[at : end + 1])
         at = end + 1
-    return lines[:3], found
+    return lines[:first], found
 
 
 def joined(head, sections):
@@ -453,11 +464,28 @@ def sections_changed(cert, titles, rand):
     return joined(head, sections)
 
 
+def lemmas_changed(cert, rand):
+    """The certificate with a changed lemma; mostly it can be spelled."""
+    head, sections = sections_of(cert)
+    if len(head) < 4 or fault_of(cert) != "same" or rand.random() < 0.3:
+        return lemma_changed(cert, rand)
+    lemmas, _ = parted([line.decode("ascii") for line in head[3:]])
+    at = rand.randrange(len(lemmas))
+    lemmas[at] = with_changed_lemma(lemmas[at], lemmas, rand)
+    return joined(head[:3] + [line.encode() for lemma in lemmas for line in lemma], sections)
+
+
+def with_lemmas(cert):
+    """The certificate with uses of lemmas in place of axioms, where it has no lemmas."""
+    lines = cert.decode("ascii").split("\n")[:-1]
+    return "".join(line + "\n" for line in lines[:3] + with_uses(lines[3:])).encode()
+
+
 def changed(chain, pool, titles, rand):
     """The chain with up to three changes, and what was done last."""
     chain, done = chain.copy(), "as it was"
     for _ in range(rand.choice([0, 1, 1, 1, 1, 2, 2, 3])):
-        what = rand.randrange(8)
+        what = rand.randrange(9)
         side = rand.choice(["first", "second"])
         cert = getattr(chain, side)
         if what < 2:
@@ -475,6 +503,9 @@ def changed(chain, pool, titles, rand):
         elif what == 6:
             done = "a number or a digest of a certificate"
             setattr(chain, side, rand.choice([number_changed, digest_changed])(cert, rand))
+        elif what == 7:
+            done = "a lemma"
+            setattr(chain, side, lemmas_changed(cert, rand))
         else:
             done = "the two certificates"
             chain.first, chain.second = rand.choice([(chain.second, chain.first), (chain.first, chain.first), (b"", chain.second), (chain.first, b"")])
@@ -569,6 +600,9 @@ def first_chains(seed):
         # So too with a section without steps for each method.
         more = [[b"method " + title.encode(), b"end"] for title in methods_of(chain.a)]
         chains.append(Chain(chain.a, chain.middle, chain.c, *(joined(sections_of(it)[0], more) for it in (chain.first, chain.second))))
+    for number, chain in enumerate(list(chains)):
+        first, second = with_lemmas(chain.first), with_lemmas(chain.second)
+        chains.append(Chain(chain.a, chain.middle, chain.c, *[(chain.first, second), (first, chain.second), (first, second)][number % 3]))
     return chains, sorted({it for triple in triples for it in triple}), len(pairs)
 
 

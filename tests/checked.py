@@ -8,7 +8,7 @@ isn't accepted, with the number of the first step that isn't right, how many sec
 their lengths in steps, and how often each step and each axiom occurs.
 
 Then it changes each section that has steps at random, as tests/sections.py does, and has the program check the changed ones (`check`): the answers
-must be those of the second checker.
+must be those of the second checker. Half of the changed ones use lemmas in place of axioms (`with_uses` of tests/certs.py), where the certificate has none.
 
     tests/checked.py [--changes N] [--seed N] [--same] JAR..             classes of JARs before and after ProGuard, as in tests/pairs.py
     tests/checked.py [--changes N] [--seed N] A.class B.class            two class files
@@ -27,8 +27,8 @@ import tempfile
 import time
 from collections import Counter
 
-from certs import ROWS, fits
-from checker import AXIOMS, verdict
+from certs import ROWS, fits, parted, with_uses
+from checker import AXIOMS, accepted_lemmas, verdict
 from converter import ClassFile, least_graph, shown, with_deep_calls
 from mutants import written_classes
 from pairs import called, pairs_of
@@ -41,23 +41,26 @@ class Section:
     def __init__(self, title, steps, least):
         self.title, self.steps, self.least = title, steps, least
 
+    def lines(self):
+        return [f"method {self.title}", *self.steps, "end"]
+
 
 class Pair:
     """Two class files, and the certificate that the program writes for them."""
 
     def __init__(self, name, one, other, cert, axioms):
         self.name, self.one, self.other, self.cert, self.axioms = name, one, other, cert, axioms
-        self.faults, self.files = [], []
+        self.faults, self.files, self.lemmas = [], [], []
         for path in (one, other):
             with open(path, "rb") as file:
                 self.files.append(file.read())
-        self.head = ["peggy-cert 1"] + [f"{word} {hashlib.sha256(data).hexdigest()}" for word, data in zip(("first", "second"), self.files)]
+        self.head = ["peggy-cert 2"] + [f"{word} {hashlib.sha256(data).hexdigest()}" for word, data in zip(("first", "second"), self.files)]
 
     def fault(self, text):
         self.faults.append(f"{self.name}: {text}")
 
     def sections(self):
-        """The sections of the certificate, where it is the one for the report."""
+        """The sections of the certificate, where it is the one for the report; its lemmas are kept."""
         if os.path.exists(self.cert):
             os.remove(self.cert)
         out, status, *_ = called("validate", "--axioms", self.axioms, "--cert", self.cert, self.one, self.other)
@@ -66,7 +69,7 @@ class Pair:
             return []
         with open(self.cert, encoding="ascii") as file:
             lines = file.read().split("\n")
-        found = list(read(lines[3:-1]))
+        self.lemmas, found = parted(lines[3:-1])
         wanted = [line.removesuffix(" equivalent") for line in out.splitlines() if line.endswith(" equivalent")]
         if lines[:3] != self.head or lines[-1] or [title for title, _ in found] != wanted:
             self.fault("not the certificate for the report")
@@ -80,23 +83,14 @@ class Pair:
         (partner,) = (it for it in second[title] if it.is_static == method.is_static)
         return least_graph(method, partner)
 
-    def check(self, sections):
-        """What the program says of a certificate with these sections, each of which is a title and steps."""
+    def check(self, lemmas, sections):
+        """What the program says of a certificate with these lemmas, and sections, each of which is a title and steps."""
+        lines = self.head + [line for lemma in lemmas for line in lemma]
+        lines += [line for title, steps in sections for line in (f"method {title}", *steps, "end")]
         with open(self.cert, "w", encoding="ascii") as file:
-            file.write("".join(line + "\n" for line in self.head))
-            for title, steps in sections:
-                file.write("".join(line + "\n" for line in [f"method {title}", *steps, "end"]))
+            file.write("".join(line + "\n" for line in lines))
         out, *_ = called("check", self.one, self.other, self.cert)
         return out.splitlines()
-
-
-def read(lines):
-    """The title and the steps of each section."""
-    at = 0
-    while at < len(lines):
-        end = lines.index("end", at)
-        yield lines[at].removeprefix("method "), lines[at + 1 : end]
-        at = end + 1
 
 
 def methods_of(data):
@@ -118,27 +112,35 @@ class Counts:
         """Goes over a pair."""
         self.pairs += 1
         sections = pair.sections()
+        lemmas = accepted_lemmas(pair.lemmas)
+        if len(lemmas) < len(pair.lemmas):
+            pair.fault(f"of {len(pair.lemmas)} lemmas {len(lemmas)} are accepted")
         for section in sections:
             self.lengths.append(len(section.steps))
             self.rows.update(step.split(" ")[0] for step in section.steps)
             self.axioms.update(int(step.split(" ")[1]) for step in section.steps if step.startswith("axiom "))
-            wrong = verdict(section.least, section.steps) if all(fits(ROWS, step.encode()) for step in section.steps) else "of spelling"
+            wrong = verdict(section.least, section.steps, lemmas) if all(fits(ROWS, step.encode()) for step in section.steps) else "of spelling"
             if wrong is not None:
                 steps = section.steps
                 pair.fault(f"{section.title} is not accepted: {wrong}: {steps[wrong - 1] if wrong in range(1, len(steps) + 1) else ''}")
-        self.compare(pair, [it for it in sections if it.steps], rand, changes)
+        some = [it for it in sections if it.steps]
+        self.compare(pair, pair.lemmas, some, rand, changes)
+        if not pair.lemmas:
+            lemmas, found = parted(with_uses([line for it in some for line in it.lines()]))
+            self.compare(pair, lemmas, [Section(it.title, steps, it.least) for it, (_, steps) in zip(some, found)], rand, changes)
         for fault in pair.faults:
             print(fault, flush=True)
         self.wrong += len(pair.faults)
 
-    def compare(self, pair, sections, rand, changes):
-        """Compares what the program and the second checker say of changed sections."""
+    def compare(self, pair, lemmas, sections, rand, changes):
+        """Compares what the program and the second checker say of changed sections after lemmas."""
+        accepted = accepted_lemmas(lemmas)
         batch = [(it, changed(it.steps, [it.steps], rand)) for it in sections for _ in range(changes)]
-        said = pair.check([(it.title, steps) for it, steps in batch]) if batch else []
+        said = pair.check(lemmas, [(it.title, steps) for it, steps in batch]) if batch else []
         if len(said) != len(batch):
             pair.fault(f"{len(said)} answers to {len(batch)} changed sections: {said[:1]}")
         for (section, steps), answer in zip(batch, said):
-            wrong = verdict(section.least, steps)
+            wrong = verdict(section.least, steps, accepted)
             want = f"{section.title} " + ("equivalent" if wrong is None else f"rejected {wrong}")
             self.changed["accepted" if wrong is None else "rejected"] += 1
             if answer != want:

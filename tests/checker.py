@@ -1,8 +1,9 @@
-"""A second checker of certificates' sections, written from the definition and not from the program's code.
+"""A second checker of certificates' lemmas and sections, written from the definition and not from the program's code.
 
-It has the operations with their sorts, graphs, the 348 axioms, and when a step is right. An operation is a tuple of the words
-that spell it in a certificate, as ("int", "-5") or ("theta", "1"). A node is an operation and its kids. The tables below are
-written out by hand, so that they can differ from the program's.
+It has the operations with their sorts, graphs, the 348 axioms, when a step is right, and when a lemma is accepted. An operation is a tuple
+of the words that spell it in a certificate, as ("int", "-5") or ("theta", "1"); a variable of a lemma, which has no spelling, is
+("var", its number, its sort). A node is an operation and its kids. The tables below are written out by hand, so that they can differ
+from the program's.
 """
 
 import re
@@ -93,6 +94,8 @@ def exact_sorts(op):
 def sorts_of(op, kids):
     """The sort of an operation over kids of these sorts, or None where it doesn't fit."""
     word = op[0]
+    if word == "var":
+        return None if kids else op[2]
     if word == "root":
         return "R" if re.fullmatch("TF[ILAT]H", kids) else None
     if word not in OVER_ANY:
@@ -166,7 +169,7 @@ class Graph:
 
     def adds(self, number, op, kids):
         """Adds the node, if that is right."""
-        if number != len(self.nodes) or any(kid >= number for kid in kids) or (op, kids) in self.there:
+        if op[0] == "var" or number != len(self.nodes) or any(kid >= number for kid in kids) or (op, kids) in self.there:
             return False
         sort = sorts_of(op, "".join(self.sorts[kid] for kid in kids))
         if sort is None:
@@ -195,14 +198,15 @@ class Graph:
         return False
 
     def is_free(self, depth, n):
-        """Whether a depth is free in a node: a theta of it is reached, not through the first kid of its eval nor through the kid of its pass."""
+        """Whether a depth is free in a node, or may be: a theta of it or a variable is reached, not through the first kid of its eval nor through the
+        kid of its pass."""
         own = str(depth)
 
         def into(m):
             op, kids = self.nodes[m]
             return {("eval", own): kids[1:], ("pass", own): ()}.get(op, kids)
 
-        return self.leads(n, self.free.setdefault(own, {}), lambda m: self.nodes[m][0] == ("theta", own), into)
+        return self.leads(n, self.free.setdefault(own, {}), lambda m: self.nodes[m][0] == ("theta", own) or self.nodes[m][0][0] == "var", into)
 
     def is_settled(self, n, assumed):
         """Whether nothing is reached that may not end, with these nodes assumed to end."""
@@ -210,7 +214,7 @@ class Graph:
         return not self.leads(
             n,
             self.waits.setdefault(assumed, {}),
-            lambda m: m not in assumed and self.nodes[m][0][0] in ("pass", "callend", "never"),
+            lambda m: m not in assumed and self.nodes[m][0][0] in ("pass", "callend", "never", "var"),
             lambda m: () if m in assumed else self.nodes[m][1],
         )
 
@@ -549,10 +553,12 @@ AXIOMS |= {2000 + number: Family("eval", number) for number in IN_FAMILIES}
 class Section:
     """The steps so far: what they state, and the blocks that are open, the outermost first.
 
-    A block is the number of its step, `open` with its depth and its pairs, or `assume` with its root and its nodes."""
+    A block is the number of its step, `open` with its depth and its pairs, or `assume` with its root and its nodes. The accepted lemmas that steps may use
+    stand by their numbers. In a section that is a lemma's own some variables are settled."""
 
-    def __init__(self, graph):
+    def __init__(self, graph, lemmas=None, settled=()):
         self.graph, self.stated, self.open = graph, [], []
+        self.lemmas, self.settled = lemmas or {}, settled
 
     def equality(self, fact):
         """The blocks around a fact, and what it states."""
@@ -666,35 +672,97 @@ class Section:
         return right
 
     def is_right_equality(self, row, rest, a, b):
-        if row == "use":
-            return False  # no certificate states a lemma
         if row == "flip":
             return self.shown(rest[2], self.open) == (b, a)
         if row == "chain":
             first, second = (self.shown(fact, self.open) for fact in rest[2:])
             return first is not None and second is not None and first[0] == a and second == (first[1], b)
-        assumed = next((block[3] for block in reversed(self.open) if block[1] == "assume"), [])
-        axiom = AXIOMS.get(int(rest[0]))
-        return axiom is not None and axiom.is_instance(self.graph, a, b, [int(n) for n in rest[3:]], assumed)
+        assumed = next((block[3] for block in reversed(self.open) if block[1] == "assume"), self.settled)
+        rule = (AXIOMS if row == "axiom" else self.lemmas).get(int(rest[0]))
+        return rule is not None and rule.is_instance(self.graph, a, b, [int(n) for n in rest[3:]], assumed)
+
+    def concludes(self, a, b):
+        """Whether no block is open, and two nodes are one or the last step states that they are equal."""
+        return not self.open and (a == b or (bool(self.stated) and (a, b) in self.stated[-1][1]))
 
 
-def verdict(least, steps):
-    """What is to be answered on a section over a least graph, which comes with its two roots: None where it is accepted, else the number with which it
-    is rejected."""
+def verdict(least, steps, lemmas=None):
+    """What is to be answered on a section over a least graph, which comes with its two roots, after these accepted lemmas: None where it is accepted, else
+    the number with which it is rejected."""
     graph, one, two = least
-    section = Section(graph.copy())
+    section = Section(graph.copy(), lemmas)
     for number, line in enumerate(steps, 1):
         if not section.takes(line):
             return number
-    last = section.stated[-1][1] if steps else []
-    return None if not section.open and (one == two or (one, two) in last) else len(steps) + 1
+    return None if section.concludes(one, two) else len(steps) + 1
 
 
-def each_step(least, steps):
+def each_step(least, steps, lemmas=None):
     """Whether each step is right: after a node step that isn't right there is no graph, and no step is right."""
-    section, has_graph, said = Section(least[0].copy()), True, []
+    section, has_graph, said = Section(least[0].copy(), lemmas), True, []
     for line in steps:
         right = section.takes(line) and has_graph
         has_graph = has_graph and (right or not line.startswith("node "))
         said.append(right)
     return said
+
+
+# ---- lemmas
+
+
+class Lemma:
+    """A lemma after its steps: its variables as its first line has them, the graph that they made, and its two sides."""
+
+    def __init__(self, variables, graph, left, right):
+        self.variables, self.graph, self.left, self.right = variables, graph, left, right
+
+    def is_instance(self, graph, a, b, nodes, assumed):
+        """Whether a and b are its sides where these nodes stand for its variables, and those that are to be settled are."""
+        if len(nodes) != len(self.variables):
+            return False
+        for n, variable in zip(nodes, self.variables):
+            if n >= len(graph.nodes) or graph.sorts[n] != variable[0] or (variable.endswith("!") and not graph.is_settled(n, assumed)):
+                return False
+        return self.stand([(self.left, a), (self.right, b)], graph, nodes)
+
+    def stand(self, pairs, graph, nodes):
+        """Whether each node of the lemma stands at its node of the graph, down to the variables."""
+        seen, work = set(pairs), list(pairs)
+        while work:
+            p, n = work.pop()
+            (op, kids), (other, below) = self.graph.node(p), graph.node(n)
+            if op[0] == "var":
+                if nodes[int(op[1])] != n:
+                    return False
+            elif op != other or len(kids) != len(below):
+                return False
+            else:
+                work += [pair for pair in zip(kids, below) if pair not in seen]
+                seen.update(zip(kids, below))
+        return True
+
+
+def variables_section(variables, lemmas=None):
+    """The section of a lemma before its first step, which may use these lemmas."""
+    settled = [j for j, variable in enumerate(variables) if variable.endswith("!")]
+    return Section(Graph([(("var", str(j), variable[0]), ()) for j, variable in enumerate(variables)]), lemmas, settled)
+
+
+def accepted_lemma(lines, before):
+    """The lemma that these lines state, where it is accepted after these accepted lemmas, or None."""
+    variables = lines[0].split(" ")[2:]
+    section = variables_section(variables, before)
+    left, right = (int(n) for n in lines[-1].split(" ")[1:])
+    if not all(section.takes(line) for line in lines[1:-1]) or max(left, right) >= len(section.graph.nodes) or not section.concludes(left, right):
+        return None
+    return Lemma(variables, section.graph, left, right)
+
+
+def accepted_lemmas(lemmas):
+    """The accepted ones of a certificate's lemmas, each of which is its lines, by their numbers."""
+    found = {}
+    for number, lines in enumerate(lemmas, 1):
+        lemma = accepted_lemma(lines, dict(found))
+        if lemma:
+            found[number] = lemma
+    return found

@@ -3,8 +3,8 @@
 
 It works on the program that `cd crates/cases && rt run < stdin` leaves, or on the one that the environment variable CASES names: one process
 does many inputs, since its calls take whole files as digits. The seeds are the class files that lines of crates/cases/stdin name, loops, calls and
-fields among them, and the certificates that the program makes for the pairs there. Of each input the program must say, within 60 seconds, a status
-and lines that README knows, and change no file but the one that the words name. The kinds:
+fields among them, and the certificates that the program makes for the pairs there, also with uses of lemmas in place of axioms. Of each input the
+program must say, within 60 seconds, a status and lines that README knows, and change no file but the one that the words name. The kinds:
 
     self        a changed class file against itself: no line but `equivalent`, `nocode first` and `refused first`
     pair        a class file against another one, one or both changed
@@ -12,6 +12,7 @@ and lines that README knows, and change no file but the one that the words name.
     cert        the same with `--cert`; `check` must then say `equivalent` of the same methods
     refute      the same by `refute`
     check       a changed certificate, mostly under the digests of the files
+    migrate     the same in version 1, mostly
     compose     class files and two certificates, changed
     chain       a changed chain, mostly with a middle class and digests that fit
     words       words of commands in any order, with options, values and names that are none
@@ -35,6 +36,7 @@ import time
 from collections import Counter
 
 from cases import case_rows
+from certs import with_uses
 from converter import ClassFile
 from programs import cases
 
@@ -57,6 +59,7 @@ LINES = {
 }
 BAD = {
     "check": rf"bad certificate {TEXT}|(?:first|second) [0-9a-f]{{64}} [0-9a-f]{{64}})",
+    "migrate": rf"bad certificate {TEXT})",
     "compose": rf"bad link [12] {TEXT}|digest)",
     "check-chain": r"bad chain (?:too-long|truncated|header|first|second|digest)",
 }
@@ -68,6 +71,8 @@ def is_text(status, text, command):
     """Whether a command may say this text with this status."""
     sides = {"compose": "first|second|third"}.get(command, "first|second")
     lines = LINES.get(command, "(?!)")
+    if status == "AllEquivalent" and command == "migrate":
+        return re.fullmatch(r"migrated \d+ sections\n", text)
     if status == "AllEquivalent":
         return text == "composed\n" if command == "compose" else re.fullmatch(rf"(?:{NAMED} {EQUAL}\n)*", text) and command != "refute" or text == ""
     if status == "Others":
@@ -98,13 +103,15 @@ class Seeds:
         self.proved = self.certificates()
 
     def certificates(self):
-        """The sections of certificates that the program makes for the pairs, with the files."""
+        """The sections of certificates that the program makes for the pairs, with the files; and lemmas with sections that use them."""
         given = [f"placed C validate --rounds 3 --budget 20000 --cert C A B; A={hexed(one)} B={hexed(other)}" for one, other in self.pairs]
         found = []
         for (one, other), said in zip(self.pairs, answers(given)):
             text = unquoted(said[said.index('; "peggy-cert') + 2 :]) if said and '; "peggy-cert' in said else ""
             if text.count("\n") > 4:
-                found.append((one, other, text.split("\n", 3)[3].encode()))
+                lines = text.split("\n")[3:-1]
+                bodies = dict.fromkeys("".join(line + "\n" for line in body).encode() for body in (lines, with_uses(lines)))
+                found += [(one, other, body) for body in bodies]
         return found
 
 
@@ -127,7 +134,7 @@ def hexed(data):
 
 def head(one, other):
     """The first lines of a certificate for two files."""
-    return b"peggy-cert 1\nfirst " + hashlib.sha256(one).hexdigest().encode() + b"\nsecond " + hashlib.sha256(other).hexdigest().encode() + b"\n"
+    return b"peggy-cert 2\nfirst " + hashlib.sha256(one).hexdigest().encode() + b"\nsecond " + hashlib.sha256(other).hexdigest().encode() + b"\n"
 
 
 def chain(middle, first, second, lines=None):
@@ -211,7 +218,7 @@ class Inputs:
 
     def words(self):
         r = self.r
-        word = lambda: r.choice(("validate", "check", "compose", "check-chain", "refute", "A", "B", "C", "-", "--", "--help", "-x", "--rounds", "--budget", "--cert", "--counted", "--axioms", "--tries",
+        word = lambda: r.choice(("validate", "check", "migrate", "compose", "check-chain", "refute", "A", "B", "C", "-", "--", "--help", "-x", "--rounds", "--budget", "--cert", "--counted", "--axioms", "--tries",
                                  "--steps", "--rounds=2", "--budget=5", "--cert=C", "--axioms=all", "--tries=3", "--steps=9", "all", "core", "0", "1", "03", "17", "500001", "18446744073709551616", '""',
                                  "--counted=1", "--=", "=", "A=B", "é", "--rounds=", "none"))
         words = [word() for _ in range(r.randrange(9))]
@@ -244,6 +251,9 @@ class Inputs:
             middle = self.class_file(middle)
         if kind == "check":
             return f"run check A B C; A={hexed(one)} B={hexed(middle)} C={hexed(self.certificate(one, middle, body))}", "check"
+        if kind == "migrate":
+            text = self.certificate(one, middle, body)
+            return f"run migrate C D; C={hexed(text.replace(b'peggy-cert 2', b'peggy-cert 1', 1) if r.random() < 0.95 else text)}", "migrate"
         last, second = (one, self.text(body)) if r.random() < 0.7 else (middle, body)
         first, second = self.certificate(one, middle, body), head(middle, last) + second
         if kind == "compose":
@@ -293,12 +303,12 @@ def is_right(answer, command):
         return False, "none"
     status, text = found[1], unquoted(found[2])
     if command == "words":
-        known = status == "ReadFault" and text == "" or any(is_text(status, text, it) for it in ("validate", "refute"))
+        known = status == "ReadFault" and text == "" or any(is_text(status, text, it) for it in ("validate", "refute", *BAD))
         return known and (found[4] == "held" or " place " in found[3]), status
     return is_text(status, text, command) and found[4] == "held", status
 
 
-KINDS = ("self", "pair", "counted", "cert", "refute", "check", "compose", "chain", "words")
+KINDS = ("self", "pair", "counted", "cert", "refute", "check", "migrate", "compose", "chain", "words")
 
 
 def main():

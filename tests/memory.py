@@ -18,6 +18,7 @@ import tempfile
 from concurrent.futures import ThreadPoolExecutor
 
 from cases import sample_class
+from certs import with_uses
 from pairs import PROGRAM
 
 LIBRARY = """
@@ -64,6 +65,9 @@ COMMANDS = {
     "validate-cert": ("validate A B --cert OUT", 0),
     "check": ("check A B X", 0),
     "check-other": ("check A A X", 3),
+    "check-lemma": ("check A B L", 0),
+    "migrate": ("migrate V OUT", 0),
+    "migrate-other": ("migrate X OUT", 3),
     "refute": ("refute A E", 1),
     "refute-tried": ("refute --tries 8 A E", 1),
     "compose": ("compose A B C X Y OUT", 0),
@@ -154,7 +158,7 @@ def tried(name, folder):
 
 
 def files_of(work, library):
-    """The files that the commands read: classes, certificates and a chain."""
+    """The files that the commands read: classes, certificates, one of them with a lemma and one of version 1, and a chain."""
     files = {name: sample_class(words.split(" "), {}) for name, words in CLASSES.items()}
     first = Folder(os.path.join(work, "first"), library, files)
     for name, words in (("X", "validate A B --cert OUT"), ("Y", "validate B C --cert OUT"), ("D", "compose A B C X Y OUT")):
@@ -163,6 +167,9 @@ def files_of(work, library):
             sys.exit(f"{words}: status {made.status}")
         files[name] = made.placed
         first.write(name, made.placed)
+    lines = files["X"].decode("ascii").split("\n")[:-1]
+    files["L"] = "".join(line + "\n" for line in lines[:3] + with_uses(lines[3:])).encode()
+    files["V"] = files["X"].replace(b"peggy-cert 2", b"peggy-cert 1", 1)
     return files
 
 

@@ -72,8 +72,8 @@ expect 'an endless file' 2 'bad class first too-long at 4194304
 # Certificates, with the digest that `sha256sum` gives. Without steps a section says that both roots are one node.
 digest=$(sha256sum < "$class" | cut -d' ' -f1)
 other=$(sha256sum < "$work/empty" | cut -d' ' -f1)
-printf 'peggy-cert 1\nfirst %s\nsecond %s\nmethod f ()I\nend\n' "$digest" "$digest" > "$work/cert"
-printf 'peggy-cert 1\nfirst %s\nsecond %s\nmethod f ()I\nend\n' "$digest" "$other" > "$work/other"
+printf 'peggy-cert 2\nfirst %s\nsecond %s\nmethod f ()I\nend\n' "$digest" "$digest" > "$work/cert"
+printf 'peggy-cert 2\nfirst %s\nsecond %s\nmethod f ()I\nend\n' "$digest" "$other" > "$work/other"
 expect 'a certificate' 0 "$line" check "$work/A" "$work/B" "$work/cert"
 expect 'a certificate of another file' 3 "bad certificate second $other $digest
 " check "$work/A" "$work/B" "$work/other"
@@ -82,6 +82,55 @@ expect 'an empty certificate' 3 'bad certificate truncated
 expect 'an endless certificate' 3 'bad certificate too-long
 ' check "$work/A" "$work/B" /dev/zero
 expect 'an absent certificate' 5 '' check "$work/A" "$work/B" "$work/absent"
+
+# A lemma of one node, and uses of it and of none: node 3 is the int that f returns.
+sed '3s/.*/&\nlemma 1 I\nprove 0 0/; 4s/.*/&\nuse 1 3 3 3/' "$work/cert" > "$work/lemma"
+expect 'a certificate with a lemma' 0 "$line" check "$work/A" "$work/B" "$work/lemma"
+sed 's/use 1/use 2/' "$work/lemma" > "$work/broken"
+expect 'a use of no lemma' 1 'f ()I rejected 1
+' check "$work/A" "$work/B" "$work/broken"
+sed 's/lemma 1/lemma 2/' "$work/lemma" > "$work/broken"
+expect 'a lemma with another number' 3 'bad certificate line 4
+' check "$work/A" "$work/B" "$work/broken"
+
+# Certificates of version 1, which `migrate` alone reads.
+sed '1s/2/1/' "$work/cert" > "$work/version1"
+expect 'a certificate of version 1' 3 'bad certificate header
+' check "$work/A" "$work/B" "$work/version1"
+expect 'a certificate migrated' 0 'migrated 1 sections
+' migrate "$work/version1" "$work/migrated"
+expect 'a certificate migrated in its place' 0 'migrated 1 sections
+' migrate "$work/version1" "$work/version1"
+if cmp -s "$work/migrated" "$work/cert" && cmp -s "$work/version1" "$work/cert"; then
+  echo 'ok      the migrated certificates'
+else
+  echo 'FAILED  the migrated certificates'
+  failed=1
+fi
+expect 'migrate: a certificate of version 2' 3 'bad certificate header
+' migrate "$work/cert" "$work/none"
+sed '1s/2/1/' "$work/lemma" > "$work/broken"
+expect 'migrate: a lemma in version 1' 3 'bad certificate line 4
+' migrate "$work/broken" "$work/none"
+expect 'migrate: an empty certificate' 3 'bad certificate truncated
+' migrate "$work/empty" "$work/none"
+expect 'migrate: an endless certificate' 3 'bad certificate too-long
+' migrate /dev/zero "$work/none"
+expect 'migrate: an absent certificate' 5 '' migrate "$work/absent" "$work/none"
+expect 'migrate: a word too few' 4 'bad words
+' migrate "$work/cert"
+expect 'migrate: a word too many' 4 'bad words
+' migrate "$work/cert" "$work/none" C
+expect 'migrate: an option' 4 'bad words
+' migrate --cert "$work/none" "$work/cert" "$work/none"
+sed '1s/2/1/' "$work/cert" > "$work/version1"
+expect 'migrate: a certificate in no folder' 6 '' migrate "$work/version1" "$work/absent/cert"
+if [ -e "$work/none" ]; then
+  echo 'FAILED  nothing is placed where nothing is migrated'
+  failed=1
+else
+  echo 'ok      nothing is placed where nothing is migrated'
+fi
 
 # Chains of that certificate and itself, and of others; a class that returns 2 and not 1.
 LC_ALL=C sed "$(printf 's/\004\254/\005\254/')" "$class" >"$work/returns2"

@@ -26,6 +26,7 @@ import zipfile
 from collections import Counter
 from concurrent.futures import ThreadPoolExecutor
 
+from certs import parted
 from programs import punthizha
 
 PROGRAM = punthizha()
@@ -83,13 +84,8 @@ def called(*words):
 
 def lengths(text):
     """The number of steps of each section of a certificate."""
-    found = []
-    for line in text.split("\n")[3:]:
-        if line.startswith("method "):
-            found.append(0)
-        elif line not in ("end", ""):
-            found[-1] += 1
-    return found
+    _, sections = parted(text.split("\n")[3:-1])
+    return [len(steps) for _, steps in sections]
 
 
 def check(one, other, cert, out):

@@ -1,10 +1,10 @@
 #!/usr/bin/env python3
 """Pads sections of certificates with steps that nothing needs, and compares what the program leaves of them with a trimmer of its own.
 
-It takes the accepted sections of the rows `section` of crates/cases/stdin, some of them changed, and puts further right steps
-between their steps: facts the other way round, chains, sets, axioms once more, nodes, inductions and ending blocks, in whose
-blocks also nodes stand that are needed later. The program of cases trims each (`trim BYTES`). The trimmer below goes from the
-last step back and keeps what a kept step cites. What the program prints must be what it gives, and the checker of
+It takes the accepted sections of the rows `section` of crates/cases/stdin that need no lemma, some of them changed, and puts further
+right steps between their steps: facts the other way round, chains, sets, axioms once more, nodes, inductions and ending blocks, in whose
+blocks also nodes stand that are needed later. The program of cases trims each by the axioms alone (`trim BYTES`). The trimmer below goes
+from the last step back and keeps what a kept step cites. What the program prints must be what it gives, and the checker of
 tests/checker.py must accept it. It prints each difference, and counts.
 
     tests/trims.py [--seed N] [COUNT]
@@ -16,8 +16,9 @@ import random
 import sys
 import time
 
-from sections import Growing, changed, check, kinds, least, rows
+from checker import Section
 from programs import ask
+from sections import Growing, certificate, changed, check, kinds, known, least, rows
 
 BATCH = 2000
 
@@ -42,11 +43,14 @@ def cited(line):
     return nodes, {int(word.split(".")[0]) for kind, word in found if kind in "fr" and "." in word}
 
 
-def trimmed(methods, steps):
-    """The steps that the last one needs, under new numbers."""
-    graph, one, two = least(methods)
-    if one == two:
-        return []
+def sides(line):
+    """The two nodes that are equal by a step that states one equality."""
+    words = line.split(" ")
+    return {int(word) for word in (words[2:4] if words[0] in ("axiom", "use") else words[1:3])}
+
+
+def needed(steps, uses=()):
+    """The numbers of the steps that the last one needs, where those of `uses` rest on no step, and need only the nodes of their two sides."""
     opened, stack, made = {}, [], {}
     for k, line in enumerate(steps, 1):
         row = line.split(" ")[0]
@@ -56,11 +60,21 @@ def trimmed(methods, steps):
             opened[k] = stack.pop()
         elif row == "node":
             made[int(line.split(" ")[1])] = k
-    kept = {len(steps)}
+    kept = {len(steps)} if steps else set()
     for k in range(len(steps), 0, -1):
         if k in kept:
-            nodes, facts = cited(steps[k - 1])
+            nodes, facts = (sides(steps[k - 1]), set()) if k in uses else cited(steps[k - 1])
             kept |= facts | {made[n] for n in nodes if n in made} | ({opened[k]} if k in opened else set())
+    return kept
+
+
+def trimmed(methods, steps):
+    """The steps that the last one needs, under new numbers."""
+    graph, one, two = least(methods)
+    if one == two:
+        return []
+    kept = needed(steps)
+    made = {int(line.split(" ")[1]): k for k, line in enumerate(steps, 1) if line.startswith("node ")}
     order = sorted(kept)
     left = [n for n, k in sorted(made.items()) if k in kept]
     nodes = {n: len(graph.nodes) + at for at, n in enumerate(left)}
@@ -72,7 +86,7 @@ class Padding(Growing):
     """A section that grows: the steps of another one in their order, and right steps between them."""
 
     def __init__(self, methods, steps, rand):
-        super().__init__(least(methods)[0], rand)
+        super().__init__(Section(least(methods)[0].copy(), known(())), rand)
         self.old, self.at, self.nodes, self.steps = list(steps), 0, {}, {}
 
     def next_old(self):
@@ -165,11 +179,13 @@ def padded(methods, steps, rand):
 
 def asked(batch):
     """What the program leaves of sections, each with its methods."""
-    head, lines = "peggy-cert 1\nfirst " + "0" * 64 + "\nsecond " + "0" * 64 + "\n", []
-    for methods, steps in batch:
-        text = head + "method a ()V\n" + "".join(step + "\n" for step in steps) + "end\n"
-        lines.append(f"trim {text.encode().hex().upper()}; {methods}")
-    return ask(lines, seconds=3000)
+    return ask([f"trim {certificate((), [steps]).hex().upper()}; {methods}" for methods, steps in batch], seconds=3000)
+
+
+def some_section(pool, others, rand):
+    """The methods and the steps of a section, changed or not; `others` has the sections of the methods."""
+    methods, steps = rand.choice(pool)
+    return methods, changed(steps, others[methods], rand) if rand.random() < 0.3 else steps
 
 
 def main(args):
@@ -177,23 +193,21 @@ def main(args):
     count = int(next((arg for arg in args if arg.isdigit()), 10000))
     rand, began, wrong, before, after, done = random.Random(seed), time.time(), 0, 0, 0, 0
     pool, sections = [], {}
-    for methods, steps, answer in rows():
+    for methods, lemmas, steps, answer in rows():
         sections.setdefault(methods, []).append(steps)
-        pool += [(methods, steps)] if answer == "Accepted" else []
+        pool += [(methods, steps)] if answer == "Accepted" and not lemmas else []
     while done < count:
         batch = []
         while len(batch) < min(BATCH, count - done):
-            methods, steps = rand.choice(pool)
-            if rand.random() < 0.3:
-                steps = changed(steps, sections[methods], rand)
-            steps = padded(methods, steps, rand) if check(methods, steps) == "Accepted" else None
-            if steps is not None and check(methods, steps) == "Accepted":
+            methods, steps = some_section(pool, sections, rand)
+            steps = padded(methods, steps, rand) if check(methods, (), steps) == "Accepted" else None
+            if steps is not None and check(methods, (), steps) == "Accepted":
                 batch.append((methods, steps))
         for (methods, steps), said in zip(batch, asked(batch)):
             left = trimmed(methods, steps)
             want = "; ".join(["Accepted", "method a ()V", *left, "end", "Accepted"])
             before, after = before + len(steps), after + len(left)
-            if said != want or check(methods, left) != "Accepted":
+            if said != want or check(methods, (), left) != "Accepted":
                 wrong += 1
                 print(f"{want} wanted, {said}: {methods}: {steps}")
         done += len(batch)

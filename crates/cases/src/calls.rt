@@ -74,6 +74,8 @@ pub fn answer<R: Files + Threads + Sync>(rt: &R, bench: &Bench, line: &str) -> A
         "cleared-root" => roots::cleared_root(bench, rest),
 
         "cert" => certs::cert(bench, rest),
+        "cert-1" => certs::cert_1(bench, rest),
+        "lemmas" => sections::lemmas(rt, bench, rest),
         "section" => sections::section(rt, bench, rest),
         "pieces" => sections::pieces(rt, bench, rest),
         "steps" => sections::steps(rt, bench, rest),

@@ -1,1 +1,2 @@
 mod Roots
+mod Alone

@@ -1,17 +1,20 @@
-//! Calls of `pv_check` and `pv_trim`.
+//! Calls of `pv_check`, `pv_rules` and `pv_trim`.
 //!
 //! | Line | Answer |
 //! |---|---|
+//! | `lemmas BYTES` | for each lemma of the certificate whether it is `accepted` or `rejected`, or the fault of the certificate |
 //! | `section BYTES; METHOD ..; METHOD ..` | for each section of the certificate whether it is accepted over the least graph of the roots of two methods, the first of each class, or the step for which it is rejected; or the verdict on the two where they don't both have a root, or the fault of the certificate |
 //! | `pieces WORKERS MEETINGS BYTES; METHOD ..; METHOD ..` | as `section`, by this many workers and a gate for this many meetings; then whether it `met`, and how often it was passed |
 //! | `steps BYTES; METHOD ..; METHOD ..` | for each step of the sections, in order, whether it is `right` or `wrong` over that graph; else as `section` |
-//! | `trim BYTES; METHOD ..; METHOD ..` | for each section what `section` answers; after `Accepted`, also the lines of the section without the steps that nothing needs, and what `section` answers of these; else as `section` |
+//! | `trim BYTES; METHOD ..; METHOD ..` | for each section what `section` answers where the certificate states no lemma; after `Accepted`, also the lines of the section without the steps that nothing needs, and what `section` answers of these; else as `section` |
 //!
 //! `samples` says how a METHOD is written, and what may stand before it.
 
-ghost use Rattle.std.specs.Prelude.{◌≡◌, ◌<◌, IfOk, false, length};
+ghost use Rattle.std.specs.Prelude.{◌≡◌, ◌↔◌, ◌<◌, [], IfOk, false, length};
 ghost use Rattle.pv_graph.specs.Graphs.{IsWellMade};
+ghost use Rattle.pv_lemmas.specs.Lemmas.{ByLemmas};
 ghost use Rattle.pv_report.specs.Judging.{IsRead};
+ghost use Rattle.pv_steps.specs.Accepted.{Derives};
 
 use cases_files::samples::class_of;
 use cases_words::answers::{Answer, List, NoAnswer, shown};
@@ -25,6 +28,7 @@ use pv_class::{ClassFault, ClassFile, read_class};
 use pv_list::Listed;
 use pv_pieces::Workers;
 use pv_report::{Verdict, least_roots};
+use pv_rules::{Lemmas, SectionRules};
 use pv_steps::Step;
 use pv_value::{Memory, Name};
 use std::alloc::Global;
@@ -74,6 +78,24 @@ fn alone<R>(rt: &R) -> Workers<'_, R, OpenGate> {
     Workers::new(rt, &OpenGate, 1)
 }
 
+/// `lemmas BYTES`
+pub fn lemmas<R: Threads + Sync>(rt: &R, bench: &Bench, rest: &str) -> Answer {
+    let alloc = bench.alloc();
+    let cert = match read_cert(alloc, &bench.bytes(rest)?) {
+        Ok(cert) => cert,
+        Err(CertFault::Memory) => return Err(NoAnswer::Memory),
+        Err(fault) => return shown(alloc, fault),
+    };
+    let axioms = Axioms::new(alloc)?;
+    let lemmas = Lemmas::new(&alone(rt), alloc, &axioms, cert.lemmas.as_slice())?;
+    let mut list = List::new(alloc);
+    for n in 1..cert.lemmas.as_slice().len() + 1 {
+        let accepted = lemmas.accepted(n);
+        list.add(if accepted { "accepted" } else { "rejected" })?;
+    }
+    list.into_text()
+}
+
 // `BYTES; METHOD ..; METHOD ..`
 fn asked<R: Threads + Sync, G: Gate>(
     workers: &Workers<R, G>,
@@ -92,18 +114,18 @@ fn asked<R: Threads + Sync, G: Gate>(
     let first = with_method(bench, first)?;
     let second = with_method(bench, second)?;
     match first_roots(alloc, &first, &second)? {
-        Ok(roots) => answered(workers, alloc, question, &roots, cert.sections.as_slice()),
+        Ok(roots) => answered(workers, alloc, question, &roots, &cert),
         Err(verdict) => shown(alloc, verdict),
     }
 }
 
-// What is answered on the sections over a least graph.
+// What is answered on the sections over a least graph. What is left of a section is asked by the axioms alone.
 fn answered<R: Threads + Sync, G: Gate>(
     workers: &Workers<R, G>,
     alloc: Global,
     question: Question,
     roots: &Least,
-    sections: &[Section],
+    cert: &Cert,
 ) -> Answer
     requires made { IsWellMade roots.now.graph }
     requires sealed { roots.now.graph.is_open ≡ false }
@@ -111,52 +133,86 @@ fn answered<R: Threads + Sync, G: Gate>(
     requires second { roots.now.second < length roots.now.graph.nodes }
 {
     let axioms = Axioms::new(alloc)?;
+    let (lemmas, none) = (
+        Lemmas::new(workers, alloc, &axioms, cert.lemmas.as_slice())?,
+        Lemmas::new(workers, alloc, &axioms, &[])?,
+    );
+    let rules = SectionRules {
+        axioms: &axioms,
+        lemmas: &lemmas,
+    };
+    let alone = SectionRules {
+        axioms: &axioms,
+        lemmas: &none,
+    };
     let mut list = List::new(alloc);
-    for section in sections {
-        let checker = Checker::new(&axioms, roots, section.steps.as_slice());
+    for section in cert.sections.as_slice() {
         match question {
             Question::Accepted => {
-                let answer = checker.check(workers, alloc)?;
+                let answer = checked(workers, alloc, &rules, roots, section.steps.as_slice())?;
                 list.add(shown(alloc, answer)?.as_str())?;
             }
-            Question::Right => add_steps(alloc, &checker, &mut list)?,
-            Question::Left => add_left(workers, alloc, &axioms, roots, section, &mut list)?,
+            Question::Right => add_steps(alloc, &rules, roots, section, &mut list)?,
+            Question::Left => add_left(workers, alloc, &alone, roots, section, &mut list)?,
         }
     }
     list.into_text()
 }
 
 // Puts for each step of a section whether it is right.
-fn add_steps(alloc: Global, checker: &Checker, list: &mut List) -> Result<(), NoAnswer>
-    requires { checker.now.least.now.graph.is_open ≡ false }
+fn add_steps(
+    alloc: Global,
+    rules: &SectionRules,
+    roots: &Least,
+    section: &Section,
+    list: &mut List,
+) -> Result<(), NoAnswer>
+    requires { roots.now.graph.is_open ≡ false }
 {
-    for k in 1..checker.steps.len() + 1 {
+    let steps = section.steps.as_slice();
+    let checker = Checker::new(rules, roots.graph(), roots.first(), roots.second(), steps);
+    for k in 1..steps.len() + 1 {
         let right = checker.step_is_right(alloc, k)?;
         list.add(if right { "right" } else { "wrong" })?;
     }
     Ok(())
 }
 
-// Puts the answer on a section; where it is accepted, also the lines of what is left of it, and the answer on that.
+// Whether the steps derive by these rules that the roots of a least graph are equal.
+fn checked<R: Threads + Sync, G: Gate>(
+    workers: &Workers<R, G>,
+    alloc: Global,
+    rules: &SectionRules,
+    roots: &Least,
+    steps: &[Step],
+) -> Result<Checked, Memory>
+    requires { roots.now.graph.is_open ≡ false }
+    ensures { IfOk result (λ answer. (answer ≡ Checked.Accepted) ↔ Derives (ByLemmas rules.now.lemmas.now) roots.now.graph roots.now.first roots.now.second steps.now) }
+{
+    let checker = Checker::new(rules, roots.graph(), roots.first(), roots.second(), steps);
+    checker.check(workers, alloc)
+}
+
+// Puts the answer on a section by the axioms alone; where it is accepted, also the lines of what is left of it, and the answer on that.
 fn add_left<R: Threads + Sync, G: Gate>(
     workers: &Workers<R, G>,
     alloc: Global,
-    axioms: &Axioms,
+    rules: &SectionRules,
     roots: &Least,
     section: &Section,
     list: &mut List,
 ) -> Result<(), NoAnswer>
+    requires none { rules.now.lemmas.now ≡ [] }
     requires made { IsWellMade roots.now.graph }
     requires sealed { roots.now.graph.is_open ≡ false }
     requires first { roots.now.first < length roots.now.graph.nodes }
     requires second { roots.now.second < length roots.now.graph.nodes }
 {
-    let checker = Checker::new(axioms, roots, section.steps.as_slice());
-    let answer = checker.check(workers, alloc)?;
+    let answer = checked(workers, alloc, rules, roots, section.steps.as_slice())?;
     list.add(shown(alloc, answer)?.as_str())?;
     if let Checked::Accepted = answer {
         let steps = pv_trim::trim(alloc, roots, &section.steps)?;
-        let again = Checker::new(axioms, roots, steps.as_slice()).check(workers, alloc)?;
+        let again = checked(workers, alloc, rules, roots, steps.as_slice())?;
         add_lines(alloc, section, steps, list)?;
         list.add(shown(alloc, again)?.as_str())?;
     }
@@ -178,6 +234,7 @@ fn add_lines(
     let cert = Cert {
         first: [0; 32],
         second: [0; 32],
+        lemmas: Listed::from(Vec::new(alloc)),
         sections: Listed::from(vec![in alloc; section]?),
     };
     let text = write_cert(alloc, &cert)?;

@@ -6,16 +6,14 @@ use Rattle.std.proofs.Common.{inl, inr, refl, Bor, cond, sym, ap, ◌∙◌, sub
 use Rattle.std.proofs.lemmas.Bool.Decides.{nat_tests}
 use Rattle.pv_value.specs.declared.memory.Memory.{Memory}
 use Rattle.pv_graph.specs.Walks.{In}
-use Rattle.pv_graph.specs.Graphs.{Graph}
 use Rattle.pv_pattern.specs.declared.pattern.Axiom.{Axiom}
 use Rattle.pv_pattern.specs.Patterns as patterns
-use Rattle.pv_pattern.specs.Instances.{IsInstance}
 use Rattle.pv_pattern.specs.Seen.{axiom_seen}
 use Rattle.pv_scalar.specs.Table.{scalar_axioms}
 use Rattle.pv_loopax.specs.Table.{loop_axioms}
 use Rattle.pv_heapax.specs.Table.{heap_axioms}
 use Rattle.pv_choiceax.specs.Table.{choice_axioms}
-use Rattle.pv_axioms.specs.Entries.{core_axioms, axioms, IsEntry, HasNone, Instance}
+use Rattle.pv_axioms.specs.Entries.{core_axioms, axioms, IsEntry, HasNone}
 use Rattle.pv_axioms.specs.Tables.{AreTables}
 use Rattle.pv_axioms.proofs.Numbers.{one_entry}
 
@@ -90,12 +88,11 @@ found scalar loops heap choices are n r s t u v x y e f h i two three four =
 -- ---- instances
 
 -- a test of the entry with a number is one of all entries with it
-pub entry_tells : (g : Graph) (assumed : List ℕ) (n : ℕ) (subst_ : List ℕ) (l r : ℕ) (a : patterns.Axiom) → IsEntry axioms n a → (answer : Result Bool Memory)
-    → IfOk answer (λ yes. IsTrue yes ↔ IsInstance g assumed a subst_ l r) → IfOk answer (λ yes. IsTrue yes ↔ Instance g assumed n subst_ l r)
-entry_tells g assumed n subst_ l r a e (Ok it) h =
-    (λ t. (a, e, h.0 t), λ i. h.1 (subst (λ (b : patterns.Axiom). IsInstance g assumed b subst_ l r) (one_entry n i.0 a i.1 e) i.2))
-entry_tells g assumed n subst_ l r a e (Err memory) h = tt
+pub entry_tells : (P : patterns.Axiom → Type 0) (n : ℕ) (a : patterns.Axiom) → IsEntry axioms n a → (answer : Result Bool Memory)
+    → IfOk answer (λ yes. IsTrue yes ↔ P a) → IfOk answer (λ yes. IsTrue yes ↔ ((b : patterns.Axiom) × IsEntry axioms n b × P b))
+entry_tells P n a e (Ok it) h = (λ t. (a, e, h.0 t), λ i. h.1 (subst P (one_entry n i.0 a i.1 e) i.2))
+entry_tells P n a e (Err memory) h = tt
 
--- where no entry has the number, there is no instance
-pub none_tells : (g : Graph) (assumed : List ℕ) (n : ℕ) (subst_ : List ℕ) (l r : ℕ) → HasNone axioms n → IsTrue false ↔ Instance g assumed n subst_ l r
-none_tells g assumed n subst_ l r none = (λ t. absurd (cc), λ i. absurd (none i.0 i.1))
+-- where no entry has the number, there is none of which it holds
+pub none_tells : (P : patterns.Axiom → Type 0) (n : ℕ) → HasNone axioms n → IsTrue false ↔ ((b : patterns.Axiom) × IsEntry axioms n b × P b)
+none_tells P n none = (λ t. absurd (cc), λ i. absurd (none i.0 i.1))

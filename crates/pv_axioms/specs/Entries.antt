@@ -3,7 +3,7 @@ use Rattle.std.specs.Prelude.{◌≡◌, ℕ, List, [], ◌∷◌, ◌++◌, Som
 use Rattle.pv_graph.specs.Walks.{In}
 use Rattle.pv_graph.specs.Graphs.{Graph}
 use Rattle.pv_pattern.specs.Patterns.{Axiom}
-use Rattle.pv_pattern.specs.Instances.{IsInstance}
+use Rattle.pv_pattern.specs.Instances.{IsInstance, IsOpenInstance}
 use Rattle.pv_scalar.specs.Table.{scalar_axioms}
 use Rattle.pv_loopax.specs.Table.{loop_axioms}
 use Rattle.pv_heapax.specs.Table.{heap_axioms}
@@ -42,6 +42,10 @@ pub record AreAxioms (table : List Axiom) : Type 0 where
 -- the axioms as steps use them: l and r are the sides of an instance of the axiom with this number
 abbrev pub Instance : Graph → List ℕ → ℕ → List ℕ → ℕ → ℕ → Type 0
 Instance g assumed n subst l r = (a : Axiom) × IsEntry axioms n a × IsInstance g assumed a subst l r
+
+-- .. whatever stands for the variables of the graph, if only settled nodes may stand for those that are assumed to end
+abbrev pub OpenInstance : Graph → List ℕ → ℕ → List ℕ → ℕ → ℕ → Type 0
+OpenInstance g assumed n subst l r = (a : Axiom) × IsEntry axioms n a × IsOpenInstance g assumed a subst l r
 
 -- the axioms as rules, with no lemma
 abbrev pub ByAxioms : Instances

@@ -4,13 +4,13 @@ ghost use Rattle.std.specs.List.{find};
 ghost use Rattle.std.specs.Option.{option_copied};
 ghost use Rattle.std.specs.Prelude.{◌≡◌, ◌↔◌, ◌==◌, IfOk, IsTrue, MatchOption, map};
 ghost use Rattle.pv_pattern.specs.Seen.{axiom_seen};
-ghost use Rattle.pv_axioms.specs.Entries.{HasNone, Instance, IsEntry, axioms, tables};
+ghost use Rattle.pv_axioms.specs.Entries.{HasNone, Instance, IsEntry, OpenInstance, axioms, tables};
 
 use pv_choiceax::choice_axioms;
 use pv_graph::{Graph, NodeId};
 use pv_heapax::heap_axioms;
 use pv_loopax::loop_axioms;
-use pv_pattern::{Axiom, instance};
+use pv_pattern::{Axiom, instance, open_instance};
 use pv_scalar::scalar_axioms;
 use pv_value::Memory;
 use std::alloc::Global;
@@ -87,6 +87,26 @@ impl Axioms {
     {
         match self.axiom(number) {
             Some(axiom) => instance(alloc, graph, assumed, axiom, subst, left, right),
+            None => Ok(false),
+        }
+    }
+
+    /// The same whatever stands for the variables of the graph, if only settled nodes may stand for those that are
+    /// assumed to end.
+    pub fn open_instance_of(
+        &self,
+        alloc: Global,
+        graph: &Graph,
+        assumed: &[NodeId],
+        number: u32,
+        subst: &[NodeId],
+        left: NodeId,
+        right: NodeId,
+    ) -> Result<bool, Memory>
+        ensures { IfOk result (λ yes. IsTrue yes ↔ OpenInstance graph.now assumed.now number subst.now left right) }
+    {
+        match self.axiom(number) {
+            Some(axiom) => open_instance(alloc, graph, assumed, axiom, subst, left, right),
             None => Ok(false),
         }
     }

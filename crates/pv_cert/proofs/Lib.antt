@@ -2,6 +2,8 @@
 pub mod Cited
 pub mod EachText
 -- for the proofs of this crate
+mod Moves
+mod Leads
 mod Following
 mod CertLaws
 mod ReadSteps

@@ -1,39 +1,29 @@
--- Why a text is not a certificate.
+-- Why lines are not those of lemmas and sections.
 use Rattle.std.specs.Prelude.{◌≡◌, ℕ, ◌+◌, List, [], ◌∷◌, ◌++◌, length}
-use Rattle.pv_steps.specs.declared.step.Step.{Step}
+use Rattle.pv_cert.specs.declared.cert.Version.{Version}
+use Rattle.pv_cert.specs.declared.cert.Body.{Body}
 use Rattle.pv_cert.specs.declared.cert.CertFault.{CertFault}
 use Rattle.pv_cert.specs.declared.cert.CertFault.TheVariants as fault
-use Rattle.pv_cert.specs.StepLines.{StepFits}
-use Rattle.pv_cert.specs.Lines.{title_text, title_line, step_line, end_line}
+use Rattle.pv_cert.specs.Reading.{BodyFits, body_lines}
 
--- outside of a section or within one
-pub data Spot : Type 0 where
-  Outside : Spot
-  Within : Spot
+-- those of some lemmas and sections begin with these lines
+abbrev pub Begins : Version → List (List ℕ) → Type 0
+Begins v lines = (b : Body) × BodyFits v b × (rest : List (List ℕ)) × (body_lines b ≡ lines ++ rest)
 
--- From one spot a line may lead to another: a title into a section, an end out of it, and a step within it.
-abbrev pub May : Spot → List ℕ → Spot → Type 0
-May Outside line Within = (title : List ℕ × List ℕ) × title_text.fits title × (line ≡ title_line title)
-May Within line Within = (step : Step) × StepFits step × (line ≡ step_line step)
-May Within line Outside = line ≡ end_line
-May Outside line Outside = ⊥
+-- they are all lines of some lemmas and sections
+abbrev pub AreWhole : Version → List (List ℕ) → Type 0
+AreWhole v lines = (b : Body) × BodyFits v b × (body_lines b ≡ lines)
 
--- lines, each of which may stand where it does
-abbrev pub Leads : Spot → List (List ℕ) → Spot → Type 0
-Leads from [] to = from ≡ to
-Leads from (line ∷ lines) to = (mid : Spot) × May from line mid × Leads mid lines to
-
--- Each line up to this one may stand where it does, and this one may not.
-pub record FirstBad (from : Spot) (lines front : List (List ℕ)) (line : List ℕ) : Type 0 where
+-- the lines up to this one begin some lemmas and sections, and with this one they don't
+pub record FirstBad (v : Version) (lines front : List (List ℕ)) (line : List ℕ) : Type 0 where
   pub back : List (List ℕ)
   pub parts : lines ≡ front ++ line ∷ back
-  pub spot : Spot
-  pub leads : Leads from front spot
-  pub bad : (to : Spot) → May spot line to → ⊥
+  pub begins : Begins v front
+  pub bad : Begins v (front ++ line ∷ []) → ⊥
 
--- why lines after the header are not those of sections, where the first of them is line n
-abbrev pub BadLines : ℕ → Spot → List (List ℕ) → CertFault → Type 0
-BadLines n from lines fault.Truncated = Leads from lines Within
-BadLines n from lines (fault.Step k) = (front : List (List ℕ)) × (line : List ℕ) × FirstBad from lines front line × (k ≡ n + length front)
-BadLines n from lines fault.Header = ⊥
-BadLines n from lines fault.Memory = ⊥
+-- why lines after the header are not those of lemmas and sections, where the first of them is line n
+abbrev pub BadLines : Version → ℕ → List (List ℕ) → CertFault → Type 0
+BadLines v n lines fault.Truncated = Begins v lines × (AreWhole v lines → ⊥)
+BadLines v n lines (fault.Step k) = (front : List (List ℕ)) × (line : List ℕ) × FirstBad v lines front line × (k ≡ n + length front)
+BadLines v n lines fault.Header = ⊥
+BadLines v n lines fault.Memory = ⊥

@@ -5,6 +5,7 @@ pub mod Operations
 pub mod Reasons
 pub mod Sets
 pub mod StepLines
+pub mod Variables
 pub mod Lines
 pub mod Reading
 pub mod Faults
@@ -15,6 +16,7 @@ pub mod Laws
 -- the vocabulary of private functions
 pub mod Places
 -- laws, which the formats hold
+pub mod VariableLaws
 pub mod FactLaws
 pub mod ReasonLaws
 pub mod SetLaws

@@ -1,7 +1,7 @@
 //! Certificates, and why a text is not one.
 
 use pv_list::Listed;
-use pv_steps::Step;
+use pv_steps::{Lemma, Step};
 use pv_value::Name;
 use thiserror::Error;
 
@@ -13,18 +13,34 @@ pub struct Section {
     pub steps: Listed<Step>,
 }
 
-/// A certificate: the digests of the two class files of which it speaks, and its sections.
+/// A certificate: the digests of the two class files of which it speaks, lemmas, which are counted from 1, and its
+/// sections.
 #[derive(Debug, Drop)]
 pub struct Cert {
     pub first: [u8; 32],
     pub second: [u8; 32],
+    pub lemmas: Listed<Lemma>,
     pub sections: Listed<Section>,
+}
+
+/// What comes after the header of a certificate.
+#[derive(Debug, Drop)]
+pub struct Body {
+    pub lemmas: Listed<Lemma>,
+    pub sections: Listed<Section>,
+}
+
+/// The version of a text. In version 1 there are no lemmas, and no uses of lemmas.
+#[derive(Clone, Copy, Debug, PartialEq, Eq)]
+pub enum Version {
+    One,
+    Two,
 }
 
 /// Why a text is no certificate.
 #[derive(Clone, Copy, Debug, PartialEq, Eq, Error)]
 pub enum CertFault {
-    /// The last line doesn't end with a line feed, or the last section has no `end`.
+    /// The last line doesn't end with a line feed, or the last lemma has no `prove` or the last section no `end`.
     #[error("truncated")]
     Truncated,
     /// One of the first three lines is missing or isn't a line of the header.

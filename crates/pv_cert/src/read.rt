@@ -1,102 +1,146 @@
-//! The text of a certificate is read.
+//! The lines after the header are read one after the other.
 
-ghost use Rattle.std.specs.Prelude.{◌≡◌, IfOk};
+ghost use Rattle.std.specs.Prelude.{◌≡◌, ◌==◌, suc, length, [], IfOk};
 ghost use Rattle.std.specs.Option.{option_map};
-ghost use Rattle.pv_cert.specs.Lines.{two_texts, title_words, title_text, step_text};
-ghost use Rattle.pv_cert.specs.Reading.{next};
+ghost use Rattle.pv_cert.specs.declared.cert.Version.{Version};
+ghost use Rattle.pv_cert.specs.declared.cert.Version.TheVariants.{Two};
+ghost use Rattle.pv_cert.specs.Reading.{begun_lemma, between, proving, inside, next};
 ghost use Rattle.pv_cert.specs.Places.{seen_place};
-ghost use Rattle.pv_format.specs.Seen.{texts};
 
-use crate::cert::Section;
-use crate::operation::take_text;
-use crate::step::read_step;
-use pv_format::words_of;
+use crate::cert::{Section, Version};
+use crate::line::{read_lemma, read_lemma_step, read_prove, read_section_step, read_title};
 use pv_list::Listed;
-use pv_steps::Step;
+use pv_steps::{Lemma, Step, Var};
 use pv_value::{Memory, Name};
 use std::alloc::Global;
 
-// All of these words, as a name and a descriptor.
-fn read_two_texts<'w>(alloc: Global, words: &'w [&'w [u8]]) -> Result<Option<(Name, Name)>, Memory>
-    ensures { IfOk result (λ r. r ≡ two_texts.reads (texts words.now)) }
+/// Where a line stands: after some lemmas and sections, or in a lemma or a section after some of its steps.
+#[derive(Drop)]
+pub enum Place {
+    Between(Vec<Lemma>, Vec<Section>),
+    Proving(Vec<Lemma>, Listed<Var>, Vec<Step>),
+    Inside(Vec<Lemma>, Vec<Section>, (Name, Name), Vec<Step>),
+}
+
+// Whether this is the number of the lemma after these. They are counted from 1.
+fn is_next(number: u32, lemmas: &[Lemma]) -> bool
+    ensures { result ≡ (number == suc (length lemmas.now)) }
 {
-    let Some((name, words)) = take_text(alloc, words)? else {
+    number as usize == lemmas.len() + 1
+}
+
+// The place in the lemma that a line begins after these lemmas.
+fn begin_next(alloc: Global, lemmas: Vec<Lemma>, line: &[u8]) -> Result<Option<Place>, Memory>
+    ensures { IfOk result (λ r. option_map seen_place r ≡ begun_lemma Two lemmas.items [] line.now) }
+{
+    let Some((number, vars)) = read_lemma(alloc, line)? else {
         return Ok(None);
     };
-    let Some((desc, words)) = take_text(alloc, words)? else {
-        return Ok(None);
-    };
-    if words.is_empty() {
-        Ok(Some((name, desc)))
+    if is_next(number, &lemmas) {
+        Ok(Some(Place::Proving(lemmas, vars, Vec::new(alloc))))
     } else {
         Ok(None)
     }
 }
 
-// The words of the line that a section begins with.
-fn read_title_words<'w>(
+// The same, if a lemma may begin there: in version 2, before all sections.
+fn begin_lemma(
     alloc: Global,
-    words: &'w [&'w [u8]],
-) -> Result<Option<(Name, Name)>, Memory>
-    ensures { IfOk result (λ r. r ≡ title_words.reads (texts words.now)) }
+    version: Version,
+    lemmas: Vec<Lemma>,
+    sections: &[Section],
+    line: &[u8],
+) -> Result<Option<Place>, Memory>
+    ensures { IfOk result (λ r. option_map seen_place r ≡ begun_lemma version lemmas.items sections.now line.now) }
 {
-    match words {
-        [] => Ok(None),
-        [word, rest @ ..] => {
-            if *word == b"method".as_slice() {
-                read_two_texts(alloc, rest)
-            } else {
-                Ok(None)
-            }
-        }
+    match (version, sections) {
+        (Version::Two, []) => begin_next(alloc, lemmas, line),
+        _ => Ok(None),
     }
 }
 
-// The line that a section begins with.
-fn read_title(alloc: Global, line: &[u8]) -> Result<Option<(Name, Name)>, Memory>
-    ensures { IfOk result (λ r. r ≡ title_text.reads line.now) }
+// The place after a line between lemmas and sections.
+fn begin(
+    alloc: Global,
+    version: Version,
+    lemmas: Vec<Lemma>,
+    sections: Vec<Section>,
+    line: &[u8],
+) -> Result<Option<Place>, Memory>
+    ensures { IfOk result (λ r. option_map seen_place r ≡ next version (between lemmas.items sections.items) line.now) }
 {
-    let words = words_of(alloc, line)?;
-    read_title_words(alloc, &words)
+    match read_title(alloc, line)? {
+        Some(title) => Ok(Some(Place::Inside(lemmas, sections, title, Vec::new(alloc)))),
+        None => begin_lemma(alloc, version, lemmas, &sections, line),
+    }
 }
 
-// The line of a step.
-fn read_step_line(alloc: Global, line: &[u8]) -> Result<Option<Step>, Memory>
-    ensures { IfOk result (λ r. r ≡ step_text.reads line.now) }
+// The place after a line in a lemma.
+fn go_on_proving(
+    alloc: Global,
+    mut lemmas: Vec<Lemma>,
+    vars: Listed<Var>,
+    mut steps: Vec<Step>,
+    line: &[u8],
+) -> Result<Option<Place>, Memory>
+    ensures { (v : Version) → IfOk result (λ r. option_map seen_place r ≡ next v (proving lemmas.items vars steps.items) line.now) }
 {
-    let words = words_of(alloc, line)?;
-    read_step(alloc, &words)
+    if let Some((left, right)) = read_prove(alloc, line)? {
+        let steps = Listed::from(steps);
+        lemmas.push(Lemma {
+            vars,
+            steps,
+            left,
+            right,
+        })?;
+        return Ok(Some(Place::Between(lemmas, Vec::new(alloc))));
+    }
+    let Some(step) = read_lemma_step(alloc, line)? else {
+        return Ok(None);
+    };
+    steps.push(step)?;
+    Ok(Some(Place::Proving(lemmas, vars, steps)))
 }
 
-/// Where a line stands: after some sections, or in a section after some of its steps.
-#[derive(Drop)]
-pub enum Place {
-    Between(Vec<Section>),
-    Inside(Vec<Section>, Name, Name, Vec<Step>),
+// The place after a line in a section.
+fn go_on_inside(
+    alloc: Global,
+    version: Version,
+    lemmas: Vec<Lemma>,
+    mut sections: Vec<Section>,
+    title: (Name, Name),
+    mut steps: Vec<Step>,
+    line: &[u8],
+) -> Result<Option<Place>, Memory>
+    ensures { IfOk result (λ r. option_map seen_place r ≡ next version (inside lemmas.items sections.items title steps.items) line.now) }
+{
+    if line == b"end".as_slice() {
+        let (name, desc) = title;
+        let steps = Listed::from(steps);
+        sections.push(Section { name, desc, steps })?;
+        return Ok(Some(Place::Between(lemmas, sections)));
+    }
+    let Some(step) = read_section_step(alloc, version, line)? else {
+        return Ok(None);
+    };
+    steps.push(step)?;
+    Ok(Some(Place::Inside(lemmas, sections, title, steps)))
 }
 
 /// The place after a line, if the line may stand there.
-pub fn advance(alloc: Global, place: Place, line: &[u8]) -> Result<Option<Place>, Memory>
-    ensures { IfOk result (λ r. option_map seen_place r ≡ next (seen_place place) line.now) }
+pub fn advance(
+    alloc: Global,
+    version: Version,
+    place: Place,
+    line: &[u8],
+) -> Result<Option<Place>, Memory>
+    ensures { IfOk result (λ r. option_map seen_place r ≡ next version (seen_place place) line.now) }
 {
     match place {
-        Place::Between(done) => match read_title(alloc, line)? {
-            None => Ok(None),
-            Some((name, desc)) => Ok(Some(Place::Inside(done, name, desc, Vec::new(alloc)))),
-        },
-        Place::Inside(mut done, name, desc, mut steps) => {
-            if line == b"end".as_slice() {
-                let steps = Listed::from(steps);
-                done.push(Section { name, desc, steps })?;
-                return Ok(Some(Place::Between(done)));
-            }
-            match read_step_line(alloc, line)? {
-                None => Ok(None),
-                Some(step) => {
-                    steps.push(step)?;
-                    Ok(Some(Place::Inside(done, name, desc, steps)))
-                }
-            }
+        Place::Between(lemmas, sections) => begin(alloc, version, lemmas, sections, line),
+        Place::Proving(lemmas, vars, steps) => go_on_proving(alloc, lemmas, vars, steps, line),
+        Place::Inside(lemmas, sections, title, steps) => {
+            go_on_inside(alloc, version, lemmas, sections, title, steps, line)
         }
     }
 }

@@ -4,7 +4,7 @@ ghost use Rattle.std.specs.Prelude.{◌≡◌, IfOk};
 ghost use Rattle.pv_cert.specs.declared.table.Row.TheVariants as rows;
 ghost use Rattle.pv_cert.specs.Reasons.{fact_token};
 ghost use Rattle.pv_cert.specs.Sets.{reason_token};
-ghost use Rattle.pv_cert.specs.StepLines.{row_words, step_sentence};
+ghost use Rattle.pv_cert.specs.StepLines.{axiom_words, row_words, step_sentence};
 ghost use Rattle.std.specs.Option.{option_map};
 ghost use Rattle.pv_format.specs.Combinators.{one, pair, exactly};
 ghost use Rattle.pv_format.specs.Seen.{texts};
@@ -13,6 +13,7 @@ use crate::lists::{read_congruences, read_fact_pairs, read_node_pairs, read_numb
 use crate::operation::take_operation;
 use crate::reason::{FactWord, ReasonWord};
 use crate::table::{Row, RowWord};
+use pv_graph::{Kids, NodeId};
 use pv_steps::{Fact, Reason, Step};
 use pv_token::{Number, take};
 use pv_value::Memory;
@@ -34,9 +35,12 @@ fn read_node<'w>(alloc: Global, words: &'w [&'w [u8]]) -> Result<Option<Step>, M
     Ok(Some(Step::Node(n, op, kids)))
 }
 
-// A a b NODES
-fn read_axiom<'w>(alloc: Global, words: &'w [&'w [u8]]) -> Result<Option<Step>, Memory>
-    ensures { IfOk result (λ r. r ≡ row_words rows.Axiom (texts words.now)) }
+// A number, two nodes, and all further words as nodes.
+fn read_instance<'w>(
+    alloc: Global,
+    words: &'w [&'w [u8]],
+) -> Result<Option<(u32, NodeId, NodeId, Kids)>, Memory>
+    ensures { IfOk result (λ r. option_map (λ p. (p.0, (p.1, (p.2, p.3)))) r ≡ axiom_words.reads (texts words.now)) }
 {
     let Some((number, words)) = take::<Number>(words) else {
         return Ok(None);
@@ -48,6 +52,16 @@ fn read_axiom<'w>(alloc: Global, words: &'w [&'w [u8]]) -> Result<Option<Step>, 
         return Ok(None);
     };
     let Some(nodes) = read_numbers(alloc, words)? else {
+        return Ok(None);
+    };
+    Ok(Some((number, a, b, nodes)))
+}
+
+// A a b NODES
+fn read_axiom<'w>(alloc: Global, words: &'w [&'w [u8]]) -> Result<Option<Step>, Memory>
+    ensures { IfOk result (λ r. r ≡ row_words rows.Axiom (texts words.now)) }
+{
+    let Some((number, a, b, nodes)) = read_instance(alloc, words)? else {
         return Ok(None);
     };
     Ok(Some(Step::Axiom(number, a, b, nodes)))
@@ -57,16 +71,7 @@ fn read_axiom<'w>(alloc: Global, words: &'w [&'w [u8]]) -> Result<Option<Step>, 
 fn read_use<'w>(alloc: Global, words: &'w [&'w [u8]]) -> Result<Option<Step>, Memory>
     ensures { IfOk result (λ r. r ≡ row_words rows.Use (texts words.now)) }
 {
-    let Some((number, words)) = take::<Number>(words) else {
-        return Ok(None);
-    };
-    let Some((a, words)) = take::<Number>(words) else {
-        return Ok(None);
-    };
-    let Some((b, words)) = take::<Number>(words) else {
-        return Ok(None);
-    };
-    let Some(nodes) = read_numbers(alloc, words)? else {
+    let Some((number, a, b, nodes)) = read_instance(alloc, words)? else {
         return Ok(None);
     };
     Ok(Some(Step::Use(number, a, b, nodes)))

@@ -1,9 +1,11 @@
-//! The words of closed sets: the names of operations, the letters of sorts and the kinds of elements.
+//! The words of closed sets: the names of operations, the letters of sorts and of variables, and the kinds of elements.
 
-ghost use Rattle.std.specs.Prelude.{◌≡◌};
+ghost use Rattle.std.specs.Prelude.{◌≡◌, ◌++◌, codes};
 ghost use Rattle.pv_cert.specs.Names.{scalar_name, head_name, sort_name, kind_name, row_name};
+ghost use Rattle.pv_cert.specs.Variables.{var_name};
 
 use pv_graph::OpSort;
+use pv_steps::Var;
 use pv_token::Token;
 use pv_value::{Kind, ScalarOp};
 use std::alloc::AllocError;
@@ -150,6 +152,66 @@ static SORTS: [OpSort; 8] = [
     OpSort::R,
 ];
 
+// No variable stands for roots.
+static VARS: [Var; 14] = [
+    Var {
+        sort: OpSort::I,
+        settled: false,
+    },
+    Var {
+        sort: OpSort::I,
+        settled: true,
+    },
+    Var {
+        sort: OpSort::L,
+        settled: false,
+    },
+    Var {
+        sort: OpSort::L,
+        settled: true,
+    },
+    Var {
+        sort: OpSort::A,
+        settled: false,
+    },
+    Var {
+        sort: OpSort::A,
+        settled: true,
+    },
+    Var {
+        sort: OpSort::N,
+        settled: false,
+    },
+    Var {
+        sort: OpSort::N,
+        settled: true,
+    },
+    Var {
+        sort: OpSort::F,
+        settled: false,
+    },
+    Var {
+        sort: OpSort::F,
+        settled: true,
+    },
+    Var {
+        sort: OpSort::T,
+        settled: false,
+    },
+    Var {
+        sort: OpSort::T,
+        settled: true,
+    },
+    Var {
+        sort: OpSort::H,
+        settled: false,
+    },
+    Var {
+        sort: OpSort::H,
+        settled: true,
+    },
+];
+
 static KINDS: [Kind; 6] = [
     Kind::Int,
     Kind::Long,
@@ -274,6 +336,33 @@ fn sort_name(sort: OpSort) -> &'static [u8]
     }
 }
 
+// The letter of a sort whose nodes have to be settled.
+fn settled_name(sort: OpSort) -> &'static [u8]
+    ensures { result.now ≡ sort_name sort ++ codes "!" }
+{
+    match sort {
+        OpSort::I => b"I!",
+        OpSort::L => b"L!",
+        OpSort::A => b"A!",
+        OpSort::N => b"N!",
+        OpSort::F => b"F!",
+        OpSort::T => b"T!",
+        OpSort::H => b"H!",
+        OpSort::R => b"R!",
+    }
+}
+
+// The letter of the sort of a variable, and ! where the variable has to be settled.
+fn var_name(var: Var) -> &'static [u8]
+    ensures { result.now ≡ var_name var }
+{
+    if var.settled {
+        settled_name(var.sort)
+    } else {
+        sort_name(var.sort)
+    }
+}
+
 // The word of a kind of elements.
 fn kind_name(kind: Kind) -> &'static [u8]
     ensures { result.now ≡ kind_name kind }
@@ -341,6 +430,25 @@ impl Token for SortWord {
 
     fn push(out: &mut Vec<u8>, value: OpSort) -> Result<(), AllocError> {
         out.extend_from_slice(sort_name(value))
+    }
+}
+
+/// The variables of lemmas, as words.
+pub struct VarWord;
+
+impl Token for VarWord {
+    ghost use Rattle.pv_cert.specs.Variables.{var_token};
+
+    type Value = Var;
+
+    ghost token = { var_token };
+
+    fn read(word: &[u8]) -> Option<Var> {
+        VARS.iter().copied().find(|var| var_name(*var) == word)
+    }
+
+    fn push(out: &mut Vec<u8>, value: Var) -> Result<(), AllocError> {
+        out.extend_from_slice(var_name(value))
     }
 }
 

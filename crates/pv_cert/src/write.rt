@@ -4,16 +4,19 @@ ghost use Rattle.std.specs.Prelude.{◌≡◌, ◌++◌, ◌∷◌, [], map, OnO
 ghost use Rattle.std.specs.List.{flat_map};
 ghost use Rattle.pv_format.specs.Splits.{join, text_of};
 ghost use Rattle.pv_token.specs.Tokens.{digest_token};
-ghost use Rattle.pv_cert.specs.Lines.{step_line, title_line};
-ghost use Rattle.pv_cert.specs.Reading.{section_lines};
+ghost use Rattle.pv_cert.specs.declared.cert.Version.TheVariants.{Two};
+ghost use Rattle.pv_cert.specs.Lines.{step_line, title_line, lemma_line, prove_line};
+ghost use Rattle.pv_cert.specs.Reading.{lemma_lines, lemmas_lines, section_lines};
 ghost use Rattle.pv_cert.specs.Certificates.{header, spelled};
 
-use crate::cert::{Cert, Section};
-use crate::table::RowWord;
+use crate::cert::{Cert, Section, Version};
+use crate::certificate::version_line;
+use crate::table::{RowWord, VarWord};
 use crate::writing::push_text;
 use crate::writing_steps::{push_row, row};
-use pv_steps::Step;
-use pv_token::{Digest, Token, push};
+use pv_graph::NodeId;
+use pv_steps::{Lemma, Step, Var};
+use pv_token::{Digest, Number, Token, push, push_decimal, push_each};
 use pv_value::{Memory, Name};
 use std::alloc::{AllocError, Global};
 
@@ -27,9 +30,10 @@ fn push_digest_line(out: &mut Vec<u8>, which: &[u8], digest: [u8; 32]) -> Result
 }
 
 fn push_header(out: &mut Vec<u8>, first: [u8; 32], second: [u8; 32]) -> Result<(), AllocError>
-    ensures { OnOk result (out.new.items ≡ out.old.items ++ text_of (header.spells (first, second))) }
+    ensures { OnOk result (out.new.items ≡ out.old.items ++ text_of ((header Two).spells (first, second))) }
 {
-    out.extend_from_slice(b"peggy-cert 1\n")?;
+    out.extend_from_slice(version_line(Version::Two))?;
+    out.extend_from_slice(b"\n")?;
     push_digest_line(out, b"first", first)?;
     push_digest_line(out, b"second", second)
 }
@@ -85,14 +89,62 @@ fn push_sections(alloc: Global, out: &mut Vec<u8>, list: &[Section]) -> Result<(
     Ok(())
 }
 
-/// The text of a certificate.
+// The line that a lemma begins with.
+fn push_lemma_line(out: &mut Vec<u8>, number: usize, vars: &[Var]) -> Result<(), AllocError>
+    ensures { OnOk result (out.new.items ≡ out.old.items ++ text_of (lemma_line (number, vars.now) ∷ [])) }
+{
+    out.extend_from_slice(b"lemma ")?;
+    push_decimal(out, number)?;
+    push_each::<VarWord>(out, vars)?;
+    out.extend_from_slice(b"\n")?;
+    Ok(())
+}
+
+// The line after the last step of a lemma.
+#[tactic(auto, using(crate::proofs::WrittenLaws::prove_spaced))]
+fn push_prove_line(out: &mut Vec<u8>, left: NodeId, right: NodeId) -> Result<(), AllocError>
+    ensures { OnOk result (out.new.items ≡ out.old.items ++ text_of (prove_line (left, right) ∷ [])) }
+{
+    out.extend_from_slice(b"prove")?;
+    push::<Number>(out, left)?;
+    push::<Number>(out, right)?;
+    out.extend_from_slice(b"\n")
+}
+
+// The lines of a lemma.
+#[tactic(auto, using(crate::proofs::WrittenLaws::lemma_text))]
+fn push_lemma(
+    alloc: Global,
+    out: &mut Vec<u8>,
+    number: usize,
+    lemma: &Lemma,
+) -> Result<(), AllocError>
+    ensures { OnOk result (out.new.items ≡ out.old.items ++ text_of (lemma_lines number lemma.now)) }
+{
+    push_lemma_line(out, number, lemma.vars.as_slice())?;
+    push_steps(alloc, out, lemma.steps.as_slice())?;
+    push_prove_line(out, lemma.left, lemma.right)
+}
+
+// The lines of lemmas, which are counted from 1.
+fn push_lemmas(alloc: Global, out: &mut Vec<u8>, list: &[Lemma]) -> Result<(), AllocError>
+    ensures { OnOk result (out.new.items ≡ out.old.items ++ text_of (lemmas_lines 1 list.now)) }
+{
+    for k in 0..list.len() {
+        push_lemma(alloc, out, k + 1, &list[k])?;
+    }
+    Ok(())
+}
+
+/// The text of a certificate, in version 2.
 pub fn write_cert(alloc: Global, c: &Cert) -> Result<Vec<u8>, Memory>
-    ensures { IfOk result (λ text. text.items ≡ spelled c.now) }
+    ensures { IfOk result (λ text. text.items ≡ spelled Two c.now) }
 {
     let mut out = Vec::new(alloc);
     let first = c.first;
     let second = c.second;
     push_header(&mut out, first, second)?;
+    push_lemmas(alloc, &mut out, c.lemmas.as_slice())?;
     push_sections(alloc, &mut out, c.sections.as_slice())?;
     Ok(out)
 }

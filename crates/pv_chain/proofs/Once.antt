@@ -1,6 +1,7 @@
 -- Each text is the spelling of one chain at most, or has one fault at most.
 use Rattle.std.proofs.Common.{◌≡◌, ◌⊎◌, ℕ, List, Some, None, Result, Ok, Err, refl, sym, ap, subst, ◌∙◌, inl, inr}
 use Rattle.pv_format.specs.Splits.{text_of}
+use Rattle.pv_cert.specs.declared.cert.Version.TheVariants.{Two}
 use Rattle.pv_cert.specs.declared.cert.Cert.{Cert}
 use Rattle.pv_cert.specs.declared.cert.CertFault.{CertFault}
 use Rattle.pv_cert.specs.declared.cert.CertFault.TheVariants as cert_fault
@@ -22,10 +23,10 @@ use Rattle.pv_chain.proofs.Parted.{chain_ended, chain_fits, chain_headed, chain_
 -- ---- certificates
 
 no_both : (text : List ℕ) (c : Cert) → IsCertText text c → IsNoCert text → ⊥
-no_both text c is (f, bad) = cert_laws.faults_once.none c f is.0 (subst (λ (t : List ℕ). BadCert t f) is.1 bad)
+no_both text c is (f, bad) = cert_laws.faults_once.none Two c f is.0 (subst (λ (t : List ℕ). BadCert Two t f) is.1 bad)
 
 one_cert : (text : List ℕ) (c d : Cert) → IsCertText text c → IsCertText text d → c ≡ d
-one_cert text c d is other = cert_laws.spelled_once c d is.0 other.0 (sym is.1 ∙ other.1)
+one_cert text c d is other = cert_laws.spelled_once Two c d is.0 other.0 (sym is.1 ∙ other.1)
 
 -- ---- how far reading comes, and to what
 
@@ -103,10 +104,10 @@ faults_once = record {
 
 -- ---- what is read
 
-pub certificate : (text : List ℕ) (c : Cert) → cert.Answers text (Ok c) → IsCertOr text (Some c)
+pub certificate : (text : List ℕ) (c : Cert) → cert.Answers Two text (Ok c) → IsCertOr text (Some c)
 certificate text c is = is
 
-pub no_certificate : (text : List ℕ) (f : CertFault) → (f ≡ cert_fault.Memory → ⊥) → cert.Answers text (Err f) → IsCertOr text None
+pub no_certificate : (text : List ℕ) (f : CertFault) → (f ≡ cert_fault.Memory → ⊥) → cert.Answers Two text (Err f) → IsCertOr text None
 no_certificate text cert_fault.Memory has is = absurd (has refl)
 no_certificate text f has is = (f, is)
 

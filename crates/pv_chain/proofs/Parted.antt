@@ -1,9 +1,10 @@
 -- A text has one reading in parts, and that is how it is spelled.
-use Rattle.std.proofs.Common.{◌≡◌, ◌↔◌, ℕ, List, [], ◌∷◌, ◌++◌, length, map, Option, Some, None, Result, Ok, Err, refl, sym, ap, subst, ◌∙◌, append_assoc, Bool}
+use Rattle.std.proofs.Common.{◌≡◌, ◌↔◌, ℕ, suc, List, [], ◌∷◌, ◌++◌, length, map, Option, Some, None, Result, Ok, Err, refl, sym, ap, subst, ◌∙◌, append_assoc, Bool}
 use Rattle.std.specs.Prelude.{IsTrue, is_some}
 use Rattle.std.specs.Option.{option_map, option_and_then}
 use Rattle.std.specs.List.{AllByRecursion, flat_map}
 use Rattle.pv_steps.specs.declared.step.Step.{Step}
+use Rattle.pv_steps.specs.declared.step.Lemma.{Lemma}
 use Rattle.pv_class.specs.declared.file.ClassFile.{ClassFile}
 use Rattle.pv_class.specs.declared.fault.ClassFault.{ClassFault}
 use Rattle.pv_class.specs.declared.fault.ClassFault.TheVariants as class_fault
@@ -14,11 +15,12 @@ use Rattle.pv_format.specs.Splits.{cut, is_feed, text_of, join}
 use Rattle.pv_format.specs.SplitLaws.{text_join}
 use Rattle.pv_format.proofs.Cited.{all-append, cons_some}
 use Rattle.pv_token.specs.Words.{NoFeed}
+use Rattle.pv_cert.specs.declared.cert.Version.TheVariants.{Two}
 use Rattle.pv_cert.specs.declared.cert.Cert.{Cert}
 use Rattle.pv_cert.specs.declared.cert.Section.{Section}
-use Rattle.pv_cert.specs.Lines.{title_text, step_text, step_line, end_line}
+use Rattle.pv_cert.specs.Lines.{title_text, step_text, step_line, end_line, lemma_text, prove_text, prove_line}
 use Rattle.pv_cert.specs.StepLines.{StepFits}
-use Rattle.pv_cert.specs.Reading.{section_lines, SectionFits}
+use Rattle.pv_cert.specs.Reading.{lemma_lines, lemmas_lines, section_lines, body_lines, LemmaFits, LemmasFit, SectionFits}
 use Rattle.pv_cert.specs.Certificates as cert
 use Rattle.pv_chain.specs.declared.chain.Chain.{Chain}
 use Rattle.pv_chain.specs.declared.parts.Parts.{Parts as Held}
@@ -94,16 +96,29 @@ sections_apart : (sections : List Section) → AllByRecursion SectionFits sectio
 sections_apart [] fits = tt
 sections_apart (s ∷ sections) fits = all-append NoFeed (section_lines s) (flat_map section_lines sections) (section_apart s fits.0) (sections_apart sections fits.1)
 
-pub cert_apart : (c : Cert) → cert.Fits c → AllByRecursion NoFeed (cert.cert_lines c)
-cert_apart c fits = all-append NoFeed (cert.header.spells (c.first, c.second)) (flat_map section_lines c.sections) (cert.header.proper (c.first, c.second) fits.digests) (sections_apart c.sections fits.sections)
+lemma_apart : (n : ℕ) (l : Lemma) → LemmaFits n l → AllByRecursion NoFeed (lemma_lines n l)
+lemma_apart n l fits = (
+  lemma_text.proper (n, l.vars) fits.begins,
+  all-append NoFeed (map step_line l.steps) (prove_line (l.left, l.right) ∷ []) (steps_apart l.steps fits.steps) (prove_text.proper (l.left, l.right) fits.ends, tt),
+)
 
-pub cert_ended : (c : Cert) → IsEnded (cert.spelled c)
-cert_ended c = (join 10 (cert.cert_lines c), text_join (cert.cert_lines c) (cons_some _ _))
+lemmas_apart : (n : ℕ) (lemmas : List Lemma) → LemmasFit n lemmas → AllByRecursion NoFeed (lemmas_lines n lemmas)
+lemmas_apart n [] fits = tt
+lemmas_apart n (l ∷ lemmas) fits = all-append NoFeed (lemma_lines n l) (lemmas_lines (suc n) lemmas) (lemma_apart n l fits.0) (lemmas_apart (suc n) lemmas fits.1)
+
+pub cert_apart : (c : Cert) → cert.Fits Two c → AllByRecursion NoFeed (cert.cert_lines Two c)
+cert_apart c fits =
+    let lemmas = lemmas_apart 1 c.lemmas fits.body_.lemmas_ in
+    let sections = sections_apart c.sections fits.body_.sections_ in
+    all-append NoFeed ((cert.header Two).spells (c.first, c.second)) (body_lines (cert.body c)) ((cert.header Two).proper (c.first, c.second) fits.digests) (all-append NoFeed (lemmas_lines 1 c.lemmas) (flat_map section_lines c.sections) lemmas sections)
+
+pub cert_ended : (c : Cert) → IsEnded (cert.spelled Two c)
+cert_ended c = (join 10 (cert.cert_lines Two c), text_join (cert.cert_lines Two c) (cons_some _ _))
 
 -- ---- a chain by its parts
 
 abbrev pub parts_for : Chain → Parts
-parts_for c = record { middle = c.middle; lines = cert.cert_lines c.first; second = cert.spelled c.second }
+parts_for c = record { middle = c.middle; lines = cert.cert_lines Two c.first; second = cert.spelled Two c.second }
 
 pub chain_headed : (c : Chain) → Fits c → IsHeaded (spelled c) (parts_for c)
 chain_headed c fits = record {
@@ -113,16 +128,16 @@ chain_headed c fits = record {
 }
 
 pub chain_ended : (c : Chain) → IsEnded (spelled c)
-chain_ended c = ended_after (head.spells (c.middle, length (cert.cert_lines c.first))) (cert.spelled c.first ++ cert.spelled c.second) (ended_after (cert.spelled c.first) (cert.spelled c.second) (cert_ended c.second))
+chain_ended c = ended_after (head.spells (c.middle, length (cert.cert_lines Two c.first))) (cert.spelled Two c.first ++ cert.spelled Two c.second) (ended_after (cert.spelled Two c.first) (cert.spelled Two c.second) (cert_ended c.second))
 
 abbrev pub chain_of : Parts → Cert → Cert → Chain
 chain_of p c d = record { middle = p.middle; first = c; second = d }
 
 pub chain_fits : (text : List ℕ) (p : Parts) (c d : Cert) → IsHeaded text p → IsCertText (text_of p.lines) c → IsCertText p.second d → Fits (chain_of p c d) × (text ≡ spelled (chain_of p c d))
 chain_fits text p c d h first second =
-    let same : p.lines ≡ cert.cert_lines c = lines_once p.lines (cert.cert_lines c) h.parts.apart (cert_apart c first.0) first.1 in (
+    let same : p.lines ≡ cert.cert_lines Two c = lines_once p.lines (cert.cert_lines Two c) h.parts.apart (cert_apart c first.0) first.1 in (
       record { headed = subst (λ (ls : Lines). head.fits (p.middle, length ls)) same h.parts.fits; file = h.file; file_is = h.file_is; first = first.0; second = second.0 },
-      h.parts.spelled ∙ ap (λ (ls : Lines). head.spells (p.middle, length ls) ++ (text_of ls ++ p.second)) same ∙ ap (λ (t : List ℕ). head.spells (p.middle, length (cert.cert_lines c)) ++ (cert.spelled c ++ t)) second.1,
+      h.parts.spelled ∙ ap (λ (ls : Lines). head.spells (p.middle, length ls) ++ (text_of ls ++ p.second)) same ∙ ap (λ (t : List ℕ). head.spells (p.middle, length (cert.cert_lines Two c)) ++ (cert.spelled Two c ++ t)) second.1,
     )
 
 -- ---- as they are cut in memory

@@ -5,6 +5,7 @@ use Rattle.pv_class.specs.declared.file.ClassFile.{ClassFile}
 use Rattle.pv_class.specs.ClassFiles.{IsClass}
 use Rattle.pv_format.specs.Splits.{text_of}
 use Rattle.pv_token.specs.Words.{NoFeed}
+use Rattle.pv_cert.specs.declared.cert.Version.TheVariants.{Two}
 use Rattle.pv_cert.specs.declared.cert.Cert.{Cert}
 use Rattle.pv_cert.specs.declared.cert.CertFault.{CertFault}
 use Rattle.pv_cert.specs.BadCerts.{BadCert, IsCut}
@@ -31,13 +32,13 @@ pub record IsHeaded (text : List ℕ) (p : Parts) : Type 0 where
   pub file : ClassFile
   pub file_is : IsClass p.middle file
 
--- the text is that of a certificate
+-- the text is that of a certificate, in version 2
 abbrev pub IsCertText : List ℕ → Cert → Type 0
-IsCertText text c = cert.Fits c × (text ≡ cert.spelled c)
+IsCertText text c = cert.Fits Two c × (text ≡ cert.spelled Two c)
 
 -- .. or of none
 abbrev pub IsNoCert : List ℕ → Type 0
-IsNoCert text = (f : CertFault) × BadCert text f
+IsNoCert text = (f : CertFault) × BadCert Two text f
 
 abbrev pub BadChain : List ℕ → ChainFault → Type 0
 BadChain text fault.Truncated = IsCut text

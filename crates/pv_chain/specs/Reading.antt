@@ -1,13 +1,10 @@
 -- What is read, without where it lies in memory.
-use Rattle.std.specs.Prelude.{◌≡◌, ℕ, ◌+◌, List, length, Option, Some, None}
-use Rattle.std.specs.List.{flat_map}
+use Rattle.std.specs.Prelude.{◌≡◌, ℕ, List, Option, Some, None}
 use Rattle.std.specs.Option.{option_map, option_and_then}
 use Rattle.pv_class.specs.declared.file.ClassFile.{ClassFile}
 use Rattle.pv_class.specs.ClassFiles.{IsClass}
 use Rattle.pv_format.specs.Splits.{text_of}
 use Rattle.pv_cert.specs.declared.cert.Cert.{Cert}
-use Rattle.pv_cert.specs.declared.cert.Section.{Section}
-use Rattle.pv_cert.specs.Reading.{section_lines}
 use Rattle.pv_chain.specs.declared.parts.Parts.{Parts as Held}
 use Rattle.pv_chain.specs.BadChains.{Parts, IsHeaded, IsCertText, IsNoCert}
 use Rattle.pv_chain.specs.FedReading.{take_lines}
@@ -47,7 +44,3 @@ AreParts text (Some h) = (p : Parts) × IsHeaded text p × (seen h ≡ texts_of 
 abbrev pub IsCertOr : List ℕ → Option Cert → Type 0
 IsCertOr text (Some c) = IsCertText text c
 IsCertOr text None = IsNoCert text
-
--- the number of lines of a certificate with these sections
-abbrev pub line_count : List Section → ℕ
-line_count sections = 3 + length (flat_map section_lines sections)

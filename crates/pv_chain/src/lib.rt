@@ -1,10 +1,12 @@
 //! The text of chains: two certificates with the class between them.
 //!
 //! A chain holds the bytes of a middle class, a certificate for a first class and the middle one, and a certificate for the
-//! middle class and a last one; so both can be checked from the first and the last class alone. This layer stands on `pv_cert`,
-//! which reads and writes certificates, on `pv_class`, which reads the middle class, and on `pv_format` and `pv_token`, of
-//! whose formats it makes its own. `specs/` says what the first three lines are (`Heads`, of lines at the front of a text,
-//! `Fed`), what the text of a chain is (`Chains`), and why a text is none (`BadChains`).
+//! middle class and a last one; so both can be checked from the first and the last class alone. Both certificates have the
+//! text of version 2, and may have lemmas; the third line of a chain says how many lines the first one has, those of its
+//! lemmas among them. This layer stands on `pv_cert`, which reads and writes certificates, on `pv_steps`, whose lemmas and
+//! steps it counts, on `pv_class`, which reads the middle class, and on `pv_format` and `pv_token`, of whose formats it makes
+//! its own. `specs/` says what the first three lines are (`Heads`, of lines at the front of a text, `Fed`), what the text of
+//! a chain is (`Chains`), and why a text is none (`BadChains`).
 //!
 //! The layer above uses the clauses of `read_chain`: what it gives is the chain of which the text is the one spelling, or the
 //! fault of the text (`Answers`), and no other answer is right (`Tells`); that of `write_chain`, which writes the spelling of

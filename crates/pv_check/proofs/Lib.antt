@@ -18,3 +18,4 @@ pub mod Checking
 pub mod Pieces
 pub mod Replaying
 pub mod Judged
+pub mod Cited

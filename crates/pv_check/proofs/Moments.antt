@@ -3,34 +3,22 @@ use Rattle.std.specs.Prelude.{◌≡◌, ◌↔◌, ℕ, Bool, true, false, List
 use Rattle.std.specs.Bool.{OnTrue, OnFalse}
 use Rattle.pv_graph.specs.declared.node.Op.{Op}
 use Rattle.pv_graph.specs.Graphs.{Graph}
-use Rattle.pv_graph.specs.Calls.{IsSame}
 use Rattle.pv_steps.specs.declared.step.Step.TheVariants as steps
 use Rattle.pv_steps.specs.declared.step.Step.{Step}
-use Rattle.pv_steps.specs.Right.{AddsNode, RightOver}
-use Rattle.pv_axioms.specs.Entries.{ByAxioms}
+use Rattle.pv_steps.specs.Right.{AddsNode, Instances, RightOver}
 use Rattle.pv_check.specs.Growth.{NodeAdded, GrowsTo}
-use Rattle.pv_check.specs.Testing.{LeavesGraph}
 
 pub stays : (s : Step) → ((n : ℕ) (o : Op) (kids : List ℕ) → s ≡ steps.Node n o kids → ⊥) → (g : Graph) → GrowsTo s g g
 stays (steps.Node n o kids) h g = absurd (h n o kids refl)
 stays s h g = (g, refl, refl)
-
--- a step whose test may prepare the graph
-pub prepares : (p : ℕ) (nodes : List ℕ) (g new : Graph) → IsSame g new → GrowsTo (steps.Assume p nodes) g new
-prepares p nodes g new same = (g, refl, same)
-
-pub leaves : (s : Step) → ((n : ℕ) (o : Op) (kids : List ℕ) → s ≡ steps.Node n o kids → ⊥) → ((p : ℕ) (nodes : List ℕ) → s ≡ steps.Assume p nodes → ⊥) → LeavesGraph s
-leaves (steps.Node n o kids) h k = h n o kids refl
-leaves (steps.Assume p nodes) h k = k p nodes refl
-leaves s h k = tt
 
 pub always : {E : Type 0} (r : Result Bool E) (P : Type 0) → P → IfOk r (λ b. OnTrue b P)
 always (Ok true) P p = p
 always (Ok false) P p = tt
 always (Err e) P p = tt
 
-pub node_right : {E : Type 0} (r : Result Bool E) (g new : Graph) (before : List Step) (n : ℕ) (o : Op) (kids : List ℕ) → IfOk r (λ b. OnTrue b (NodeAdded g new n o kids)) → IfOk r (λ b. OnFalse b ((h : Graph) → AddsNode g n o kids h → ⊥))
-    → IfOk r (λ b. IsTrue b ↔ RightOver ByAxioms g before (steps.Node n o kids))
-node_right (Ok true) g new before n o kids h k = (λ e. (h.0, h.1), λ r. refl)
-node_right (Ok false) g new before n o kids h k = (λ e. absurd (cc), λ r. absurd (k r.0 r.1))
-node_right (Err e) g new before n o kids h k = tt
+pub node_right : {E : Type 0} (R : Instances) (r : Result Bool E) (g new : Graph) (before : List Step) (n : ℕ) (o : Op) (kids : List ℕ) → IfOk r (λ b. OnTrue b (NodeAdded g new n o kids)) → IfOk r (λ b. OnFalse b ((h : Graph) → AddsNode g n o kids h → ⊥))
+    → IfOk r (λ b. IsTrue b ↔ RightOver R g before (steps.Node n o kids))
+node_right R (Ok true) g new before n o kids h k = (λ e. (h.0, h.1), λ r. refl)
+node_right R (Ok false) g new before n o kids h k = (λ e. absurd (cc), λ r. absurd (k r.0 r.1))
+node_right R (Err e) g new before n o kids h k = tt

@@ -9,10 +9,10 @@ use Rattle.pv_graph.specs.Graphs.{Graph}
 use Rattle.pv_graph.specs.Calls.{IsSame}
 use Rattle.pv_steps.specs.declared.step.Step.TheVariants as steps
 use Rattle.pv_steps.specs.declared.step.Step.{Step}
-use Rattle.pv_steps.specs.Right.{AddsNode, Grows, GraphAfter, Right, RightOver}
+use Rattle.pv_steps.specs.Right.{AddsNode, Grows, GraphAfter, Instances, Right, RightOver}
 use Rattle.pv_steps.specs.Accepted.{first_steps}
 use Rattle.pv_steps.proofs.Cited.{after_same}
-use Rattle.pv_axioms.specs.Entries.{ByAxioms}
+use Rattle.pv_check.specs.Rules.{KeepPrepared}
 use Rattle.pv_check.specs.Checking.{IsReplayed, IsRightAt}
 use Rattle.pv_check.proofs.Carried.{adds_same}
 use Rattle.pv_check.proofs.Finding.{place_is}
@@ -46,21 +46,21 @@ no_graph g graph section n innermost opened h low d none k past within now after
     none z.0 z.1
 
 -- where there is no graph after the steps before it, a step isn't right
-pub is_stuck : (g : Graph) (section : List Step) (k : ℕ) → ((now : Graph) → GraphAfter g (first_steps (k - 1) section) now → ⊥) → IsTrue false ↔ IsRightAt g section k
-is_stuck g section k none = (λ yes. absurd (cc), λ r. absurd (none r.2.0 r.2.1))
+pub is_stuck : (R : Instances) (g : Graph) (section : List Step) (k : ℕ) → ((now : Graph) → GraphAfter g (first_steps (k - 1) section) now → ⊥) → IsTrue false ↔ IsRightAt R g section k
+is_stuck R g section k none = (λ yes. absurd (cc), λ r. absurd (none r.2.0 r.2.1))
 
-right_at : (g graph : Graph) (section : List Step) (k : ℕ) (innermost : List ℕ) (opened : List Bool) → IsReplayed g section (k - 1) innermost opened graph → 1 ≤ k → k ≤ length section → (d : Step)
-    → (b : Bool) → IsTrue b ↔ RightOver ByAxioms graph (first_steps (k - 1) section) (get_or section (k - 1) d) → IsTrue b ↔ IsRightAt g section k
-right_at g graph section k innermost opened h low within d b t =
+right_at : (R : Instances) → KeepPrepared R → (g graph : Graph) (section : List Step) (k : ℕ) (innermost : List ℕ) (opened : List Bool) → IsReplayed g section (k - 1) innermost opened graph → 1 ≤ k → k ≤ length section → (d : Step)
+    → (b : Bool) → IsTrue b ↔ RightOver R graph (first_steps (k - 1) section) (get_or section (k - 1) d) → IsTrue b ↔ IsRightAt R g section k
+right_at R keep g graph section k innermost opened h low within d b t =
     let s : Step = get_or section (k - 1) d in
     let there : slice_get section (k - 1) ≡ Some s = slice_get-get_or section (k - 1) d (omega (arith, low, within)) in
     let number = place_is section k s (λ e. omega (arith, low, e)) there in
-    let r = is_right g graph section (k - 1) innermost opened h s in (
+    let r = is_right R keep g graph section (k - 1) innermost opened h s in (
       λ yes. (s, number, r.0 (t.0 yes)),
-      λ a. let same : a.0 ≡ s = let z : Some a.0 ≡ Some s = sym a.1 ∙ number in cc in t.1 (r.1 (subst (λ (x : Step). Right ByAxioms g (first_steps (k - 1) section) x) same a.2)),
+      λ a. let same : a.0 ≡ s = let z : Some a.0 ≡ Some s = sym a.1 ∙ number in cc in t.1 (r.1 (subst (λ (x : Step). Right R g (first_steps (k - 1) section) x) same a.2)),
     )
 
-pub all_right_at : (g graph : Graph) (section : List Step) (k : ℕ) (innermost : List ℕ) (opened : List Bool) → IsReplayed g section (k - 1) innermost opened graph → 1 ≤ k → k ≤ length section → (d : Step)
-    → (r : Result Bool Memory) → IfOk r (λ yes. IsTrue yes ↔ RightOver ByAxioms graph (first_steps (k - 1) section) (get_or section (k - 1) d)) → IfOk r (λ yes. IsTrue yes ↔ IsRightAt g section k)
-all_right_at g graph section k innermost opened h low within d (Ok b) t = right_at g graph section k innermost opened h low within d b t
-all_right_at g graph section k innermost opened h low within d (Err m) t = tt
+pub all_right_at : (R : Instances) → KeepPrepared R → (g graph : Graph) (section : List Step) (k : ℕ) (innermost : List ℕ) (opened : List Bool) → IsReplayed g section (k - 1) innermost opened graph → 1 ≤ k → k ≤ length section → (d : Step)
+    → (r : Result Bool Memory) → IfOk r (λ yes. IsTrue yes ↔ RightOver R graph (first_steps (k - 1) section) (get_or section (k - 1) d)) → IfOk r (λ yes. IsTrue yes ↔ IsRightAt R g section k)
+all_right_at R keep g graph section k innermost opened h low within d (Ok b) t = right_at R keep g graph section k innermost opened h low within d b t
+all_right_at R keep g graph section k innermost opened h low within d (Err m) t = tt

@@ -7,4 +7,5 @@ pub mod Inductions
 pub mod Growth
 pub mod Endings
 pub mod Testing
+pub mod Rules
 pub mod Checking

@@ -1,13 +1,13 @@
-//! Steps that state what facts and axioms show.
+//! Steps that state what facts and rules show.
 
 ghost use Rattle.std.specs.Prelude.{◌≡◌, ◌↔◌, ℕ, IfOk, IsTrue, MatchOption, None, Some, reverse};
 ghost use Rattle.pv_steps.specs.Steps.{Shows, assumed_in};
-ghost use Rattle.pv_axioms.specs.Entries.{Instance};
+ghost use Rattle.pv_steps.specs.Right.{by_axiom, by_lemma};
 ghost use Rattle.pv_check.specs.Kept.{open_now};
 ghost use Rattle.pv_check.specs.Inductions.{ending_nodes};
 
+use crate::rules::Rules;
 use crate::seen::{Seen, Within};
-use pv_axioms::Axioms;
 use pv_graph::{Graph, NodeId};
 use pv_steps::{Fact, Step};
 use pv_value::Memory;
@@ -56,18 +56,34 @@ impl Seen<'_> {
 
     // Whether two nodes are an instance of the axiom with a number, with the nodes assumed to end that the
     // open ending block assumes.
-    pub(crate) fn is_axiom(
+    pub(crate) fn is_axiom<R: Rules>(
         &self,
         alloc: Global,
-        axioms: &Axioms,
+        rules: &R,
         graph: &Graph,
         number: u32,
+        nodes: &[NodeId],
         a: NodeId,
         b: NodeId,
-        nodes: &[NodeId],
     ) -> Result<bool, Memory>
-        ensures { IfOk result (λ yes. IsTrue yes ↔ Instance graph.now (assumed_in (open_now self.now.steps.now)) number nodes.now a b) }
+        ensures { IfOk result (λ yes. IsTrue yes ↔ R.instances rules.now graph.now (assumed_in (open_now self.now.steps.now)) (by_axiom number) nodes.now a b) }
     {
-        axioms.instance_of(alloc, graph, self.assumed(), number, nodes, a, b)
+        rules.is_axiom(alloc, graph, self.assumed(), number, nodes, a, b)
+    }
+
+    // The same of the lemma with a number.
+    pub(crate) fn is_use<R: Rules>(
+        &self,
+        alloc: Global,
+        rules: &R,
+        graph: &Graph,
+        number: u32,
+        nodes: &[NodeId],
+        a: NodeId,
+        b: NodeId,
+    ) -> Result<bool, Memory>
+        ensures { IfOk result (λ yes. IsTrue yes ↔ R.instances rules.now graph.now (assumed_in (open_now self.now.steps.now)) (by_lemma number) nodes.now a b) }
+    {
+        rules.is_lemma(alloc, graph, self.assumed(), number, nodes, a, b)
     }
 }

@@ -2,12 +2,11 @@
 
 ghost use Rattle.std.specs.Prelude.{◌↔◌, IfOk, IsTrue, reverse};
 ghost use Rattle.pv_steps.specs.Right.{RightOver};
-ghost use Rattle.pv_axioms.specs.Entries.{ByAxioms};
 ghost use Rattle.pv_check.specs.Testing.{LeavesGraph};
 
 use crate::endings::RootReasons;
+use crate::rules::Rules;
 use crate::seen::{Seen, Within};
-use pv_axioms::Axioms;
 use pv_graph::Graph;
 use pv_steps::Step;
 use pv_value::Memory;
@@ -15,21 +14,23 @@ use std::alloc::Global;
 
 impl Seen<'_> {
     // Whether a step that leaves the graph as it is is right after those so far, over their graph.
-    pub(crate) fn is_right(
+    pub(crate) fn is_right<R: Rules>(
         &self,
         alloc: Global,
-        axioms: &Axioms,
+        rules: &R,
         graph: &Graph,
         step: &Step,
     ) -> Result<bool, Memory>
         requires { LeavesGraph step.now }
-        ensures { IfOk result (λ yes. IsTrue yes ↔ RightOver ByAxioms graph.now (reverse self.now.steps.now) step.now) }
+        ensures { IfOk result (λ yes. IsTrue yes ↔ RightOver (R.instances rules.now) graph.now (reverse self.now.steps.now) step.now) }
     {
         match step {
             Step::Axiom(number, a, b, nodes) => {
-                self.is_axiom(alloc, axioms, graph, *number, *a, *b, nodes.as_slice())
+                self.is_axiom(alloc, rules, graph, *number, nodes.as_slice(), *a, *b)
             }
-            Step::Use(_, _, _, _) => Ok(false),
+            Step::Use(number, a, b, nodes) => {
+                self.is_use(alloc, rules, graph, *number, nodes.as_slice(), *a, *b)
+            }
             Step::Flip(a, b, fact) => Ok(self.shows(Within::Here, *fact, *b, *a)),
             Step::Chain(a, b, first, second) => Ok(self.is_chain(*a, *b, *first, *second)),
             Step::Set(congruences) => Ok(self.is_set(graph, congruences.as_slice())),

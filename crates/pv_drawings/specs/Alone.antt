@@ -13,4 +13,4 @@ abbrev pub section_alone : Op → Section
 section_alone o = record { name = []; desc = []; steps = steps.Node 0 o [] ∷ [] }
 
 abbrev pub alone : Op → Cert
-alone o = record { first = no_digest; second = no_digest; sections = section_alone o ∷ [] }
+alone o = record { first = no_digest; second = no_digest; lemmas = []; sections = section_alone o ∷ [] }

@@ -15,7 +15,7 @@ use pv_steps::Step;
 use pv_value::{Memory, Name};
 use std::alloc::Global;
 
-// What stands before the words: the three lines of the header, the title `method %- %-`, and `node 0`.
+// What stands before the words: the three lines of the header of version 2, the title `method %- %-`, and `node 0`.
 const BEFORE: usize = 13 + 71 + 72 + 13 + 6;
 
 // What stands after them: two line feeds, and `end` between them.
@@ -36,6 +36,7 @@ fn alone(alloc: Global, op: &Op) -> Result<Cert, Memory>
     Ok(Cert {
         first: [0; 32],
         second: [0; 32],
+        lemmas: Listed::from(Vec::new(alloc)),
         sections: Listed::from(sections),
     })
 }

@@ -11,12 +11,12 @@ use Rattle.pv_graph.specs.declared.reach.Use.{Use}
 use Rattle.pv_graph.specs.declared.reach.Look.{Look}
 use Rattle.pv_graph.specs.declared.reach.Look.TheVariants as look
 use Rattle.pv_graph.proofs.Elements.{found, push_cases, get_front, get_last}
-use Rattle.pv_graph.specs.Ops.{theta, eval, shape, may_not_end, is_depth, alike, sort_over}
+use Rattle.pv_graph.specs.Ops.{theta, eval, shape, is_variable, may_not_end, is_depth, alike, sort_over}
 use Rattle.pv_graph.specs.declared.node.OpSort.{OpSort}
 use Rattle.std.specs.declared.alloc.Global.{Global}
 use Rattle.pv_graph.specs.Forms.{form}
 use Rattle.pv_graph.specs.Graphs.{Graph, form_at, IsGraph}
-use Rattle.pv_graph.specs.Walks.{In, open_kids, Free, here, below, Reaches, itself, along, IsSettled}
+use Rattle.pv_graph.specs.Walks.{In, open_kids, Free, here, below, MeetsVariable, variable, through_kid, Reaches, itself, along, IsSettled}
 use Rattle.pv_graph.specs.Reach.{begins, follows, Uses, IsUse, IsMarked, AreUses, Passes, Hits, AreReached, IsBegun, AreBegun, AreOut, Leads, there, through, AreMarked, IsSearched, KidsWithin, AllKidsWithin}
 use Rattle.pv_graph.specs.Reach as hits
 use Rattle.pv_graph.specs.Calls.{AreFreeMarks, AreSettledMarks}
@@ -205,6 +205,29 @@ module _ (nodes : List Node) (out : List Bool) (are : AreOut (length nodes) [] o
       through m r.0 k node.0 node.1 (out_free (length nodes) [] out are m (slice_get_within nodes m node.0 node.1) (λ z. z))
       (ap (λ (xs : List ℕ). slice_get xs r.0) node.3 ∙ r.1) (ap (λ (x : Op). follows (look.Free d) x r.0) node.2 ∙ r.2) (free_leads k h)
 
+-- ---- a variable that is met
+
+as_free : (d : ℕ) (o : Op) (p : ℕ) → follows (look.Variable d) o p ≡ follows (look.Free d) o p
+as_free d (op.Eval e) p = refl
+as_free d (op.Pass e) p = refl
+as_free d o p = refl
+
+module _ (nodes : List Node) (out : List Bool) (are : AreOut (length nodes) [] out) (d : ℕ) where
+  leads_variable : (n : ℕ) → Leads nodes out (look.Variable d) n → MeetsVariable (form_at nodes) d n
+  leads_variable n (there m b) = variable m b.0.op b.0.kids (form_there nodes m b.0 b.1) b.3
+  leads_variable n (through m p k node at free at_kid f h) =
+      through_kid m k node.op node.kids (form_there nodes m node at) (open_in d node.op node.kids p k at_kid (sym (as_free d node.op p) ∙ f)) (leads_variable k h)
+
+  variable_leads : (n : ℕ) → MeetsVariable (form_at nodes) d n → Leads nodes out (look.Variable d) n
+  variable_leads n (variable m o ks e b) =
+      let node = node_at nodes m o ks e in
+      there m (node.0, node.1, out_free (length nodes) [] out are m (slice_get_within nodes m node.0 node.1) (λ z. z), ap is_variable node.2 ∙ b)
+  variable_leads n (through_kid m k o ks e i h) =
+      let node = node_at nodes m o ks e in
+      let r = open_place d o ks k i in
+      through m r.0 k node.0 node.1 (out_free (length nodes) [] out are m (slice_get_within nodes m node.0 node.1) (λ z. z))
+      (ap (λ (xs : List ℕ). slice_get xs r.0) node.3 ∙ r.1) (ap (λ (x : Op). follows (look.Variable d) x r.0) node.2 ∙ (as_free d o r.0 ∙ r.2)) (variable_leads k h)
+
 -- ---- a node that is settled
 
 module _ (nodes : List Node) (out : List Bool) (assumed : List ℕ) (are : AreOut (length nodes) assumed out) where
@@ -253,6 +276,12 @@ pub free_says : (g : Graph) (d n : ℕ) (marks : List Bool) (b : Bool) → IsSea
 free_says g d n marks b is at = (
   (λ t. leads_free g.nodes is.out is.are d n ((is.marked.says n).0 (at ∙ ap Some t))),
   (λ h. same_Some b true (sym at ∙ (is.marked.says n).1 (free_leads g.nodes is.out is.are d n h))),
+)
+
+pub variable_says : (g : Graph) (d n : ℕ) (marks : List Bool) (b : Bool) → IsSearched g.nodes [] (look.Variable d) marks → slice_get marks n ≡ Some b → IsTrue b ↔ MeetsVariable (form_at g.nodes) d n
+variable_says g d n marks b is at = (
+  (λ t. leads_variable g.nodes is.out is.are d n ((is.marked.says n).0 (at ∙ ap Some t))),
+  (λ h. same_Some b true (sym at ∙ (is.marked.says n).1 (variable_leads g.nodes is.out is.are d n h))),
 )
 
 pub settled_says : (g : Graph) (assumed : List ℕ) (n : ℕ) (marks : List Bool) (b : Bool) → IsSearched g.nodes assumed look.All marks → slice_get marks n ≡ Some b → IsTrue (not b) ↔ IsSettled (form_at g.nodes) assumed n

@@ -147,6 +147,9 @@ pub record IsBase (g : Graph) (nodes : List Node) : Type 0 where
 --      Graph::free(&self, alloc: Global, n: NodeId, d: u32) -> Result<bool, Memory>
 --        requires { n < length self.now.nodes }
 --        ensures { IfOk result (λ yes. IsTrue yes ↔ IsFree self.now d n) }
+--      Graph::meets_variable(&self, alloc: Global, n: NodeId, d: u32) -> Result<bool, Memory>
+--        requires { n < length self.now.nodes }
+--        ensures { IfOk result (λ yes. IsTrue yes ↔ MeetsVariable (form_at self.now.nodes) d n) }
 --      Graph::settled(&self, alloc: Global, n: NodeId, assumed: &[NodeId]) -> Result<bool, Memory>
 --        requires { n < length self.now.nodes }
 --        ensures { IfOk result (λ yes. IsTrue yes ↔ IsSettledIn self.now assumed.now n) }

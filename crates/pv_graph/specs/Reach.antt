@@ -7,7 +7,7 @@ use Rattle.pv_graph.specs.declared.node.Node.{Node}
 use Rattle.pv_graph.specs.declared.reach.Use.{Use}
 use Rattle.pv_graph.specs.declared.reach.Look.{Look}
 use Rattle.pv_graph.specs.declared.reach.Look.TheVariants as look
-use Rattle.pv_graph.specs.Ops.{may_not_end}
+use Rattle.pv_graph.specs.Ops.{is_variable, may_not_end}
 use Rattle.pv_graph.specs.SortCode.{is_source}
 use Rattle.pv_graph.specs.Walks.{In, Free}
 use Rattle.pv_graph.specs.Graphs.{form_at}
@@ -16,15 +16,19 @@ use Rattle.pv_graph.specs.Graphs.{form_at}
 abbrev pub begins : Look → Op → Bool
 begins (look.Free d) (op.Theta e) = e == d
 begins (look.Free d) o = false
+begins (look.Variable d) o = is_variable o
 begins look.All o = may_not_end o
 begins look.Sort o = false
 
--- the kid at a place counts: for a depth that is free not the first kid of its eval, nor the kid of its pass; for a sort
--- the kid alone whose sort is taken
+-- the kid at a place counts: for a depth that is free, or a variable, not the first kid of its eval, nor the kid of its
+-- pass; for a sort the kid alone whose sort is taken
 abbrev pub follows : Look → Op → ℕ → Bool
 follows (look.Free d) (op.Eval e) place = not (e == d) || not (place == 0)
 follows (look.Free d) (op.Pass e) place = not (e == d)
 follows (look.Free d) o place = true
+follows (look.Variable d) (op.Eval e) place = not (e == d) || not (place == 0)
+follows (look.Variable d) (op.Pass e) place = not (e == d)
+follows (look.Variable d) o place = true
 follows look.All o place = true
 follows look.Sort o place = is_source o place
 

@@ -1,8 +1,8 @@
--- Walks along kids: what is free in a node, what is settled, the spine of a token, and the rule on cycles.
-use Rattle.std.specs.Prelude.{◌≡◌, ◌⊎◌, ℕ, zero, suc, ◌<◌, ◌≤◌, false, List, [], ◌∷◌, Option, Some, slice_get, ◌==◌, if◌then◌else◌}
+-- Walks along kids: what is free in a node, where a variable is met, what is settled, the spine of a token, and the rule on cycles.
+use Rattle.std.specs.Prelude.{◌≡◌, ◌⊎◌, ℕ, zero, suc, ◌<◌, ◌≤◌, true, false, List, [], ◌∷◌, Option, Some, slice_get, ◌==◌, if◌then◌else◌}
 use Rattle.pv_graph.specs.declared.node.Op.{Op}
 use Rattle.pv_graph.specs.declared.node.Op.TheVariants.{Both}
-use Rattle.pv_graph.specs.Ops.{Shape, theta, eval, pass, shift, shape, may_not_end}
+use Rattle.pv_graph.specs.Ops.{Shape, theta, eval, pass, shift, shape, is_variable, may_not_end}
 use Rattle.pv_graph.specs.Forms.{Form, form}
 
 -- x is in the list
@@ -22,6 +22,11 @@ open_kids d s ks = ks
 pub data Free {N : Type 0} (view : N → Option (Form N)) (d : ℕ) : N → Type 0 where
   here : (n : N) (o : Op) (ks : List N) → view n ≡ Some (form o ks) → shape o ≡ theta d → Free view d n
   below : (n k : N) (o : Op) (ks : List N) → view n ≡ Some (form o ks) → In (open_kids d (shape o) ks) k → Free view d k → Free view d n
+
+-- a variable is reached through kids through which depth d is free; so d may be free there, as any node may stand for it
+pub data MeetsVariable {N : Type 0} (view : N → Option (Form N)) (d : ℕ) : N → Type 0 where
+  variable : (n : N) (o : Op) (ks : List N) → view n ≡ Some (form o ks) → is_variable o ≡ true → MeetsVariable view d n
+  through_kid : (n k : N) (o : Op) (ks : List N) → view n ≡ Some (form o ks) → In (open_kids d (shape o) ks) k → MeetsVariable view d k → MeetsVariable view d n
 
 -- no depth is free in it
 abbrev pub IsClosed : {N : Type 0} → (N → Option (Form N)) → N → Type 0

@@ -1,7 +1,8 @@
 //! A graph, which numbers its nodes.
 
 ghost use Rattle.std.specs.Prelude.{◌≡◌, ◌≢◌, ◌↔◌, ◌<◌, ◌+◌, ◌^◌, ◌∷◌, ◌++◌, [], length, slice_get, true, false, Some, List, ℕ, IsTrue, IfOk, OnOk, OnErr, vec_len, vec_capacity};
-ghost use Rattle.pv_graph.specs.Graphs.{IsGraph, IsRanged};
+ghost use Rattle.pv_graph.specs.Graphs.{IsGraph, IsRanged, form_at};
+ghost use Rattle.pv_graph.specs.Walks.{MeetsVariable};
 ghost use Rattle.std.specs.Bool.{OnTrue, OnFalse};
 ghost use Rattle.pv_graph.specs.Nodes.{node_of, AreTied, IsOpen, IsAbsent};
 ghost use Rattle.pv_graph.specs.Index.{IsIndex};
@@ -370,6 +371,16 @@ impl Graph {
     {
         let free = self.free_marks(alloc, d)?;
         Ok(free[n as usize])
+    }
+
+    /// Whether a variable is reached from a node through kids through which a depth is free, so that the depth may be
+    /// free in what stands for it. Its time is linear in the number of nodes and kids.
+    pub fn meets_variable(&self, alloc: Global, n: NodeId, d: u32) -> Result<bool, Memory>
+        requires { n < length self.now.nodes }
+        ensures { IfOk result (λ yes. IsTrue yes ↔ MeetsVariable (form_at self.now.nodes) d n) }
+    {
+        let meets = self.marks(alloc, &[], Look::Variable(d))?;
+        Ok(meets[n as usize])
     }
 
     /// Whether a node is settled, with some nodes assumed to end. Its time is linear in the number of

@@ -14,7 +14,7 @@
 //! the graph as it was, `of_base` makes the sealed graph of a list of nodes (`IsBase`), and `free`,
 //! `settled` and their other forms answer exactly `Free` and `IsSettled`: `free_marks` and
 //! `settled_marks` for all nodes at once, `free_now` and `settled_now` on a prepared graph, and
-//! `free_growing` while nodes are added and thetas tied. `laws` has the laws (`Laws`), each as the
+//! `free_growing` while nodes are added and thetas tied. `meets_variable` answers exactly `MeetsVariable`. `laws` has the laws (`Laws`), each as the
 //! contract of a function that does nothing.
 //!
 //! `Index`, `Kept`, `Known`, `Reach`, `SortCode` and `Base` are private to this crate: how a node finds

@@ -14,11 +14,12 @@ pub(crate) struct Use {
     pub(crate) place: usize,
 }
 
-// What is looked for: the thetas of a depth, through the kids through which it is free; what may not
-// end, through all kids; or what gives a sort, through the kids whose sorts are taken.
+// What is looked for: the thetas of a depth, or variables, through the kids through which the depth is free; what
+// may not end, through all kids; or what gives a sort, through the kids whose sorts are taken.
 #[derive(Clone, Copy)]
 pub(crate) enum Look {
     Free(u32),
+    Variable(u32),
     All,
     Sort,
 }
@@ -30,6 +31,7 @@ impl Look {
     {
         match (self, op) {
             (Look::Free(d), Op::Theta(e)) => *e == d,
+            (Look::Variable(_), Op::Var(..)) => true,
             (Look::All, Op::Never | Op::Pass(_) | Op::CallEnd(_) | Op::Var(..)) => true,
             _ => false,
         }
@@ -40,8 +42,8 @@ impl Look {
         ensures { result ≡ follows self op.now place }
     {
         match (self, op) {
-            (Look::Free(d), Op::Eval(e)) => *e != d || place != 0,
-            (Look::Free(d), Op::Pass(e)) => *e != d,
+            (Look::Free(d) | Look::Variable(d), Op::Eval(e)) => *e != d || place != 0,
+            (Look::Free(d) | Look::Variable(d), Op::Pass(e)) => *e != d,
             (Look::Sort, Op::Phi) => place == 1,
             (Look::Sort, Op::Theta(_) | Op::Eval(_) | Op::Shift(_)) => place == 0,
             (Look::Sort, _) => false,

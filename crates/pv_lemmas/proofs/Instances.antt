@@ -14,10 +14,10 @@ use Rattle.pv_graph.specs.Walks.{In, IsSettled}
 use Rattle.pv_graph.specs.Graphs.{Graph, form_at}
 use Rattle.pv_pattern.specs.Patterns.{Head, fixed, theta_d, eval_d, pass_d, shift_d, getstatic, putstatic, getfield, putfield, load, store, Each, bare, shifted, evaluated, Pattern, var, constant, fold, narrowed, over, over_each, Patterns, none, first, Side, settled, not_free, symbols_differ, kinds_differ, not_byte, constants_differ, Axiom}
 use Rattle.pv_pattern.specs.Numbers.{op_number}
-use Rattle.pv_pattern.specs.Instances.{Names, constant_of, IsConstantAt, Narrows, IsEach, Stands, StandAll, Holds, head_op}
+use Rattle.pv_pattern.specs.Instances.{Names, constant_of, IsConstantAt, Narrows, IsEach, Stands, StandAll, Holds, HoldsForAll, head_op}
 use Rattle.pv_steps.specs.declared.step.Lemma.{Lemma}
-use Rattle.pv_axioms.specs.Entries.{axioms, Instance}
-use Rattle.pv_lemmas.specs.Lemmas.{HoldsForAll, OpenInstance, IsAccepted, IsUnder, variable, operation, IsUse, Uses}
+use Rattle.pv_axioms.specs.Entries.{axioms, Instance, OpenInstance}
+use Rattle.pv_lemmas.specs.Lemmas.{IsAccepted, IsUnder, variable, operation, IsUse, Uses}
 use Rattle.pv_lemmas.proofs.Lists.{get_map, get_mapped, zip_map, zip_left}
 use Rattle.pv_lemmas.proofs.Expanding.{Expands}
 use Rattle.pv_lemmas.proofs.Kept.{free_back, settled_kept}

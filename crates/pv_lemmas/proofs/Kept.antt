@@ -5,12 +5,11 @@ use Rattle.pv_graph.specs.declared.node.Op.{Op}
 use Rattle.pv_graph.specs.declared.node.Op.TheVariants as op
 use Rattle.pv_graph.specs.Ops.{Shape, plain, choice, theta, eval, pass, shift, root, shape, is_variable, may_not_end}
 use Rattle.pv_graph.specs.Forms.{Form, form}
-use Rattle.pv_graph.specs.Walks.{In, open_kids, Free, Reaches, itself, along, IsSettled}
+use Rattle.pv_graph.specs.Walks.{In, open_kids, Free, MeetsVariable, variable, through_kid, Reaches, itself, along, IsSettled}
 use Rattle.pv_graph.specs.Walks as walks
 use Rattle.pv_graph.specs.Graphs.{Graph, form_at}
 use Rattle.pv_graph.proofs.Cited.{in_or_not}
 use Rattle.pv_steps.specs.Facts.{View}
-use Rattle.pv_lemmas.specs.Lemmas.{MeetsVariable, here, below}
 use Rattle.pv_lemmas.proofs.Lists.{bool_cases, in_mapped}
 use Rattle.pv_lemmas.proofs.Expanding.{Expands}
 
@@ -79,15 +78,15 @@ module _ (inner outer : Graph) (h : ℕ → ℕ) (e : Expands inner outer h) whe
   -- a depth that is free in a node of the outer graph is so in that of the lemma, or a variable is met
   pub free_back : (d m : ℕ) → Free (form_at outer.nodes) d m → (p : ℕ) → h p ≡ m → Free (form_at inner.nodes) d p ⊎ MeetsVariable (form_at inner.nodes) d p
   free_back d m (walks.here _ o ls is s) p same = elim (back p o ls m same is) [
-    | variable_ q ps f v ↦ inr (here p q ps f v)
+    | variable_ q ps f v ↦ inr (variable p q ps f v)
     | operation_ ps f k ↦ inl (walks.here p o ps f s)
   ]
   free_back d m (walks.below _ c o ls is i r) p same = elim (back p o ls m same is) [
-    | variable_ q ps f v ↦ inr (here p q ps f v)
+    | variable_ q ps f v ↦ inr (variable p q ps f v)
     | operation_ ps f k ↦
         (let j : In (map h (open_kids d (shape o) ps)) c = subst (λ (q : List ℕ). In q c) (ap (open_kids d (shape o)) k ∙ open_map h d (shape o) ps) i in
         let kid = in_mapped h (open_kids d (shape o) ps) c j in
-        elim (free_back d c r kid.0 kid.2) [ inl z ↦ inl (walks.below p kid.0 o ps f kid.1 z) | inr z ↦ inr (below p kid.0 o ps f kid.1 z) ])
+        elim (free_back d c r kid.0 kid.2) [ inl z ↦ inl (walks.below p kid.0 o ps f kid.1 z) | inr z ↦ inr (through_kid p kid.0 o ps f kid.1 z) ])
   ]
 
   -- settled nodes stand for these variables

@@ -7,4 +7,9 @@ pub mod Same
 pub mod Sets
 pub mod Shown
 pub mod Sound
+pub mod Starting
+pub mod Asking
+pub mod Using
+pub mod More
+pub mod Prepared
 pub mod Cited

@@ -72,7 +72,7 @@ module _ (vs : List Var) where
       subst (λ (y : Node). HasSort sorts_of y.op y.kids s) (sym r.2) (subst (λ (t : OpSort). HasSort sorts_of (op.Var n t) [] s) (sym same) (var_sorted sorts_of n s))
 
   -- no node has a kid
-  no_kids : (n k : ℕ) (node : Node) → slice_get (variables_from 0 vs) n ≡ Some node → In node.kids k → ⊥
+  pub no_kids : (n k : ℕ) (node : Node) → slice_get (variables_from 0 vs) n ≡ Some node → In node.kids k → ⊥
   no_kids n k node e m = let r = variable_node vs n node e in subst (λ (y : Node). In y.kids k) r.2 m
 
   -- there is no step from a node

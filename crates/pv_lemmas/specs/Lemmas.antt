@@ -1,24 +1,23 @@
 -- When a lemma is accepted, and what a use of one is.
-use Rattle.std.specs.Prelude.{◌≡◌, ℕ, suc, ◌<◌, true, false, List, [], ◌∷◌, length, map, reverse, Option, Some, slice_get, ◌==◌}
+use Rattle.std.specs.Prelude.{◌≡◌, ℕ, suc, ◌<◌, true, false, List, [], ◌∷◌, length, map, reverse, Some, slice_get, ◌==◌}
 use Rattle.std.specs.List.{AllByRecursion}
 use Rattle.pv_graph.specs.declared.node.Op.{Op}
 use Rattle.pv_graph.specs.declared.node.Op.TheVariants as op
 use Rattle.pv_graph.specs.declared.node.OpSort.{OpSort}
 use Rattle.pv_graph.specs.declared.node.Node.{Node}
-use Rattle.pv_graph.specs.Ops.{shape, is_variable, HaveSorts}
-use Rattle.pv_graph.specs.Forms.{Form, form}
-use Rattle.pv_graph.specs.Walks.{In, open_kids, IsSettled}
+use Rattle.pv_graph.specs.Ops.{is_variable, HaveSorts}
+use Rattle.pv_graph.specs.Forms.{form}
+use Rattle.pv_graph.specs.Walks.{In, IsSettled}
 use Rattle.pv_graph.specs.Nodes.{node_of}
 use Rattle.pv_graph.specs.Graphs.{Graph, form_at}
-use Rattle.pv_pattern.specs.Patterns.{Axiom, Side, not_free}
-use Rattle.pv_pattern.specs.Instances.{Names, IsInstance}
+use Rattle.pv_graph.specs.Calls.{IsSame}
 use Rattle.pv_steps.specs.declared.step.Var.{Var}
 use Rattle.pv_steps.specs.declared.step.Lemma.{Lemma}
 use Rattle.pv_steps.specs.declared.step.Step.{Step}
 use Rattle.pv_steps.specs.declared.step.Step.TheVariants.{Open, Close, Assume, Finish}
 use Rattle.pv_steps.specs.Right.{by_axiom, by_lemma, Instances, GraphAfter}
 use Rattle.pv_steps.specs.Accepted.{AllRight, IsConcluded}
-use Rattle.pv_axioms.specs.Entries.{IsEntry, axioms, Instance}
+use Rattle.pv_axioms.specs.Entries.{Instance, OpenInstance}
 
 -- ---- the graph of a lemma
 
@@ -36,27 +35,9 @@ settled_from j (v ∷ vs) = elim v.settled [ true ↦ j ∷ settled_from (suc j)
 abbrev pub variables_graph : List Var → Graph
 variables_graph vs = record { nodes = variables_from 0 vs; sorts = map (λ v. v.sort) vs; is_open = false; base = length vs; is_prepared = false }
 
--- ---- axioms, whatever stands for the variables
+-- ---- the rules inside a lemma
 
--- a variable is reached through kids through which depth d is free; so d may be free there, as any node may stand for it
-pub data MeetsVariable (view : ℕ → Option (Form ℕ)) (d : ℕ) : ℕ → Type 0 where
-  here : (n : ℕ) (o : Op) (ks : List ℕ) → view n ≡ Some (form o ks) → is_variable o ≡ true → MeetsVariable view d n
-  below : (n k : ℕ) (o : Op) (ks : List ℕ) → view n ≡ Some (form o ks) → In (open_kids d (shape o) ks) k → MeetsVariable view d k → MeetsVariable view d n
-
--- a condition that asks for a depth not to be free holds whatever stands for the variables
-abbrev pub HoldsForAll : Graph → Names → Side → Type 0
-HoldsForAll g m (not_free j) = (n : ℕ) → slice_get m.vars j ≡ Some n → MeetsVariable (form_at g.nodes) m.depth n → ⊥
-HoldsForAll g m s = Unit {0}
-
--- the sides of an instance of an axiom whatever stands for the variables, of which these stand for settled nodes alone
-pub record IsOpenInstance (g : Graph) (settled : List ℕ) (a : Axiom) (subst : List ℕ) (l r : ℕ) : Type 0 where
-  pub instance_ : IsInstance g settled a subst l r
-  pub for_all : AllByRecursion (HoldsForAll g instance_.names) a.sides
-
-abbrev pub OpenInstance : Graph → List ℕ → ℕ → List ℕ → ℕ → ℕ → Type 0
-OpenInstance g settled n subst l r = (a : Axiom) × IsEntry axioms n a × IsOpenInstance g settled a subst l r
-
--- the rules inside a lemma that may use others by this relation; these variables stand for settled nodes alone
+-- the axioms whatever stands for the variables, of which these stand for settled nodes alone, and the uses of others by this relation
 abbrev pub InLemma : (Graph → List ℕ → ℕ → List ℕ → ℕ → ℕ → Type 0) → List ℕ → Instances
 InLemma Uses settled g assumed (by_axiom n) nodes a b = OpenInstance g settled n nodes a b
 InLemma Uses settled g assumed (by_lemma n) nodes a b = Uses g settled n nodes a b
@@ -74,6 +55,14 @@ IsOutsideBlocks s = Unit {0}
 -- the graph after the steps of a lemma
 abbrev pub LemmaGraph : Lemma → Graph → Type 0
 LemmaGraph lemma g = GraphAfter (variables_graph lemma.vars) (reverse lemma.steps) g
+
+-- the graph after its steps, but for whether it is prepared; it has both sides
+pub record IsKnown (lemma : Lemma) (g : Graph) : Type 0 where
+  pub after : Graph
+  pub is : LemmaGraph lemma after
+  pub same : IsSame after g
+  pub left_there : lemma.left < length g.nodes
+  pub right_there : lemma.right < length g.nodes
 
 -- each step is right, and left and right are one node, or the last step states that they are equal
 pub record IsAccepted (Uses : Graph → List ℕ → ℕ → List ℕ → ℕ → ℕ → Type 0) (lemma : Lemma) : Type 0 where

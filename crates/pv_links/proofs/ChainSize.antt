@@ -4,6 +4,7 @@ use Rattle.std.specs.Prelude.{codes, decimal}
 use Rattle.std.proofs.lemmas.Fmt.{length-decimal-le}
 use Rattle.hex.specs.Hex.{encode_lower, lower_digits}
 use Rattle.hex.proofs.HexLemmas.{length-encode_with}
+use Rattle.pv_cert.specs.declared.cert.Version.TheVariants.{Two}
 use Rattle.pv_cert.specs.Certificates as cert
 use Rattle.pv_class.specs.declared.class.TheConstants.{LONGEST_FILE}
 use Rattle.pv_chain.specs.Heads.{head, version_line}
@@ -38,9 +39,9 @@ head_size middle n few =
 pub chain_short : (a b c x y text : List ℕ) → IsChainFor a b c x y text → length text ≤ LONGEST_CHAIN
 chain_short a b c x y text is =
     let h = is.chain in
-    let n = length (cert.cert_lines h.first) in
+    let n = length (cert.cert_lines Two h.first) in
     let class : length h.middle ≤ LONGEST_FILE = is.fits.file_is.small in
-    let first : length (cert.spelled h.first) ≤ LONGEST_CERT = omega (arith, is.first_is.short, ap length is.first_is.spelled_) in
-    let second : length (cert.spelled h.second) ≤ LONGEST_CERT = omega (arith, is.second_is.short, ap length is.second_is.spelled_) in
+    let first : length (cert.spelled Two h.first) ≤ LONGEST_CERT = omega (arith, is.first_is.short, ap length is.first_is.spelled_) in
+    let second : length (cert.spelled Two h.second) ≤ LONGEST_CERT = omega (arith, is.second_is.short, ap length is.second_is.spelled_) in
     let size = head_size h.middle n is.fits.headed.1.1.1 in
-    omega (arith, class, first, second, size, ap length is.spelled_, length-append (head.spells (h.middle, n)) (cert.spelled h.first ++ cert.spelled h.second), length-append (cert.spelled h.first) (cert.spelled h.second))
+    omega (arith, class, first, second, size, ap length is.spelled_, length-append (head.spells (h.middle, n)) (cert.spelled Two h.first ++ cert.spelled Two h.second), length-append (cert.spelled Two h.first) (cert.spelled Two h.second))

@@ -24,7 +24,7 @@ use Rattle.pv_links.specs.declared.finding.LinkFinding.{LinkFinding}
 use Rattle.pv_links.specs.declared.flaw.ChainFlaw.{ChainFlaw}
 use Rattle.pv_links.specs.declared.flaw.ChainFlaw.TheVariants as flaw
 use Rattle.pv_links.specs.Composed.{IsChainFor}
-use Rattle.pv_links.specs.Findings.{IsFinding, Link, is_like, is_titled, links, links_of}
+use Rattle.pv_links.specs.Findings.{IsFinding, Link, is_like, is_titled, lemmas_of, links, links_of}
 use Rattle.pv_links.specs.Flaws.{IsBetween, IsChain, IsChainFlaw, Names}
 use Rattle.pv_links.specs.Laws.{ComposedEquivalent, SaysEquivalent, SaysLinked}
 use Rattle.pv_links.specs.Ruled.{ChainRuled, IsChainReport}
@@ -92,39 +92,41 @@ module _ (a b c x y text said name desc : List ℕ) (bytes_a : AreBytes a) (byte
     g_is : IsClass b r.middle
     g_is = subst (λ (m : List ℕ). IsClass m r.middle) middle_is r.middle_is
 
+    first_cert : one.report.certificate ≡ r.chain.first
+    first_cert = one_cert x one.report.certificate is.chain.first one.report.certificate_is is.first_is ∙ ap (λ (h : Chain). h.first) (sym (one_chain r.chain r.chain_is))
+
+    second_cert : two.report.certificate ≡ r.chain.second
+    second_cert = one_cert y two.report.certificate is.chain.second two.report.certificate_is is.second_is ∙ ap (λ (h : Chain). h.second) (sym (one_chain r.chain r.chain_is))
+
     -- of the first section
-    first_found : section.IsFinding r.first r.middle one.section (Verdict verdict.Equivalent)
+    first_found : section.IsFinding r.chain.first.lemmas r.first r.middle one.section (Verdict verdict.Equivalent)
     first_found =
         let q = one.report in
-        let z = zip_there (section.IsFinding q.first q.second) q.certificate.sections one.findings one.place one.section q.lines.each one.there in
+        let z = zip_there (section.IsFinding q.certificate.lemmas q.first q.second) q.certificate.sections one.findings one.place one.section q.lines.each one.there in
         let v : z.0 ≡ Verdict verdict.Equivalent = (let both : ◌≡◌ {A = Option Finding} (Some z.0) (Some (Verdict verdict.Equivalent)) = sym z.1 ∙ one.says in cc both) in
         let first : q.first ≡ r.first = file_once a q.first r.first (by_index a bytes_a) q.first_is r.first_is in
         let second : q.second ≡ r.middle = file_once b q.second r.middle (by_index b bytes_b) q.second_is g_is in
-        subst (λ (g : ClassFile). section.IsFinding r.first g one.section (Verdict verdict.Equivalent)) second
-        (subst (λ (f : ClassFile). section.IsFinding f q.second one.section (Verdict verdict.Equivalent)) first (subst (section.IsFinding q.first q.second one.section) v z.2))
+        let found = subst (λ (d : Cert). section.IsFinding d.lemmas q.first q.second one.section (Verdict verdict.Equivalent)) first_cert (subst (section.IsFinding q.certificate.lemmas q.first q.second one.section) v z.2) in
+        subst (λ (g : ClassFile). section.IsFinding r.chain.first.lemmas r.first g one.section (Verdict verdict.Equivalent)) second
+        (subst (λ (f : ClassFile). section.IsFinding r.chain.first.lemmas f q.second one.section (Verdict verdict.Equivalent)) first found)
 
     -- .. and of the second
-    second_found : section.IsFinding r.middle r.last two.section (Verdict verdict.Equivalent)
+    second_found : section.IsFinding r.chain.second.lemmas r.middle r.last two.section (Verdict verdict.Equivalent)
     second_found =
         let q = two.report in
-        let z = zip_there (section.IsFinding q.first q.second) q.certificate.sections two.findings two.place two.section q.lines.each two.there in
+        let z = zip_there (section.IsFinding q.certificate.lemmas q.first q.second) q.certificate.sections two.findings two.place two.section q.lines.each two.there in
         let v : z.0 ≡ Verdict verdict.Equivalent = (let both : ◌≡◌ {A = Option Finding} (Some z.0) (Some (Verdict verdict.Equivalent)) = sym z.1 ∙ two.says in cc both) in
         let first : q.first ≡ r.middle = file_once b q.first r.middle (by_index b bytes_b) q.first_is g_is in
         let second : q.second ≡ r.last = file_once c q.second r.last (by_index c bytes_c) q.second_is r.last_is in
-        subst (λ (g : ClassFile). section.IsFinding r.middle g two.section (Verdict verdict.Equivalent)) second
-        (subst (λ (f : ClassFile). section.IsFinding f q.second two.section (Verdict verdict.Equivalent)) first (subst (section.IsFinding q.first q.second two.section) v z.2))
+        let found = subst (λ (d : Cert). section.IsFinding d.lemmas q.first q.second two.section (Verdict verdict.Equivalent)) second_cert (subst (section.IsFinding q.certificate.lemmas q.first q.second two.section) v z.2) in
+        subst (λ (g : ClassFile). section.IsFinding r.chain.second.lemmas r.middle g two.section (Verdict verdict.Equivalent)) second
+        (subst (λ (f : ClassFile). section.IsFinding r.chain.second.lemmas f q.second two.section (Verdict verdict.Equivalent)) first found)
 
     one_title : (one.section.name ≡ name) × (one.section.desc ≡ desc)
     one_title = titles name desc one.section (found_true (is_titled name desc) one.report.certificate.sections one.section one.first_of)
 
     two_title : (two.section.name ≡ name) × (two.section.desc ≡ desc)
     two_title = titles name desc two.section (found_true (is_titled name desc) two.report.certificate.sections two.section two.first_of)
-
-    first_cert : one.report.certificate ≡ r.chain.first
-    first_cert = one_cert x one.report.certificate is.chain.first one.report.certificate_is is.first_is ∙ ap (λ (h : Chain). h.first) (sym (one_chain r.chain r.chain_is))
-
-    second_cert : two.report.certificate ≡ r.chain.second
-    second_cert = one_cert y two.report.certificate is.chain.second two.report.certificate_is is.second_is ∙ ap (λ (h : Chain). h.second) (sym (one_chain r.chain r.chain_is))
 
     here : (k : ℕ) × (slice_get (links r.chain.first.sections r.chain.second.sections) k ≡ Some (one.section, two.section))
     here =
@@ -136,12 +138,12 @@ module _ (a b c x y text said name desc : List ℕ) (bytes_a : AreBytes a) (byte
 
     says_linked : SaysLinked a c text said name desc
     says_linked =
-        let z = zip_there (IsFinding r.first r.middle r.last) (links r.chain.first.sections r.chain.second.sections) findings here.0 (one.section, two.section) r.lines.each here.1 in
-        let l = linked a b c r.first r.middle r.last r.first_is g_is r.last_is one.section two.section (two_title.0 ∙ sym one_title.0) (two_title.1 ∙ sym one_title.1) first_found second_found in
+        let z = zip_there (IsFinding (lemmas_of r.chain) r.first r.middle r.last) (links r.chain.first.sections r.chain.second.sections) findings here.0 (one.section, two.section) r.lines.each here.1 in
+        let l = linked (lemmas_of r.chain) a b c r.first r.middle r.last r.first_is g_is r.last_is one.section two.section (two_title.0 ∙ sym one_title.0) (two_title.1 ∙ sym one_title.1) first_found second_found in
         let m_bytes = has_bytes a r.first l.m bytes_a r.first_is l.are.named.among in
         let n_bytes = has_bytes b r.middle l.n bytes_b g_is l.are.partner.among in
         let p_bytes = has_bytes c r.last l.p bytes_c r.last_is l.are.last_partner.among in
-        let v = found_once a b c r.first r.middle r.last r.first_is g_is r.last_is one.section two.section l z.0 m_bytes n_bytes p_bytes z.2 in
+        let v = found_once (lemmas_of r.chain) a b c r.first r.middle r.last r.first_is g_is r.last_is one.section two.section l z.0 m_bytes n_bytes p_bytes z.2 in
         record {
           findings = findings;
           report = r;

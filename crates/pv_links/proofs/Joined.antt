@@ -2,6 +2,7 @@
 use Rattle.std.proofs.Common.{◌≤◌, ◌<◌, ◌^◌, ℕ, List, length, None, Ok, Err, sym, ap, subst, arith}
 use Rattle.std.specs.Global.{Vec}
 use Rattle.pv_cert.specs.declared.cert.Cert.{Cert}
+use Rattle.pv_cert.specs.declared.cert.Version.TheVariants.{Two}
 use Rattle.pv_cert.specs.Certificates as cert
 use Rattle.pv_chain.proofs.Cited.{few_lines}
 use Rattle.pv_class.specs.declared.class.TheConstants.{LONGEST_FILE}
@@ -31,7 +32,7 @@ module _ (first second third one two : Fetched) where
       let left = bytes_are first k a first_holds h.first (small a have.first) in
       let middle = bytes_are second l b second_holds h.second (small b have.middle) in
       let right = bytes_are third m c third_holds h.third (small c have.last) in
-      let few : length (cert.cert_lines certs.0) < 2 ^ 32 = omega (arith, few_lines certs.0, ap length both.0.spelled_, both.0.short) in
+      let few : length (cert.cert_lines Two certs.0) < 2 ^ 32 = omega (arith, few_lines Two certs.0, ap length both.0.spelled_, both.0.short) in
       record {
         classes = have;
         chain = record { middle = l; first = certs.0; second = certs.1 };

@@ -7,6 +7,7 @@ use Rattle.pv_class.specs.ClassFaults.{IsBad}
 use Rattle.pv_class.specs.ClassFiles.{IsClass}
 use Rattle.pv_class.proofs.Cited.{answer_once}
 use Rattle.pv_cert.specs.declared.cert.Cert.{Cert}
+use Rattle.pv_cert.specs.declared.cert.Version.TheVariants.{Two}
 use Rattle.pv_cert.specs.BadCerts.{BadCert}
 use Rattle.pv_cert.proofs.Cited.{faults_once, spelled_once}
 use Rattle.pv_report.specs.declared.status.Status.{Status}
@@ -26,11 +27,11 @@ use Rattle.pv_links.specs.Laws.{HasCertReport, ReportedComposed}
 
 -- a text is that of one certificate, and has no flaw
 pub one_cert : (text : List ℕ) (d e : Cert) → IsCert text d → IsCert text e → d ≡ e
-one_cert text d e p q = spelled_once d e p.fits q.fits (sym p.spelled_ ∙ q.spelled_)
+one_cert text d e p q = spelled_once Two d e p.fits q.fits (sym p.spelled_ ∙ q.spelled_)
 
 no_text_flaw : (text : List ℕ) (d : Cert) (f : TextFlaw) → IsCert text d → IsTextFlaw text f → ⊥
 no_text_flaw text d text_flaw.TooLong is long = omega (arith, is.short, long)
-no_text_flaw text d (text_flaw.Unread f) is bad = faults_once.none d f is.fits (subst (λ (t : List ℕ). BadCert t f) is.spelled_ bad.1)
+no_text_flaw text d (text_flaw.Unread f) is bad = faults_once.none Two d f is.fits (subst (λ (t : List ℕ). BadCert Two t f) is.spelled_ bad.1)
 
 no_class_fault : (bytes : List ℕ) (file : ClassFile) (f : ClassFault) → AreBytes bytes → IsClass bytes file → IsBad bytes f → ⊥
 no_class_fault bytes file f fits is bad =

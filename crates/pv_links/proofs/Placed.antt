@@ -21,6 +21,7 @@ use Rattle.pv_report.specs.Roots.{HaveLeast}
 use Rattle.pv_report.specs.Verdicts.{HasCode, LackRoots}
 use Rattle.pv_report.proofs.Cited.{contains_here, partner_once, place_of, slice_at, slice_once}
 use Rattle.pv_sections.proofs.Found.{named_once}
+use Rattle.pv_steps.specs.declared.step.Lemma.{Lemma}
 use Rattle.pv_links.specs.declared.classes.Classes.{Classes}
 use Rattle.pv_links.specs.declared.finding.LinkFinding.{LinkFinding}
 use Rattle.pv_links.specs.declared.finding.LinkFinding.TheVariants as finding
@@ -28,7 +29,7 @@ use Rattle.pv_links.specs.declared.finding.Places.{Places}
 use Rattle.pv_links.specs.declared.roots.RefusedSide.{RefusedSide}
 use Rattle.pv_links.specs.declared.stage.Stage.{Stage}
 use Rattle.pv_links.specs.declared.stage.Stage.TheVariants as stage
-use Rattle.pv_links.specs.Findings.{AreMissing, AreOf, IsFinding, IsFindingOn, Link}
+use Rattle.pv_links.specs.Findings.{AreMissing, AreOf, IsFinding, IsFindingOn, Link, LinkLemmas}
 use Rattle.pv_links.specs.Made.{AreWithin, HasCodeAt, HaveCodesAt, IsChecked, IsFindingOnPlaces, IsPartnerAt, LeastOnPlaces, stage_at}
 
 -- ---- three methods, or none
@@ -81,23 +82,23 @@ without_last f g h s k j read (bytes, is) found partner none m n p are =
     let two : n ≡ like.0 = partner_once x g.methods n like.0 is.describes.distinct (subst (λ (q : Method). IsPartner q g.methods n) one are.partner) (like_partner g x like.0 j like like.1) in
     none like.0 like.1 p (subst (λ (q : Method). IsPartner q h.methods p) two are.last_partner)
 
-as_finding : (f g h : ClassFile) (l : Link) (m n p : Method) (x : LinkFinding) → AreOf f g h l.0 m n p → IsFindingOn f m g n h p l x → IsFinding f g h l x
-as_finding f g h l m n p finding.Missing are on = absurd on
-as_finding f g h l m n p _ are on = (m, n, p, are, on)
+as_finding : (lemmas : LinkLemmas) (f g h : ClassFile) (l : Link) (m n p : Method) (x : LinkFinding) → AreOf f g h l.0 m n p → IsFindingOn lemmas f m g n h p l x → IsFinding lemmas f g h l x
+as_finding lemmas f g h l m n p finding.Missing are on = absurd on
+as_finding lemmas f g h l m n p _ are on = (m, n, p, are, on)
 
 -- what is said of the methods at their places is said of the link
-pub finding_at : (k : Classes) (at : Places) (l : Link) (r : Result LinkFinding Memory) → IsNamedAt k.first.methods l.0.name l.0.desc at.first → IsPartnerAt k.first at.first k.middle (Some at.middle) → IsPartnerAt k.middle at.middle k.last (Some at.last)
-    → IfOk r (λ f. IsFindingOnPlaces k at l f) → IfOk r (λ f. IsFinding k.first k.middle k.last l f)
-finding_at k at l (Ok f) found partner last is =
+pub finding_at : (lemmas : LinkLemmas) (k : Classes) (at : Places) (l : Link) (r : Result LinkFinding Memory) → IsNamedAt k.first.methods l.0.name l.0.desc at.first → IsPartnerAt k.first at.first k.middle (Some at.middle) → IsPartnerAt k.middle at.middle k.last (Some at.last)
+    → IfOk r (λ f. IsFindingOnPlaces lemmas k at l f) → IfOk r (λ f. IsFinding lemmas k.first k.middle k.last l f)
+finding_at lemmas k at l (Ok f) found partner last is =
     let x = found.0 in
     let like : IsLikeAt x k.middle.methods at.middle = partner x found.1 in
     let more : IsLikeAt like.0 k.last.methods at.last = last like.0 like.1 in
-    as_finding k.first k.middle k.last l x like.0 more.0 f (record {
+    as_finding lemmas k.first k.middle k.last l x like.0 more.0 f (record {
       named = at_place k.first l.0.name l.0.desc at.first x found found.1;
       partner = like_partner k.middle x like.0 at.middle like like.1;
       last_partner = like_partner k.last like.0 more.0 at.last more more.1;
     }) (is x like.0 more.0 found.1 like.1 more.1)
-finding_at k at l (Err e) found partner last is = tt
+finding_at lemmas k at l (Err e) found partner last is = tt
 
 -- ---- three methods that don't all have a root
 
@@ -121,28 +122,28 @@ last_code k at w codes p last =
     (codes m.0 n.0 p m.1 n.1 last).2
 
 -- one has no code
-pub code_finding : (k : Classes) (at : Places) (l : Link) (s : Stage) → HaveCodesAt k at (Some s) → IsFindingOnPlaces k at l (finding.NoCode s)
-code_finding k at l stage.First is m n p = is m n p
-code_finding k at l stage.Middle is m n p = is m n p
-code_finding k at l stage.Last is m n p = is m n p
+pub code_finding : (lemmas : LinkLemmas) (k : Classes) (at : Places) (l : Link) (s : Stage) → HaveCodesAt k at (Some s) → IsFindingOnPlaces lemmas k at l (finding.NoCode s)
+code_finding lemmas k at l stage.First is m n p = is m n p
+code_finding lemmas k at l stage.Middle is m n p = is m n p
+code_finding lemmas k at l stage.Last is m n p = is m n p
 
-first_lacks : (k : Classes) (l : Link) (m n p : Method) (s : Side) (c : Cause) → HasCode p → LackRoots k.first m k.middle n (verdict.Refused s c) → IsFindingOn k.first m k.middle n k.last p l (finding.Refused (stage_at s stage.First stage.Middle) c)
-first_lacks k l m n p side.First c code lacks = (lacks.0, code, lacks.1)
-first_lacks k l m n p side.Second c code lacks = (lacks.0, code, lacks.1)
+first_lacks : (lemmas : LinkLemmas) (k : Classes) (l : Link) (m n p : Method) (s : Side) (c : Cause) → HasCode p → LackRoots k.first m k.middle n (verdict.Refused s c) → IsFindingOn lemmas k.first m k.middle n k.last p l (finding.Refused (stage_at s stage.First stage.Middle) c)
+first_lacks lemmas k l m n p side.First c code lacks = (lacks.0, code, lacks.1)
+first_lacks lemmas k l m n p side.Second c code lacks = (lacks.0, code, lacks.1)
 
 -- one of the first two is refused
-pub first_refused : (k : Classes) (at : Places) (l : Link) (r : RefusedSide) → HaveCodesAt k at None → LeastOnPlaces k.first at.first k.middle at.middle (Err r) → IsFindingOnPlaces k at l (finding.Refused (stage_at r.side stage.First stage.Middle) r.cause)
-first_refused k at l r codes lacks m n p here there last = first_lacks k l m n p r.side r.cause (codes m n p here there last).2 (lacks m n here there)
+pub first_refused : (lemmas : LinkLemmas) (k : Classes) (at : Places) (l : Link) (r : RefusedSide) → HaveCodesAt k at None → LeastOnPlaces k.first at.first k.middle at.middle (Err r) → IsFindingOnPlaces lemmas k at l (finding.Refused (stage_at r.side stage.First stage.Middle) r.cause)
+first_refused lemmas k at l r codes lacks m n p here there last = first_lacks lemmas k l m n p r.side r.cause (codes m n p here there last).2 (lacks m n here there)
 
-second_lacks : (k : Classes) (l : Link) (m n p : Method) (s : Side) (c : Cause) (one : Rooted) → HaveLeast k.first m k.middle n one → LackRoots k.middle n k.last p (verdict.Refused s c)
-    → IsFindingOn k.first m k.middle n k.last p l (finding.Refused (stage_at s stage.Middle stage.Last) c)
-second_lacks k l m n p side.First c one has lacks = (has.roots.one.form, lacks.0, lacks.1)
-second_lacks k l m n p side.Second c one has lacks = (has.roots.one.form, lacks.0, lacks.1)
+second_lacks : (lemmas : LinkLemmas) (k : Classes) (l : Link) (m n p : Method) (s : Side) (c : Cause) (one : Rooted) → HaveLeast k.first m k.middle n one → LackRoots k.middle n k.last p (verdict.Refused s c)
+    → IsFindingOn lemmas k.first m k.middle n k.last p l (finding.Refused (stage_at s stage.Middle stage.Last) c)
+second_lacks lemmas k l m n p side.First c one has lacks = (has.roots.one.form, lacks.0, lacks.1)
+second_lacks lemmas k l m n p side.Second c one has lacks = (has.roots.one.form, lacks.0, lacks.1)
 
 -- .. or the last
-pub second_refused : (k : Classes) (at : Places) (l : Link) (r : RefusedSide) (one : Rooted) → LeastOnPlaces k.first at.first k.middle at.middle (Ok one) → LeastOnPlaces k.middle at.middle k.last at.last (Err r)
-    → IsFindingOnPlaces k at l (finding.Refused (stage_at r.side stage.Middle stage.Last) r.cause)
-second_refused k at l r one has lacks m n p here there last = second_lacks k l m n p r.side r.cause one (has m n here there) (lacks n p there last)
+pub second_refused : (lemmas : LinkLemmas) (k : Classes) (at : Places) (l : Link) (r : RefusedSide) (one : Rooted) → LeastOnPlaces k.first at.first k.middle at.middle (Ok one) → LeastOnPlaces k.middle at.middle k.last at.last (Err r)
+    → IsFindingOnPlaces lemmas k at l (finding.Refused (stage_at r.side stage.Middle stage.Last) r.cause)
+second_refused lemmas k at l r one has lacks m n p here there last = second_lacks lemmas k l m n p r.side r.cause one (has m n here there) (lacks n p there last)
 
 -- ---- three methods that have roots
 
@@ -152,22 +153,22 @@ sealed_at f g k j l lt low h =
     let p = slice_at g.methods j low in
     (h m.0 p.0 m.1 p.1).least.sealed
 
-pub first_rejected : (k : Classes) (at : Places) (l : Link) (one two : Rooted) (q : ℕ) → LeastOnPlaces k.first at.first k.middle at.middle (Ok one) → LeastOnPlaces k.middle at.middle k.last at.last (Ok two) → IsChecked one l.0 (checked.Rejected q)
-    → IsFindingOnPlaces k at l (finding.Rejected side.First q)
-first_rejected k at l one two q has more is m n p here there last = ((more n p there last).roots.two.form, (one, has m n here there, is))
+pub first_rejected : (lemmas : LinkLemmas) (k : Classes) (at : Places) (l : Link) (one two : Rooted) (q : ℕ) → LeastOnPlaces k.first at.first k.middle at.middle (Ok one) → LeastOnPlaces k.middle at.middle k.last at.last (Ok two) → IsChecked lemmas.0 one l.0 (checked.Rejected q)
+    → IsFindingOnPlaces lemmas k at l (finding.Rejected side.First q)
+first_rejected lemmas k at l one two q has more is m n p here there last = ((more n p there last).roots.two.form, (one, has m n here there, is))
 
 -- what isn't rejected is accepted
-accepts : (l : Rooted) (s : Section) (x : Checked) → ((q : ℕ) → x ≡ checked.Rejected q → ⊥) → IsChecked l s x → IsChecked l s checked.Accepted
-accepts l s checked.Accepted not is = is
-accepts l s (checked.Rejected q) not is = absurd (not q refl)
+accepts : (lemmas : List Lemma) (l : Rooted) (s : Section) (x : Checked) → ((q : ℕ) → x ≡ checked.Rejected q → ⊥) → IsChecked lemmas l s x → IsChecked lemmas l s checked.Accepted
+accepts lemmas l s checked.Accepted not is = is
+accepts lemmas l s (checked.Rejected q) not is = absurd (not q refl)
 
-pub second_rejected : (k : Classes) (at : Places) (l : Link) (one two : Rooted) (x : Checked) (q : ℕ) → LeastOnPlaces k.first at.first k.middle at.middle (Ok one) → LeastOnPlaces k.middle at.middle k.last at.last (Ok two) → ((q : ℕ) → x ≡ checked.Rejected q → ⊥)
-    → IsChecked one l.0 x → IsChecked two l.1 (checked.Rejected q) → IsFindingOnPlaces k at l (finding.Rejected side.Second q)
-second_rejected k at l one two x q has more not first is m n p here there last = ((one, has m n here there, accepts one l.0 x not first), (two, more n p there last, is))
+pub second_rejected : (lemmas : LinkLemmas) (k : Classes) (at : Places) (l : Link) (one two : Rooted) (x : Checked) (q : ℕ) → LeastOnPlaces k.first at.first k.middle at.middle (Ok one) → LeastOnPlaces k.middle at.middle k.last at.last (Ok two) → ((q : ℕ) → x ≡ checked.Rejected q → ⊥)
+    → IsChecked lemmas.0 one l.0 x → IsChecked lemmas.1 two l.1 (checked.Rejected q) → IsFindingOnPlaces lemmas k at l (finding.Rejected side.Second q)
+second_rejected lemmas k at l one two x q has more not first is m n p here there last = ((one, has m n here there, accepts lemmas.0 one l.0 x not first), (two, more n p there last, is))
 
-pub both_accepted : (k : Classes) (at : Places) (l : Link) (one two : Rooted) (x y : Checked) → LeastOnPlaces k.first at.first k.middle at.middle (Ok one) → LeastOnPlaces k.middle at.middle k.last at.last (Ok two) → ((q : ℕ) → x ≡ checked.Rejected q → ⊥)
-    → ((q : ℕ) → y ≡ checked.Rejected q → ⊥) → IsChecked one l.0 x → IsChecked two l.1 y → IsFindingOnPlaces k at l finding.Equivalent
-both_accepted k at l one two x y has more not none first second m n p here there last = ((one, has m n here there, accepts one l.0 x not first), (two, more n p there last, accepts two l.1 y none second))
+pub both_accepted : (lemmas : LinkLemmas) (k : Classes) (at : Places) (l : Link) (one two : Rooted) (x y : Checked) → LeastOnPlaces k.first at.first k.middle at.middle (Ok one) → LeastOnPlaces k.middle at.middle k.last at.last (Ok two) → ((q : ℕ) → x ≡ checked.Rejected q → ⊥)
+    → ((q : ℕ) → y ≡ checked.Rejected q → ⊥) → IsChecked lemmas.0 one l.0 x → IsChecked lemmas.1 two l.1 y → IsFindingOnPlaces lemmas k at l finding.Equivalent
+both_accepted lemmas k at l one two x y has more not none first second m n p here there last = ((one, has m n here there, accepts lemmas.0 one l.0 x not first), (two, more n p there last, accepts lemmas.1 two l.1 y none second))
 
 -- ---- two methods that have code
 

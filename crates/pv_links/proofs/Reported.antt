@@ -21,7 +21,7 @@ use Rattle.pv_report.proofs.Cited.{bad_pair, take_next}
 use Rattle.pv_links.specs.declared.finding.LinkFinding.{LinkFinding}
 use Rattle.pv_links.specs.declared.flaw.ChainFlaw.{ChainFlaw}
 use Rattle.pv_links.specs.declared.flaw.ChainFlaw.TheVariants as flaw
-use Rattle.pv_links.specs.Findings.{IsFinding, Link, is_like, links, links_of}
+use Rattle.pv_links.specs.Findings.{IsFinding, Link, LinkLemmas, is_like, links, links_of}
 use Rattle.pv_links.specs.Flaws.{IsBetween}
 use Rattle.pv_links.specs.Lines.{bad_chain, link_line}
 use Rattle.pv_links.specs.Made.{ChainFetched, HoldsBytes, IsSaidOf}
@@ -59,23 +59,23 @@ links_next sections others i s at =
     ∙ ap (λ (t : List Link). links (take i sections) others ++ t) (append-nil (links_of others s))
 
 -- a section with one like it
-pub said_next : (f g h : ClassFile) (sections others : List Section) (i : ℕ) (s t : Section) (findings more : List LinkFinding) (x : LinkFinding) (text longer : List ℕ) → slice_get sections i ≡ Some s → find (is_like s) others ≡ Some t
-    → AreLines (IsFinding f g h) link_line (links (take i sections) others) findings text → IsFinding f g h (s, t) x → more ≡ findings ++ x ∷ [] → longer ≡ text ++ line_text (link_line (s, t) x) → AreLines (IsFinding f g h) link_line (links (take (i + 1) sections) others) more longer
-said_next f g h sections others i s t findings more x text longer at like are is e said =
+pub said_next : (lemmas : LinkLemmas) (f g h : ClassFile) (sections others : List Section) (i : ℕ) (s t : Section) (findings more : List LinkFinding) (x : LinkFinding) (text longer : List ℕ) → slice_get sections i ≡ Some s → find (is_like s) others ≡ Some t
+    → AreLines (IsFinding lemmas f g h) link_line (links (take i sections) others) findings text → IsFinding lemmas f g h (s, t) x → more ≡ findings ++ x ∷ [] → longer ≡ text ++ line_text (link_line (s, t) x) → AreLines (IsFinding lemmas f g h) link_line (links (take (i + 1) sections) others) more longer
+said_next lemmas f g h sections others i s t findings more x text longer at like are is e said =
     let one : links_of others s ≡ (s, t) ∷ [] = ap (λ (o : Option Section). option_to_list (option_map (λ (y : Section). (s, y)) o)) like in
     let front : links (take i sections) others ++ (s, t) ∷ [] ≡ links (take (i + 1) sections) others = sym (links_next sections others i s at ∙ ap (λ (l : List Link). links (take i sections) others ++ l) one) in
-    let next = are_more (IsFinding f g h) link_line (links (take i sections) others) findings text (s, t) x are is in
-    subst (λ (t : List ℕ). AreLines (IsFinding f g h) link_line (links (take (i + 1) sections) others) more t) (sym said)
-    (subst (λ (ys : List LinkFinding). AreLines (IsFinding f g h) link_line (links (take (i + 1) sections) others) ys (text ++ line_text (link_line (s, t) x))) (sym e)
-    (subst (λ (l : List Link). AreLines (IsFinding f g h) link_line l (findings ++ x ∷ []) (text ++ line_text (link_line (s, t) x))) front next))
+    let next = are_more (IsFinding lemmas f g h) link_line (links (take i sections) others) findings text (s, t) x are is in
+    subst (λ (t : List ℕ). AreLines (IsFinding lemmas f g h) link_line (links (take (i + 1) sections) others) more t) (sym said)
+    (subst (λ (ys : List LinkFinding). AreLines (IsFinding lemmas f g h) link_line (links (take (i + 1) sections) others) ys (text ++ line_text (link_line (s, t) x))) (sym e)
+    (subst (λ (l : List Link). AreLines (IsFinding lemmas f g h) link_line l (findings ++ x ∷ []) (text ++ line_text (link_line (s, t) x))) front next))
 
 -- .. and without
-pub said_none : (f g h : ClassFile) (sections others : List Section) (i : ℕ) (s : Section) (findings : List LinkFinding) (text : List ℕ) → slice_get sections i ≡ Some s → find (is_like s) others ≡ None
-    → AreLines (IsFinding f g h) link_line (links (take i sections) others) findings text → AreLines (IsFinding f g h) link_line (links (take (i + 1) sections) others) findings text
-said_none f g h sections others i s findings text at none are =
+pub said_none : (lemmas : LinkLemmas) (f g h : ClassFile) (sections others : List Section) (i : ℕ) (s : Section) (findings : List LinkFinding) (text : List ℕ) → slice_get sections i ≡ Some s → find (is_like s) others ≡ None
+    → AreLines (IsFinding lemmas f g h) link_line (links (take i sections) others) findings text → AreLines (IsFinding lemmas f g h) link_line (links (take (i + 1) sections) others) findings text
+said_none lemmas f g h sections others i s findings text at none are =
     let nil : links_of others s ≡ [] = ap (λ (o : Option Section). option_to_list (option_map (λ (y : Section). (s, y)) o)) none in
     let same : links (take i sections) others ≡ links (take (i + 1) sections) others = sym (links_next sections others i s at ∙ ap (λ (l : List Link). links (take i sections) others ++ l) nil ∙ append-nil (links (take i sections) others)) in
-    subst (λ (l : List Link). AreLines (IsFinding f g h) link_line l findings text) same are
+    subst (λ (l : List Link). AreLines (IsFinding lemmas f g h) link_line l findings text) same are
 
 -- ---- what was fetched
 

@@ -1,6 +1,7 @@
 -- Why certificates are no links between classes, and why a text is no chain for two files: the first of these cases that holds.
 use Rattle.std.specs.Prelude.{◌≡◌, ℕ, ◌<◌, ◌≤◌, List, length}
 use Rattle.pv_cert.specs.declared.cert.Cert.{Cert}
+use Rattle.pv_cert.specs.declared.cert.Version.TheVariants.{Two}
 use Rattle.pv_cert.specs.BadCerts.{BadCert}
 use Rattle.pv_chain.specs.declared.chain.Chain.{Chain}
 use Rattle.pv_chain.specs.BadChains.{BadChain}
@@ -29,7 +30,7 @@ IsSomeCert text = (c : Cert) × IsCert text c
 -- the text is no certificate that is read
 abbrev pub IsTextFlaw : List ℕ → TextFlaw → Type 0
 IsTextFlaw text text_flaw.TooLong = LONGEST_CERT < length text
-IsTextFlaw text (text_flaw.Unread f) = (length text ≤ LONGEST_CERT) × BadCert text f
+IsTextFlaw text (text_flaw.Unread f) = (length text ≤ LONGEST_CERT) × BadCert Two text f
 
 abbrev pub IsBadLink : List ℕ → List ℕ → List ℕ → List ℕ → List ℕ → BadLink → Type 0
 IsBadLink a b c x y (link.Text side.First f) = IsTextFlaw x f

@@ -14,14 +14,14 @@ use Rattle.pv_sections.specs.Ruled.{IsCertReport}
 use Rattle.pv_links.specs.declared.finding.LinkFinding.{LinkFinding}
 use Rattle.pv_links.specs.declared.finding.LinkFinding.TheVariants.{Equivalent}
 use Rattle.pv_links.specs.Composed.{Composed, IsChainFor}
-use Rattle.pv_links.specs.Findings.{IsFinding, Link, is_titled, links}
+use Rattle.pv_links.specs.Findings.{IsFinding, Link, is_titled, lemmas_of, links}
 use Rattle.pv_links.specs.Ruled.{ChainRuled, IsChainReport}
 
 -- Where a report says `equivalent` of a link, the method of the first class with its name and descriptor and the method like it in the last
 -- class have the same meaning. That two files of one digest are equal isn't used.
 abbrev pub EquivalentMeans : Type 0
 EquivalentMeans =
-    (a c text said : List ℕ) (findings : List LinkFinding) (r : IsChainReport a c text findings said) (link : Link) → AreBytes a → AreBytes c → IsFinding r.first r.middle r.last link Equivalent
+    (a c text said : List ℕ) (findings : List LinkFinding) (r : IsChainReport a c text findings said) (link : Link) → AreBytes a → AreBytes c → IsFinding (lemmas_of r.chain) r.first r.middle r.last link Equivalent
     → (m p : Method) × IsNamed link.0.name link.0.desc r.first.methods m × IsPartner m r.last.methods p × AreEquivalentMethods r.first m r.last p
 
 -- of the first section of a certificate on this name and descriptor the report on two files and that certificate says `equivalent`

@@ -2,9 +2,10 @@
 use Rattle.std.specs.Global.{Vec}
 use Rattle.std.specs.Prelude.{◌≡◌, ◌<◌, ℕ, List, length, MatchOption, Option, Some, None, Result, Ok, Err, slice_get}
 use Rattle.pv_alike.specs.Least.{Rooted}
-use Rattle.pv_axioms.specs.Entries.{ByAxioms}
 use Rattle.pv_check.specs.declared.checker.Checked.{Checked}
 use Rattle.pv_check.specs.declared.checker.Checked.TheVariants as checked
+use Rattle.pv_lemmas.specs.Lemmas.{ByLemmas}
+use Rattle.pv_steps.specs.declared.step.Lemma.{Lemma}
 use Rattle.pv_steps.specs.Accepted.{Derives, Rejects}
 use Rattle.pv_class.specs.declared.fault.ClassFault.{ClassFault}
 use Rattle.pv_class.specs.declared.file.ClassFile.{ClassFile}
@@ -31,6 +32,7 @@ use Rattle.pv_links.specs.declared.chain.TheConstants.{LONGEST_CHAIN}
 use Rattle.pv_links.specs.declared.classes.BadStage.{BadStage}
 use Rattle.pv_links.specs.declared.classes.Classes.{Classes}
 use Rattle.pv_links.specs.declared.finding.LinkFinding.{LinkFinding}
+use Rattle.pv_links.specs.declared.finding.LinkRules.{LinkRules}
 use Rattle.pv_links.specs.declared.finding.Places.{Places}
 use Rattle.pv_links.specs.declared.roots.RefusedSide.{RefusedSide}
 use Rattle.pv_links.specs.declared.composition.Refusal.{Refusal}
@@ -42,7 +44,7 @@ use Rattle.pv_links.specs.declared.flaw.ChainFlaw.{ChainFlaw}
 use Rattle.pv_links.specs.declared.flaw.TextFlaw.{TextFlaw}
 use Rattle.pv_links.specs.Composed.{HaveClasses, IsBadStage, IsChainFor}
 use Rattle.pv_links.specs.Reading.{AreContents}
-use Rattle.pv_links.specs.Findings.{IsFinding, IsFindingOn, Link, links}
+use Rattle.pv_links.specs.Findings.{IsFinding, IsFindingOn, Link, LinkLemmas, lemmas_of, links}
 use Rattle.pv_links.specs.Lines.{link_line}
 use Rattle.pv_links.specs.Ruled.{IsStatusOf}
 use Rattle.pv_class.specs.ClassFiles.{IsClass}
@@ -134,8 +136,8 @@ IsPartnerAt first place second found = (m : Method) → slice_get first.methods 
 abbrev pub OnPlaces : Classes → Places → (Method → Method → Method → Type 0) → Type 0
 OnPlaces k at Is = (m n p : Method) → slice_get k.first.methods at.first ≡ Some m → slice_get k.middle.methods at.middle ≡ Some n → slice_get k.last.methods at.last ≡ Some p → Is m n p
 
-abbrev pub IsFindingOnPlaces : Classes → Places → Link → LinkFinding → Type 0
-IsFindingOnPlaces k at link f = OnPlaces k at (λ m n p. IsFindingOn k.first m k.middle n k.last p link f)
+abbrev pub IsFindingOnPlaces : LinkLemmas → Classes → Places → Link → LinkFinding → Type 0
+IsFindingOnPlaces lemmas k at link f = OnPlaces k at (λ m n p. IsFindingOn lemmas k.first m k.middle n k.last p link f)
 
 abbrev pub HasCodeAt : ClassFile → ℕ → Type 0
 HasCodeAt file place = (m : Method) → slice_get file.methods place ≡ Some m → HasCode m
@@ -163,10 +165,14 @@ abbrev pub stage_at : Side → Stage → Stage → Stage
 stage_at side.First one two = one
 stage_at side.Second one two = two
 
--- what a check of a section says
-abbrev pub IsChecked : Rooted → Section → Checked → Type 0
-IsChecked l s checked.Accepted = Derives ByAxioms l.graph l.first l.second s.steps
-IsChecked l s (checked.Rejected n) = Rejects ByAxioms l.graph l.first l.second s.steps n
+-- the lemmas of the two certificates by which links are checked
+abbrev pub lemmas_by : LinkRules → LinkLemmas
+lemmas_by rules = (rules.first.now, rules.second.now)
+
+-- what a check of a section of a certificate with some lemmas says
+abbrev pub IsChecked : List Lemma → Rooted → Section → Checked → Type 0
+IsChecked lemmas l s checked.Accepted = Derives (ByLemmas lemmas) l.graph l.first l.second s.steps
+IsChecked lemmas l s (checked.Rejected n) = Rejects (ByLemmas lemmas) l.graph l.first l.second s.steps n
 
 -- ---- a report
 
@@ -175,5 +181,5 @@ pub record IsSaidOf (pair : Pair) (h : Chain) (text : List ℕ) (s : Status) : T
   pub middle : ClassFile
   pub middle_is : IsClass h.middle middle
   pub findings : List LinkFinding
-  pub lines : AreLines (IsFinding pair.first middle pair.second) link_line (links h.first.sections h.second.sections) findings text
+  pub lines : AreLines (IsFinding (lemmas_of h) pair.first middle pair.second) link_line (links h.first.sections h.second.sections) findings text
   pub status_is : IsStatusOf findings s

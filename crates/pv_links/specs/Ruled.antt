@@ -11,11 +11,12 @@ use Rattle.pv_report.specs.Report.{HasClass, IsBadPair}
 use Rattle.pv_links.specs.declared.finding.LinkFinding.{LinkFinding}
 use Rattle.pv_links.specs.declared.finding.LinkFinding.TheVariants.{Equivalent}
 use Rattle.pv_links.specs.declared.flaw.ChainFlaw.{ChainFlaw}
-use Rattle.pv_links.specs.Findings.{IsFinding, links}
+use Rattle.pv_links.specs.Findings.{IsFinding, lemmas_of, links}
 use Rattle.pv_links.specs.Flaws.{IsBetween, IsChain, IsChainFlaw}
 use Rattle.pv_links.specs.Lines.{bad_chain, link_line}
 
--- one line for each section of the first certificate that has one like it in the second, in its order, with these findings
+-- one line for each section of the first certificate that has one like it in the second, in its order, with these findings, which go by the
+-- lemmas of both certificates
 pub record IsChainReport (a c text : List ℕ) (findings : List LinkFinding) (said : List ℕ) : Type 0 where
   pub first : ClassFile
   pub last : ClassFile
@@ -26,7 +27,7 @@ pub record IsChainReport (a c text : List ℕ) (findings : List LinkFinding) (sa
   pub between : IsBetween chain a c
   pub middle : ClassFile
   pub middle_is : IsClass chain.middle middle
-  pub lines : AreLines (IsFinding first middle last) link_line (links chain.first.sections chain.second.sections) findings said
+  pub lines : AreLines (IsFinding (lemmas_of chain) first middle last) link_line (links chain.first.sections chain.second.sections) findings said
 
 abbrev pub AreEquivalent : List LinkFinding → Type 0
 AreEquivalent findings = AllByRecursion (λ f. f ≡ Equivalent) findings

@@ -4,7 +4,7 @@ ghost use Rattle.std.specs.Prelude.{◌≡◌, ◌↔◌, ◌<◌, IfOk, IfSome,
 ghost use Rattle.pv_class.specs.declared.file.Method.{Method};
 ghost use Rattle.pv_report.specs.Judging.{IsRead};
 ghost use Rattle.pv_links.specs.Findings.{IsFinding};
-ghost use Rattle.pv_links.specs.Made.{AreRead, AreWithin, HaveCodesAt, IsChecked, IsFindingOnPlaces, IsPartnerAt, stage_at};
+ghost use Rattle.pv_links.specs.Made.{AreRead, AreWithin, HaveCodesAt, IsChecked, IsFindingOnPlaces, IsPartnerAt, lemmas_by, stage_at};
 
 use crate::classes::Classes;
 use crate::roots::{RefusedSide, roots_of};
@@ -18,6 +18,7 @@ use pv_class::ClassFile;
 use pv_frame::Cause;
 use pv_pieces::Workers;
 use pv_report::{Side, has_code, partner_of};
+use pv_rules::{Lemmas, SectionRules};
 use pv_value::Memory;
 use std::alloc::Global;
 use std::thread::Threads;
@@ -54,17 +55,48 @@ pub(crate) struct Places {
     pub(crate) last: usize,
 }
 
-/// What is said of two sections for three classes.
+/// The axioms, and the lemmas of two certificates, of which the first is for a class and the middle one, and the second for that and
+/// the last.
+#[derive(Clone, Copy)]
+pub(crate) struct LinkRules<'a, 'l> {
+    pub(crate) axioms: &'a Axioms,
+    pub(crate) first: &'a Lemmas<'l>,
+    pub(crate) second: &'a Lemmas<'l>,
+}
+
+impl<'a, 'l> LinkRules<'a, 'l> {
+    // The rules of the first certificate.
+    fn of_first(&self) -> SectionRules<'a, 'l>
+        ensures { result.lemmas.now ≡ self.now.first.now }
+    {
+        SectionRules {
+            axioms: self.axioms,
+            lemmas: self.first,
+        }
+    }
+
+    // The rules of the second.
+    fn of_second(&self) -> SectionRules<'a, 'l>
+        ensures { result.lemmas.now ≡ self.now.second.now }
+    {
+        SectionRules {
+            axioms: self.axioms,
+            lemmas: self.second,
+        }
+    }
+}
+
+/// What is said of two sections for three classes, each by the rules of its certificate.
 pub(crate) fn find<R: Threads + Sync, G: Gate>(
     workers: &Workers<R, G>,
     alloc: Global,
-    axioms: &Axioms,
+    rules: &LinkRules,
     classes: &Classes,
     section: &Section,
     other: &Section,
 ) -> Result<LinkFinding, Memory>
     requires { AreRead classes.now }
-    ensures { IfOk result (λ finding. IsFinding classes.now.first classes.now.middle classes.now.last (section.now, other.now) finding) }
+    ensures { IfOk result (λ finding. IsFinding (lemmas_by rules.now) classes.now.first classes.now.middle classes.now.last (section.now, other.now) finding) }
 {
     let methods = &classes.first.methods;
     let Some(first) = methods.place_of(&section.name, &section.desc)? else {
@@ -81,7 +113,7 @@ pub(crate) fn find<R: Threads + Sync, G: Gate>(
         middle,
         last,
     };
-    find_on(workers, alloc, axioms, classes, at, section, other)
+    find_on(workers, alloc, rules, classes, at, section, other)
 }
 
 // The place in a class of the partner of the method at a place of another class.
@@ -98,7 +130,7 @@ fn partner_in(first: &ClassFile, method: usize, second: &ClassFile) -> Result<Op
 fn find_on<R: Threads + Sync, G: Gate>(
     workers: &Workers<R, G>,
     alloc: Global,
-    axioms: &Axioms,
+    rules: &LinkRules,
     classes: &Classes,
     at: Places,
     section: &Section,
@@ -106,7 +138,7 @@ fn find_on<R: Threads + Sync, G: Gate>(
 ) -> Result<LinkFinding, Memory>
     requires read { AreRead classes.now }
     requires within { AreWithin classes.now at }
-    ensures { IfOk result (λ finding. IsFindingOnPlaces classes.now at (section.now, other.now) finding) }
+    ensures { IfOk result (λ finding. IsFindingOnPlaces (lemmas_by rules.now) classes.now at (section.now, other.now) finding) }
 {
     if let Some(stage) = without_code(classes, at) {
         return Ok(LinkFinding::NoCode(stage));
@@ -119,10 +151,10 @@ fn find_on<R: Threads + Sync, G: Gate>(
         Ok(least) => least,
         Err(refused) => return Ok(refused_at(refused, Stage::Middle, Stage::Last)),
     };
-    if let Checked::Rejected(n) = check(workers, alloc, axioms, &one, section)? {
+    if let Checked::Rejected(n) = check(workers, alloc, &rules.of_first(), &one, section)? {
         return Ok(LinkFinding::Rejected(Side::First, n));
     }
-    if let Checked::Rejected(n) = check(workers, alloc, axioms, &two, other)? {
+    if let Checked::Rejected(n) = check(workers, alloc, &rules.of_second(), &two, other)? {
         return Ok(LinkFinding::Rejected(Side::Second, n));
     }
     Ok(LinkFinding::Equivalent)
@@ -155,17 +187,23 @@ fn refused_at(refused: RefusedSide, one: Stage, two: Stage) -> LinkFinding
     }
 }
 
-// Whether the steps of a section derive that the roots of a least graph are equal.
+// Whether the steps of a section derive by the rules of its certificate that the roots of a least graph are equal.
 fn check<R: Threads + Sync, G: Gate>(
     workers: &Workers<R, G>,
     alloc: Global,
-    axioms: &Axioms,
+    rules: &SectionRules,
     least: &Least,
     section: &Section,
 ) -> Result<Checked, Memory>
     requires { least.now.graph.is_open ≡ false }
-    ensures { IfOk result (λ answer. IsChecked least.now section.now answer) }
+    ensures { IfOk result (λ answer. IsChecked rules.now.lemmas.now least.now section.now answer) }
 {
-    let checker = Checker::new(axioms, least, section.steps.as_slice());
+    let checker = Checker::new(
+        rules,
+        least.graph(),
+        least.first(),
+        least.second(),
+        section.steps.as_slice(),
+    );
     checker.check(&checker.crew(workers), alloc)
 }

@@ -17,12 +17,12 @@ use Rattle.pv_value.specs.declared.descriptor.JType.TheVariants as jtype
 use Rattle.pv_graph.specs.declared.node.Op.{Op}
 use Rattle.pv_graph.specs.declared.node.Op.TheVariants as op
 use Rattle.pv_graph.specs.Forms.{Form, form}
-use Rattle.pv_graph.specs.Walks.{In, Free, IsSettled}
+use Rattle.pv_graph.specs.Walks.{In, Free, MeetsVariable, IsSettled}
 use Rattle.pv_graph.specs.Graphs.{Graph, form_at}
 use Rattle.pv_pattern.specs.declared.names.NameId.{NameId}
 use Rattle.pv_pattern.specs.declared.names.NameId.TheVariants.{Depth, Symbol, Kind, Constant, Operation}
 use Rattle.pv_pattern.specs.Patterns.{Atom, number, named, By, by_symbol, by_kind, Head, fixed, theta_d, eval_d, pass_d, shift_d, getstatic, putstatic, getfield, putfield, load, store, Each, bare, shifted, evaluated, Pattern, var, constant, fold, narrowed, over, over_each, Patterns, none, first, Side, settled, not_free, symbols_differ, kinds_differ, not_byte, constants_differ, Axiom}
-use Rattle.pv_pattern.specs.Instances.{Names, head_op, constant_of, IsConstantAt, atom_of, folded, type_by, kind_type, Narrows, IsEach, Stands, StandAll, Holds}
+use Rattle.pv_pattern.specs.Instances.{Names, head_op, constant_of, IsConstantAt, atom_of, folded, type_by, kind_type, Narrows, IsEach, Stands, StandAll, Holds, HoldsForAll}
 use Rattle.pv_pattern.specs.Found.{head_name, same_name, is_name, kids_of, op_of, or_else, place, place_in, shown, or_unit, depth_of, symbol_of, kind_of, constant_in, found}
 use Rattle.pv_pattern.specs.Binding.{listed_name, atoms_names, by_name, each_names, names, names_in, side_names, sides_names, binds, binds_in, binds_all, BindsItsNames}
 
@@ -248,3 +248,17 @@ module _ (m n : Names) (vars : m.vars ≡ n.vars) (kids : m.kids ≡ n.kids) whe
   all_hold g assumed [] a h = h
   all_hold g assumed (s ∷ ss) a h =
       (holds_same g assumed s (λ x i. a x (in_left (side_names s) (sides_names ss) x i)) h.0, all_hold g assumed ss (λ x i. a x (in_right (side_names s) (sides_names ss) x i)) h.1)
+
+  for_all_same : (g : Graph) (s : Side) → Agrees (side_names s) → HoldsForAll g m s → HoldsForAll g n s
+  for_all_same g (not_free j) a h =
+      λ k at met. h k (ap (λ (v : List ℕ). slice_get v j) vars ∙ at) (subst (λ (d : ℕ). MeetsVariable (form_at g.nodes) d k) (sym (a Depth (inl refl))) met)
+  for_all_same g (settled j) a h = tt
+  for_all_same g (symbols_differ s t) a h = tt
+  for_all_same g (kinds_differ k l) a h = tt
+  for_all_same g (not_byte k) a h = tt
+  for_all_same g (constants_differ j k) a h = tt
+
+  pub all_hold_for_all : (g : Graph) (ss : List Side) → Agrees (sides_names ss) → AllByRecursion (HoldsForAll g m) ss → AllByRecursion (HoldsForAll g n) ss
+  all_hold_for_all g [] a h = h
+  all_hold_for_all g (s ∷ ss) a h =
+      (for_all_same g s (λ x i. a x (in_left (side_names s) (sides_names ss) x i)) h.0, all_hold_for_all g ss (λ x i. a x (in_right (side_names s) (sides_names ss) x i)) h.1)

@@ -17,7 +17,7 @@ use Rattle.pv_graph.specs.declared.node.Op.{Op}
 use Rattle.pv_graph.specs.declared.node.Op.TheVariants as op
 use Rattle.pv_graph.specs.Forms.{Form, form}
 use Rattle.pv_denote.specs.Denote.{scalar_on, num_of}
-use Rattle.pv_graph.specs.Walks.{Free, IsSettled}
+use Rattle.pv_graph.specs.Walks.{Free, MeetsVariable, IsSettled}
 use Rattle.pv_graph.specs.Graphs.{Graph, form_at}
 use Rattle.pv_pattern.specs.Patterns.{Atom, number, named, By, by_symbol, by_kind, Head, fixed, theta_d, eval_d, pass_d, shift_d, getstatic, putstatic, getfield, putfield, load, store, Each, bare, shifted, evaluated, Pattern, var, constant, fold, narrowed, over, over_each, Patterns, none, first, Side, settled, not_free, symbols_differ, kinds_differ, not_byte, constants_differ, Axiom, variables, is_family}
 use Rattle.pv_pattern.specs.Numbers.{op_number}
@@ -119,6 +119,11 @@ Holds g assumed m (kinds_differ k l) = m.kinds k ≢ m.kinds l
 Holds g assumed m (not_byte k) = m.kinds k ≢ kind.Byte
 Holds g assumed m (constants_differ j k) = m.constants j ≢ m.constants k
 
+-- a condition that asks for a depth not to be free holds whatever stands for the variables of the graph
+abbrev pub HoldsForAll : Graph → Names → Side → Type 0
+HoldsForAll g m (not_free j) = (n : ℕ) → slice_get m.vars j ≡ Some n → MeetsVariable (form_at g.nodes) m.depth n → ⊥
+HoldsForAll g m s = Unit {0}
+
 -- l is the left side and r the right side, node by node, and every condition holds; the substitution has
 -- the kids of a family first, and then a node for each variable
 pub record IsInstance (g : Graph) (assumed : List ℕ) (a : Axiom) (subst : List ℕ) (l r : ℕ) : Type 0 where
@@ -129,3 +134,8 @@ pub record IsInstance (g : Graph) (assumed : List ℕ) (a : Axiom) (subst : List
   pub left : Stands (form_at g.nodes) names a.left l
   pub right : Stands (form_at g.nodes) names a.right r
   pub sides : AllByRecursion (Holds g assumed names) a.sides
+
+-- .. whatever stands for the variables of the graph, if only settled nodes may stand for those that are assumed to end
+pub record IsOpenInstance (g : Graph) (assumed : List ℕ) (a : Axiom) (subst : List ℕ) (l r : ℕ) : Type 0 where
+  pub instance_ : IsInstance g assumed a subst l r
+  pub for_all : AllByRecursion (HoldsForAll g instance_.names) a.sides

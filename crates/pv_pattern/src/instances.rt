@@ -1,11 +1,11 @@
 //! Whether two nodes are an instance of an axiom.
 
-ghost use Rattle.std.specs.Prelude.{◌≡◌, ◌↔◌, [], true, IfOk, IsTrue, MatchOption, map, slice_get};
+ghost use Rattle.std.specs.Prelude.{◌≡◌, ◌↔◌, ℕ, [], true, IfOk, IsTrue, MatchOption, Some, map, slice_get};
 ghost use Rattle.std.specs.List.{AllByRecursion};
-ghost use Rattle.pv_graph.specs.Walks.{Free, IsSettled};
+ghost use Rattle.pv_graph.specs.Walks.{Free, IsSettled, MeetsVariable};
 ghost use Rattle.pv_pattern.specs.Binding.{BindsItsNames};
 ghost use Rattle.pv_pattern.specs.Found.{Differs, HasNoReading, IsReading, names_of, view_of};
-ghost use Rattle.pv_pattern.specs.Instances.{Holds, IsInstance, Stands};
+ghost use Rattle.pv_pattern.specs.Instances.{Holds, HoldsForAll, IsInstance, IsOpenInstance, Stands};
 ghost use Rattle.pv_pattern.specs.Patterns.{is_family, is_family_of, not_free, settled, variables, variables_of};
 ghost use Rattle.pv_pattern.specs.Seen.{axiom_seen, listed, seen, side_seen};
 
@@ -186,6 +186,38 @@ impl Reading<'_> {
         Ok(true)
     }
 
+    // Whether a variable of the graph is met at the depth in the node of a variable of the axiom.
+    fn meets_variable(&self, alloc: Global, j: u32) -> Result<bool, Memory>
+        ensures { IfOk result (λ yes. IsTrue yes ↔ ((n : ℕ) × (slice_get self.now.vars.now j ≡ Some n) × MeetsVariable (view_of self.now) (names_of self.now).depth n)) }
+    {
+        match self.var(j) {
+            Some(n) if n < self.graph.len() => self.graph.meets_variable(alloc, n, self.depth()),
+            _ => Ok(false),
+        }
+    }
+
+    // Whether a condition that holds does so whatever stands for the variables of the graph.
+    fn holds_for_all(&self, alloc: Global, side: Side) -> Result<bool, Memory>
+        ensures { IfOk result (λ yes. IsTrue yes ↔ HoldsForAll self.now.graph.now (names_of self.now) (side_seen side)) }
+    {
+        match side {
+            Side::NotFree(j) => Ok(!self.meets_variable(alloc, j)?),
+            _ => Ok(true),
+        }
+    }
+
+    // Whether all conditions do.
+    fn all_hold_for_all(&self, alloc: Global, sides: &[Side]) -> Result<bool, Memory>
+        ensures { IfOk result (λ yes. IsTrue yes ↔ AllByRecursion (HoldsForAll self.now.graph.now (names_of self.now)) (map side_seen sides.now)) }
+    {
+        for side in sides {
+            if !self.holds_for_all(alloc, *side)? {
+                return Ok(false);
+            }
+        }
+        Ok(true)
+    }
+
     fn is_settled_now(&self, n: NodeId) -> bool
         requires { self.now.graph.now.is_prepared ≡ true }
         ensures { IsTrue result ↔ IsSettled (view_of self.now) [] n }
@@ -282,4 +314,30 @@ pub fn instance_now(graph: &Graph, rule: &Axiom, subst: &[NodeId], l: NodeId, r:
         Some(reading) => { reading.both_stand(rule, l, r) && reading.all_hold_now(&rule.sides) }
         None => false,
     }
+}
+
+/// Whether l is the left and r the right side of an axiom under a substitution, as `instance` says, whatever stands for
+/// the variables of the graph, if only settled nodes may stand for those that are assumed to end.
+pub fn open_instance(
+    alloc: Global,
+    graph: &Graph,
+    assumed: &[NodeId],
+    rule: &Axiom,
+    subst: &[NodeId],
+    l: NodeId,
+    r: NodeId,
+) -> Result<bool, Memory>
+    requires { BindsItsNames (axiom_seen rule.now) }
+    ensures { IfOk result (λ yes. IsTrue yes ↔ IsOpenInstance graph.now assumed.now (axiom_seen rule.now) subst.now l r) }
+{
+    let Some(reading) = reading_of(graph, &rule.left, subst, l) else {
+        return Ok(false);
+    };
+    if !reading.both_stand(rule, l, r) {
+        return Ok(false);
+    }
+    if !reading.all_hold(alloc, assumed, &rule.sides)? {
+        return Ok(false);
+    }
+    reading.all_hold_for_all(alloc, &rule.sides)
 }

@@ -7,7 +7,8 @@
 //!
 //! `instance` and `instance_now` say whether two nodes are an instance of an axiom whose left side binds all
 //! that the axiom names (`specs/Binding`): each name is found at its first place in the left side
-//! (`specs/Found`). `add_axioms` makes axioms of the rows of a table, which are
+//! (`specs/Found`). `open_instance` says whether they are one whatever stands for the variables of the graph
+//! (`IsOpenInstance`). `add_axioms` makes axioms of the rows of a table, which are
 //! constants (`specs/Tables`).
 //!
 //! A layer that looks for instances also uses `op_number`, the number of an operation (`specs/Numbers`), by which it
@@ -25,7 +26,7 @@ mod stands;
 mod table;
 
 pub use folding::{field_type, folded, kind_type};
-pub use instances::{instance, instance_now};
+pub use instances::{instance, instance_now, open_instance};
 pub use names::{NameId, fixed_op, head_name};
 pub use numbers::{OP_NUMBERS, op_number};
 pub use pattern::{Atom, Axiom, By, Each, Head, Pattern, Side};

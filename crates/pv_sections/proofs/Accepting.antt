@@ -5,8 +5,10 @@ use Rattle.pv_pool.proofs.Cited.{IsBytes}
 use Rattle.pv_class.specs.declared.file.ClassFile.{ClassFile}
 use Rattle.pv_cert.specs.declared.cert.Cert.{Cert}
 use Rattle.pv_cert.specs.declared.cert.CertFault.{CertFault}
+use Rattle.pv_cert.specs.declared.cert.Version.TheVariants.{Two}
 use Rattle.pv_cert.specs.BadCerts.{BadCert}
 use Rattle.pv_cert.proofs.Cited.{faults_once, spelled_once}
+use Rattle.pv_steps.specs.declared.step.Lemma.{Lemma}
 use Rattle.pv_report.specs.Options.{Limits}
 use Rattle.pv_report.specs.declared.status.Status.{Status}
 use Rattle.pv_report.specs.declared.status.Status.TheVariants as status
@@ -27,10 +29,10 @@ use Rattle.pv_sections.proofs.SectionOnce.{all_equivalent, each_among, equivalen
 module _ (limits : Limits) (a b cert : List ℕ) (bytes_a : IsBytes a) (bytes_b : IsBytes b) (is : IsCertificateFor limits a b cert) (short : length cert ≤ LONGEST_CERT) where
   -- the text has one reading
   one_cert : (c : Cert) → IsCert cert c → c ≡ is.certificate
-  one_cert c reads = spelled_once c is.certificate reads.fits is.fits (sym reads.spelled_ ∙ is.spelled_)
+  one_cert c reads = spelled_once Two c is.certificate reads.fits is.fits (sym reads.spelled_ ∙ is.spelled_)
 
-  no_fault : (f : CertFault) → BadCert cert f → ⊥
-  no_fault f bad = faults_once.none is.certificate f is.fits (subst (λ (text : List ℕ). BadCert text f) is.spelled_ bad)
+  no_fault : (f : CertFault) → BadCert Two cert f → ⊥
+  no_fault f bad = faults_once.none Two is.certificate f is.fits (subst (λ (text : List ℕ). BadCert Two text f) is.spelled_ bad)
 
   -- it has no flaw
   no_flaw : (f : Flaw) → IsFlaw a b cert f → ⊥
@@ -45,9 +47,10 @@ module _ (limits : Limits) (a b cert : List ℕ) (bytes_a : IsBytes a) (bytes_b 
       let shown = is.shown in
       let first : r.first ≡ shown.first = file_once a r.first shown.first bytes_a r.first_is shown.first_is in
       let second : r.second ≡ shown.second = file_once b r.second shown.second bytes_b r.second_is shown.second_is in
-      let by_first = subst (λ (f : ClassFile). AllZip (IsFinding f r.second) r.certificate.sections findings) first r.lines.each in
-      let by_second = subst (λ (g : ClassFile). AllZip (IsFinding shown.first g) r.certificate.sections findings) second by_first in
-      let found = subst (λ (c : Cert). AllZip (IsFinding shown.first shown.second) c.sections findings) (one_cert r.certificate r.certificate_is) by_second in
+      let by_first = subst (λ (f : ClassFile). AllZip (IsFinding r.certificate.lemmas f r.second) r.certificate.sections findings) first r.lines.each in
+      let by_second = subst (λ (g : ClassFile). AllZip (IsFinding r.certificate.lemmas shown.first g) r.certificate.sections findings) second by_first in
+      let by_cert = subst (λ (c : Cert). AllZip (IsFinding c.lemmas shown.first shown.second) c.sections findings) (one_cert r.certificate r.certificate_is) by_second in
+      let found = subst (λ (l : List Lemma). AllZip (IsFinding l shown.first shown.second) is.certificate.sections findings) is.no_lemmas by_cert in
       all_equivalent a b shown.first shown.second bytes_a bytes_b shown.first_is shown.second_is (equivalent_of shown.first.methods shown.verdicts) is.certificate.sections findings
       (equivalent_among _ shown.first.methods shown.verdicts (each_among shown.first.methods)) shown.sections_are found
 

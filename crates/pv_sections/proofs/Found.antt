@@ -6,6 +6,7 @@ use Rattle.pv_value.specs.declared.memory.Memory.{Memory}
 use Rattle.pv_class.specs.declared.file.ClassFile.{ClassFile}
 use Rattle.pv_class.specs.declared.file.Method.{Method}
 use Rattle.pv_cert.specs.declared.cert.Section.{Section}
+use Rattle.pv_steps.specs.declared.step.Lemma.{Lemma}
 use Rattle.pv_report.specs.declared.verdict.Verdict.{Verdict}
 use Rattle.pv_report.specs.declared.verdict.Verdict.TheVariants as verdict
 use Rattle.pv_class.specs.Places.{IsNamedAt, IsPlaceOf}
@@ -45,21 +46,21 @@ without_partner first second s k x read found at none m p are =
     none p (subst (λ (n : Method). IsPartner n second.methods p) same are.partner)
 
 -- a verdict without two roots is said of the section
-pub lacking : (first : ClassFile) (m : Method) (second : ClassFile) (p : Method) (s : Section) (v : Verdict) → LackRoots first m second p v → IsFindingOn first m second p s (finding.Verdict v)
-lacking first m second p s verdict.Equivalent is = absurd is
-lacking first m second p s _ is = is
+pub lacking : (lemmas : List Lemma) (first : ClassFile) (m : Method) (second : ClassFile) (p : Method) (s : Section) (v : Verdict) → LackRoots first m second p v → IsFindingOn lemmas first m second p s (finding.Verdict v)
+lacking lemmas first m second p s verdict.Equivalent is = absurd is
+lacking lemmas first m second p s _ is = is
 
-as_finding : (first second : ClassFile) (s : Section) (m p : Method) (f : Finding) → AreOf first second s m p → IsFindingOn first m second p s f → IsFinding first second s f
-as_finding first second s m p (finding.Verdict verdict.Missing) are on = absurd on
-as_finding first second s m p _ are on = (m, p, are, on)
+as_finding : (lemmas : List Lemma) (first second : ClassFile) (s : Section) (m p : Method) (f : Finding) → AreOf first second s m p → IsFindingOn lemmas first m second p s f → IsFinding lemmas first second s f
+as_finding lemmas first second s m p (finding.Verdict verdict.Missing) are on = absurd on
+as_finding lemmas first second s m p _ are on = (m, p, are, on)
 
 -- what is said of the methods at their places is said of the section
-pub finding_at : (first second : ClassFile) (s : Section) (k j : ℕ) (x : Method) (r : Result Finding Memory) → IsNamedAt first.methods s.name s.desc k → slice_get first.methods k ≡ Some x → IsLikeAt x second.methods j
-    → IfOk r (λ f. IsFindingOnPlaces first k second j s f) → IfOk r (λ f. IsFinding first second s f)
-finding_at first second s k j x (Ok f) found at like h =
+pub finding_at : (lemmas : List Lemma) (first second : ClassFile) (s : Section) (k j : ℕ) (x : Method) (r : Result Finding Memory) → IsNamedAt first.methods s.name s.desc k → slice_get first.methods k ≡ Some x → IsLikeAt x second.methods j
+    → IfOk r (λ f. IsFindingOnPlaces lemmas first k second j s f) → IfOk r (λ f. IsFinding lemmas first second s f)
+finding_at lemmas first second s k j x (Ok f) found at like h =
     let partner : IsPartner x second.methods like.0 = record { among = contains_here second.methods j like.0 like.1; like = like.2 } in
-    as_finding first second s x like.0 f (record { named = at_place first s.name s.desc k x found at; partner = partner }) (h x like.0 at like.1)
-finding_at first second s k j x (Err e) found at like h = tt
+    as_finding lemmas first second s x like.0 f (record { named = at_place first s.name s.desc k x found at; partner = partner }) (h x like.0 at like.1)
+finding_at lemmas first second s k j x (Err e) found at like h = tt
 
 -- the least graph of two methods at their places is sealed
 pub least_sealed : (first second : ClassFile) (k j : ℕ) (l : Rooted) → k < length first.methods → j < length second.methods → IsLeastOnPlaces first k second j (Ok l) → l.graph.is_open ≡ false

@@ -60,7 +60,7 @@ ruled_by a b t text findings _ r is = absurd is
 
 -- these are the findings on all sections
 pub rules_all : (first second cert : Fetched) (pair : Pair) (c : Cert) (one two : List ℕ) (findings : List Finding) (text : List ℕ) (s : Status) → ReadsPair first second (Ok pair) → CertFetched cert (Ok c) → IsDigestOf first one → IsDigestOf second two → IsOther c one two None
-    → AllZip (IsFinding pair.first pair.second) c.sections findings → text ≡ flat_map line_text (lines_by section_line c.sections findings) → IsStatusOf findings s → RulesFetched first second cert text s
+    → AllZip (IsFinding c.lemmas pair.first pair.second) c.sections findings → text ≡ flat_map line_text (lines_by section_line c.sections findings) → IsStatusOf findings s → RulesFetched first second cert text s
 rules_all first second cert pair c one two findings text s read has d e o each said is a b t p q u =
     let both = read a b p q in
     ruled_by a b t text findings s (record {

@@ -16,7 +16,7 @@ use Rattle.pv_sections.specs.Findings.{IsFinding}
 use Rattle.pv_sections.specs.Flaws.{IsCert, NamesFirst, NamesSecond, IsFlaw}
 use Rattle.pv_sections.specs.Lines.{section_line, bad_certificate}
 
--- one line for each section of the certificate, in its order, with these findings
+-- one line for each section of the certificate, in its order, with these findings, which go by the lemmas of the certificate
 pub record IsCertReport (a b cert : List ℕ) (findings : List Finding) (text : List ℕ) : Type 0 where
   pub first : ClassFile
   pub second : ClassFile
@@ -26,7 +26,7 @@ pub record IsCertReport (a b cert : List ℕ) (findings : List Finding) (text : 
   pub certificate_is : IsCert cert certificate
   pub names_first : NamesFirst certificate a
   pub names_second : NamesSecond certificate b
-  pub lines : AreLines (IsFinding first second) section_line certificate.sections findings text
+  pub lines : AreLines (IsFinding certificate.lemmas first second) section_line certificate.sections findings text
 
 -- this is what a line `.. equivalent` says
 abbrev pub SaysEquivalent : Finding → Type 0

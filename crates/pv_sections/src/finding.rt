@@ -1,16 +1,17 @@
 //! What is said of a section.
 
-ghost use Rattle.std.specs.Prelude.{◌≡◌, ◌<◌, IfOk, length};
+ghost use Rattle.std.specs.Prelude.{◌≡◌, ◌<◌, IfOk, false, length};
 ghost use Rattle.pv_report.specs.Judging.{IsReadPair};
 ghost use Rattle.pv_sections.specs.Findings.{IsFinding};
-ghost use Rattle.pv_sections.specs.Reading.{IsFindingOnPlaces};
+ghost use Rattle.pv_sections.specs.Reading.{IsChecked, IsFindingOnPlaces};
 
-use pv_axioms::Axioms;
+use pv_alike::Least;
 use pv_base::Gate;
 use pv_cert::Section;
 use pv_check::{Checked, Checker};
 use pv_pieces::Workers;
 use pv_report::{Pair, Verdict, least_roots, partner_of};
+use pv_rules::SectionRules;
 use pv_value::Memory;
 use std::alloc::Global;
 use std::thread::Threads;
@@ -26,16 +27,16 @@ pub enum Finding {
     Rejected(usize),
 }
 
-/// What is said of a section for two classes.
+/// What is said of a section of a certificate for two classes, by these rules of the certificate.
 pub(crate) fn find<R: Threads + Sync, G: Gate>(
     workers: &Workers<R, G>,
     alloc: Global,
-    axioms: &Axioms,
+    rules: &SectionRules,
     pair: &Pair,
     section: &Section,
 ) -> Result<Finding, Memory>
     requires { IsReadPair pair.now }
-    ensures { IfOk result (λ finding. IsFinding pair.now.first pair.now.second section.now finding) }
+    ensures { IfOk result (λ finding. IsFinding rules.now.lemmas.now pair.now.first pair.now.second section.now finding) }
 {
     let methods = &pair.first.methods;
     let Some(method) = methods.place_of(&section.name, &section.desc)? else {
@@ -43,7 +44,7 @@ pub(crate) fn find<R: Threads + Sync, G: Gate>(
     };
     match partner_of(&methods.as_slice()[method], &pair.second.methods)? {
         None => Ok(Finding::Verdict(Verdict::Missing)),
-        Some(partner) => find_on(workers, alloc, axioms, pair, method, partner, section),
+        Some(partner) => find_on(workers, alloc, rules, pair, method, partner, section),
     }
 }
 
@@ -51,7 +52,7 @@ pub(crate) fn find<R: Threads + Sync, G: Gate>(
 fn find_on<R: Threads + Sync, G: Gate>(
     workers: &Workers<R, G>,
     alloc: Global,
-    axioms: &Axioms,
+    rules: &SectionRules,
     pair: &Pair,
     method: usize,
     partner: usize,
@@ -60,15 +61,35 @@ fn find_on<R: Threads + Sync, G: Gate>(
     requires read { IsReadPair pair.now }
     requires method { method < length pair.now.first.methods }
     requires partner { partner < length pair.now.second.methods }
-    ensures { IfOk result (λ finding. IsFindingOnPlaces pair.now.first method pair.now.second partner section.now finding) }
+    ensures { IfOk result (λ finding. IsFindingOnPlaces rules.now.lemmas.now pair.now.first method pair.now.second partner section.now finding) }
 {
     let least = match least_roots(alloc, &pair.first, method, &pair.second, partner)? {
         Ok(least) => least,
         Err(verdict) => return Ok(Finding::Verdict(verdict)),
     };
-    let checker = Checker::new(axioms, &least, section.steps.as_slice());
-    match checker.check(&checker.crew(workers), alloc)? {
+    match check(workers, alloc, rules, &least, section)? {
         Checked::Accepted => Ok(Finding::Verdict(Verdict::Equivalent)),
         Checked::Rejected(n) => Ok(Finding::Rejected(n)),
     }
+}
+
+// Whether the steps of a section derive by the rules of its certificate that the roots of a least graph are equal.
+fn check<R: Threads + Sync, G: Gate>(
+    workers: &Workers<R, G>,
+    alloc: Global,
+    rules: &SectionRules,
+    least: &Least,
+    section: &Section,
+) -> Result<Checked, Memory>
+    requires { least.now.graph.is_open ≡ false }
+    ensures { IfOk result (λ answer. IsChecked rules.now.lemmas.now least.now section.now answer) }
+{
+    let checker = Checker::new(
+        rules,
+        least.graph(),
+        least.first(),
+        least.second(),
+        section.steps.as_slice(),
+    );
+    checker.check(&checker.crew(workers), alloc)
 }

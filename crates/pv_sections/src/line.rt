@@ -45,7 +45,7 @@ fn push_number(out: &mut Vec<u8>, word: &[u8], n: usize) -> Result<(), AllocErro
 }
 
 /// What is said of a certificate that is not one for the two files. Out of memory is the one error.
-pub(crate) fn bad_certificate(alloc: Global, flaw: Flaw) -> Result<Answer, AllocError>
+pub fn bad_certificate(alloc: Global, flaw: Flaw) -> Result<Answer, AllocError>
     ensures text { IfOk result (λ answer. answer.text.items ≡ bad_certificate flaw) }
     ensures status { IfOk result (λ answer. answer.status ≡ Status.BadCert) }
 {

@@ -16,17 +16,19 @@ use crate::finding::{Finding, find};
 use crate::line::{bad_certificate, push_section};
 use pv_axioms::Axioms;
 use pv_base::Gate;
-use pv_cert::Section;
+use pv_cert::{Cert, Section};
 use pv_pieces::Workers;
 use pv_report::{Answer, Fetched, Pair, Status, Verdict, bad_class, read_pair};
+use pv_rules::{Lemmas, SectionRules};
 use pv_value::Memory;
 use std::alloc::{AllocError, Global};
 use std::thread::Threads;
 
 /// What is said of two files and a certificate: a line for each section of the certificate, in its order; or one line on
 /// the first of the two files that is no class file, or else on the certificate where it has no reading or names another
-/// file. The limit of the first two fetches is `LONGEST_FILE`, that of the third `LONGEST_CERT`. The steps of a section are checked by
-/// pieces at once, and workers change no answer. Out of memory is the one error.
+/// file. The limit of the first two fetches is `LONGEST_FILE`, that of the third `LONGEST_CERT`. A section is checked by the axioms and
+/// the accepted ones of the certificate's lemmas, its steps by pieces at once, and workers change no answer. Out of memory is the one
+/// error.
 pub fn rule<R: Threads + Sync, G: Gate>(
     workers: &Workers<R, G>,
     alloc: Global,
@@ -47,27 +49,45 @@ pub fn rule<R: Threads + Sync, G: Gate>(
     if let Some(flaw) = other_file(&cert, digest_of(first), digest_of(second)) {
         return Ok(bad_certificate(alloc, flaw)?);
     }
-    let sections = cert.sections.as_slice();
-    let findings = findings(workers, alloc, &pair, sections)?;
-    let text = lines(alloc, sections, &findings)?;
+    let findings = findings(workers, alloc, &pair, &cert)?;
+    let text = lines(alloc, cert.sections.as_slice(), &findings)?;
     let status = status_of(&findings);
     Ok(Answer { text, status })
 }
 
-// What is said of the sections, in their order.
+// What is said of the sections of a certificate, in their order. Its lemmas are tested once.
 fn findings<R: Threads + Sync, G: Gate>(
     workers: &Workers<R, G>,
     alloc: Global,
     pair: &Pair,
+    cert: &Cert,
+) -> Result<Vec<Finding>, Memory>
+    requires { IsReadPair pair.now }
+    ensures { IfOk result (λ findings. AllZip (IsFinding cert.now.lemmas pair.now.first pair.now.second) cert.now.sections findings.items) }
+{
+    let axioms = Axioms::new(alloc)?;
+    let lemmas = Lemmas::new(workers, alloc, &axioms, cert.lemmas.as_slice())?;
+    let rules = SectionRules {
+        axioms: &axioms,
+        lemmas: &lemmas,
+    };
+    findings_by(workers, alloc, &rules, pair, cert.sections.as_slice())
+}
+
+// What is said of sections, in their order, by the rules of their certificate.
+fn findings_by<R: Threads + Sync, G: Gate>(
+    workers: &Workers<R, G>,
+    alloc: Global,
+    rules: &SectionRules,
+    pair: &Pair,
     sections: &[Section],
 ) -> Result<Vec<Finding>, Memory>
     requires { IsReadPair pair.now }
-    ensures { IfOk result (λ findings. AllZip (IsFinding pair.now.first pair.now.second) sections.now findings.items) }
+    ensures { IfOk result (λ findings. AllZip (IsFinding rules.now.lemmas.now pair.now.first pair.now.second) sections.now findings.items) }
 {
-    let axioms = Axioms::new(alloc)?;
     let mut findings = Vec::new(alloc);
     for section in sections {
-        let finding = find(workers, alloc, &axioms, pair, section)?;
+        let finding = find(workers, alloc, rules, pair, section)?;
         findings.push(finding)?;
     }
     Ok(findings)

@@ -1,6 +1,6 @@
 //! What is said of two files, and the certificate that shows it.
 
-ghost use Rattle.std.specs.Prelude.{◌≡◌, ◌↔◌, None, IfOk};
+ghost use Rattle.std.specs.Prelude.{◌≡◌, ◌↔◌, [], None, IfOk};
 ghost use Rattle.pv_token.specs.Spellings.{AreBytes};
 ghost use Rattle.pv_token.specs.Tokens.{digest_token};
 ghost use Rattle.pv_report.specs.Judging.{JudgesFetched};
@@ -13,6 +13,7 @@ use pv_cert::{Cert, Section, write_cert};
 use pv_list::Listed;
 use pv_pieces::Workers;
 use pv_report::{Answer, Detail, Fetched, Limits, Report, Status, judge};
+use pv_steps::Lemma;
 use pv_value::Memory;
 use std::alloc::Global;
 use std::thread::Threads;
@@ -25,7 +26,7 @@ pub struct Shown {
 }
 
 /// What is said of two files, as `judge` says it by searches in least graphs alone, and the certificate that shows it: it names both by their digests (FIPS 180-4,
-/// SHA-256), and has one section for each line `.. equivalent`, in the order of the lines. There is none where one of the two is no
+/// SHA-256), has no lemmas, and has one section for each line `.. equivalent`, in the order of the lines. There is none where one of the two is no
 /// class file. Out of memory is the one error.
 pub fn show<R: Threads + Sync, G: Gate>(
     workers: &Workers<R, G>,
@@ -61,7 +62,7 @@ fn certificate_for(
     }
 }
 
-// The text of the certificate for two files that were fetched, with these sections.
+// The text of the certificate for two files that were fetched, with no lemmas and these sections.
 fn text_for(
     alloc: Global,
     first: &Fetched,
@@ -76,9 +77,16 @@ fn text_for(
     let cert = Cert {
         first: one,
         second: two,
+        lemmas: no_lemmas(alloc),
         sections,
     };
     write_cert(alloc, &cert)
+}
+
+fn no_lemmas(alloc: Global) -> Listed<Lemma>
+    ensures { result ≡ [] }
+{
+    Listed::from(Vec::new(alloc))
 }
 
 // A digest has a spelling: a law, for its caller's proof.

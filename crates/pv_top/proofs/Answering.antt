@@ -5,13 +5,13 @@ use Rattle.pv_base.specs.Stored.{Stored, AreBytes}
 use Rattle.pv_report.specs.declared.pair.Fetched.{Fetched}
 use Rattle.pv_report.specs.declared.status.Status.{Status}
 use Rattle.pv_top.specs.declared.words.Command.{Command}
-use Rattle.pv_top.specs.declared.words.Command.TheVariants.{Validate, Check, Compose, CheckChain, Refute, Make}
+use Rattle.pv_top.specs.declared.words.Command.TheVariants.{Validate, Check, Compose, CheckChain, Migrate, Refute, Make}
 use Rattle.pv_top.specs.Words.{fetches, first_of, second_of}
 use Rattle.pv_top.specs.Run.{Says, SaidOf, Answered, IsAnswer, graphs_in}
 use Rattle.pv_top.specs.Promise.{EachEquivalent, Holds}
 use Rattle.pv_top.specs.Fetching.{HoldAll, AreFetched, AnswersFetched}
 use Rattle.pv_top.proofs.Saying.{answer_said, each_equivalent, result_said, said_lines, is_said, IsTrueOf}
-use Rattle.pv_top.proofs.TrueLines.{chain_line, composed_line, judged_line, made_true, refuted_line, ruled_line}
+use Rattle.pv_top.proofs.TrueLines.{chain_line, composed_line, judged_line, made_true, migrated_true, refuted_line, ruled_line}
 
 -- the bytes that were fetched
 pub record Contents (held : Option Stored) (all : List (List ℕ × ℕ)) (fetched : List Fetched) : Type 0 where
@@ -47,6 +47,7 @@ answer_lines held (Validate a b axioms rounds budget mode) (x ∷ y ∷ []) text
 answer_lines held (Check a b c) (x ∷ y ∷ z ∷ []) text s h bytes is = ruled_line held a b x y z text s (record { first_held = h.0; second_held = h.1.0; first_bytes = bytes.0; second_bytes = bytes.1.0 }) is
 answer_lines held (Compose a b c x y out) (j ∷ k ∷ l ∷ m ∷ n ∷ []) text s h bytes is = composed_line held a c j k l m n text s is
 answer_lines held (CheckChain a c chain) (x ∷ y ∷ z ∷ []) text s h bytes is = chain_line held a c x y z text s (record { first_held = h.0; second_held = h.1.0; first_bytes = bytes.0; second_bytes = bytes.1.0 }) is
+answer_lines held (Migrate cert out) (x ∷ []) text s h bytes is = migrated_true held cert cert x text s is
 answer_lines held (Refute a b tries steps) (x ∷ y ∷ []) text s h bytes is = refuted_line held (record { tries = tries; steps = steps }) a b x y text s is
 answer_lines held (Make seed count a b) [] text s h bytes is = made_true held a b count text is.0
 answer_lines held _ _ text s h bytes is = absurd is

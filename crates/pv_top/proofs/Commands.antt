@@ -16,7 +16,7 @@ use Rattle.pv_words.proofs.Cited.{is_one, one_number, one_wide}
 use Rattle.pv_top.specs.declared.words.TheConstants.{DEFAULT_ROUNDS, MOST_ROUNDS, DEFAULT_BUDGET, MOST_BUDGET, DEFAULT_TRIES, MOST_TRIES, DEFAULT_STEPS, MOST_STEPS, MOST_SEED, DEFAULT_WORKERS, MOST_WORKERS}
 use Rattle.pv_top.specs.declared.words.Mode.{Mode}
 use Rattle.pv_top.specs.declared.words.Command.{Command}
-use Rattle.pv_top.specs.declared.words.Command.TheVariants.{Validate, Check, Compose, CheckChain, Refute, Make}
+use Rattle.pv_top.specs.declared.words.Command.TheVariants.{Validate, Check, Compose, CheckChain, Migrate, Refute, Make}
 use Rattle.pv_top.specs.Commands.{CanMake, named}
 use Rattle.pv_top.specs.Words.{AreOf, GiveCheck, IsCommand, IsLimit, IsMode, IsSet, arguments_alone, check_words, set_word, refute_words, validate_words}
 
@@ -56,6 +56,13 @@ checked_once words rest more name a b is are p q =
     let same : rest ≡ more = let e = sym is ∙ are in cc e in
     (is_one check_words refl more _ _ _ _ _ _ (subst (λ (w : List (List ℕ)). Give check_words w [] (p.workers_word ∷ []) a) same p.given) q.given).2
 
+-- words that begin with two words that differ aren't the same
+words_apart : (v w : List ℕ) (rest more : List (List ℕ)) → bytes_eq v w ≡ false → v ∷ rest ≡ w ∷ more → ⊥
+words_apart v w rest more differ e =
+    let same : v ≡ w = cc e in
+    let both : true ≡ false = sym ((bytes_eq-Decides v w).1 same) ∙ differ in
+    absurd (cc both)
+
 words_once : (words : List (List ℕ)) (c d : Command (List ℕ)) → AreOf words c → AreOf words d → c ≡ d
 words_once words (Validate a b t r k m) (Validate x y u s l n) (rest, is, p) (more, are, q) =
     let same : rest ≡ more = let e = sym is ∙ are in cc e in
@@ -75,6 +82,7 @@ words_once words (Validate a b t r k m) (Validate x y u s l n) (rest, is, p) (mo
 words_once words (Check a b c) (Check x y z) (rest, is, p) (more, are, q) = let one = checked_once words rest more (codes "check") _ _ is are p q in cc one
 words_once words (Compose a b c d e f) (Compose g h i j k l) (rest, is, p) (more, are, q) = let one = arguments_once 6 words rest more (codes "compose") _ _ is are p q in cc one
 words_once words (CheckChain a b c) (CheckChain x y z) (rest, is, p) (more, are, q) = let one = checked_once words rest more (codes "check-chain") _ _ is are p q in cc one
+words_once words (Migrate a b) (Migrate c d) (rest, is, p) (more, are, q) = let one = arguments_once 2 words rest more (codes "migrate") _ _ is are p q in cc one
 words_once words (Refute a b r k) (Refute x y s l) (rest, is, p) (more, are, q) =
     let same : rest ≡ more = let e = sym is ∙ are in cc e in
     let one = is_one refute_words refl more _ _ _ _ _ _ (subst (λ (w : List (List ℕ)). Give refute_words w [] (p.tries_word ∷ p.steps_word ∷ []) (a ∷ b ∷ [])) same p.given) q.given in
@@ -94,6 +102,8 @@ words_once words (Make s k a b) (Make t l x y) (rest, is, p) (more, are, q) =
     let seed : s ≡ t = one_wide 0 MOST_SEED q.seed_word s t (omega arith) (subst (λ (w : List ℕ). IsNumber 0 MOST_SEED w s) seed_word p.seed_is) q.seed_is in
     let count : k ≡ l = one_number 1 MOST_MADE q.count_word k l (omega arith) (subst (λ (w : List ℕ). IsNumber 1 MOST_MADE w k) count_word p.count_is) q.count_is in
     cc (seed, count, first, second)
+words_once words (Compose a b c d e f) (Migrate x y) (rest, is, p) (more, are, q) = absurd (words_apart (codes "compose") (codes "migrate") rest more refl (sym is ∙ are))
+words_once words (Migrate x y) (Compose a b c d e f) (rest, is, p) (more, are, q) = absurd (words_apart (codes "migrate") (codes "compose") rest more refl (sym is ∙ are))
 words_once words _ _ (rest, is, p) (more, are, q) = absurd (let e = sym is ∙ are in cc e)
 
 pub one_command : (words : List (List ℕ)) (c d : Option (Command (List ℕ))) → IsCommand words c → IsCommand words d → c ≡ d
@@ -118,11 +128,17 @@ no_check rest none _ (more, e, g) = absurd (cc e)
 
 pub no_compose : (rest : List (List ℕ)) → ((a : List (List ℕ)) → Give (arguments_alone 6) rest [] [] a → ⊥) → (c : Command (List ℕ)) → AreOf (codes "compose" ∷ rest) c → ⊥
 no_compose rest none (Compose a b c x y out) (more, e, g) = none _ (subst (λ (w : List (List ℕ)). Give (arguments_alone 6) w [] [] (a ∷ b ∷ c ∷ x ∷ y ∷ out ∷ [])) (let same : more ≡ rest = cc (sym e) in same) g)
+no_compose rest none (Migrate cert out) (more, e, g) = absurd (words_apart (codes "compose") (codes "migrate") rest more refl e)
 no_compose rest none _ (more, e, g) = absurd (cc e)
 
 pub no_check_chain : (rest : List (List ℕ)) → ((a : List (List ℕ)) → GiveCheck rest a → ⊥) → (c : Command (List ℕ)) → AreOf (codes "check-chain" ∷ rest) c → ⊥
 no_check_chain rest none (CheckChain a b chain) (more, e, g) = none _ (subst (λ (w : List (List ℕ)). GiveCheck w (a ∷ b ∷ chain ∷ [])) (let same : more ≡ rest = cc (sym e) in same) g)
 no_check_chain rest none _ (more, e, g) = absurd (cc e)
+
+pub no_migrate : (rest : List (List ℕ)) → ((a : List (List ℕ)) → Give (arguments_alone 2) rest [] [] a → ⊥) → (c : Command (List ℕ)) → AreOf (codes "migrate" ∷ rest) c → ⊥
+no_migrate rest none (Migrate cert out) (more, e, g) = none _ (subst (λ (w : List (List ℕ)). Give (arguments_alone 2) w [] [] (cert ∷ out ∷ [])) (let same : more ≡ rest = cc (sym e) in same) g)
+no_migrate rest none (Compose a b c x y out) (more, e, g) = absurd (words_apart (codes "migrate") (codes "compose") rest more refl e)
+no_migrate rest none _ (more, e, g) = absurd (cc e)
 
 -- nor are words that give `validate` nothing
 pub no_validate : (rest : List (List ℕ)) → ((f : List Bool) (o : List (Option (List ℕ))) (a : List (List ℕ)) → Give validate_words rest f o a → ⊥) → (c : Command (List ℕ)) → AreOf (codes "validate" ∷ rest) c → ⊥

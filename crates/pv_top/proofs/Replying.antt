@@ -21,13 +21,15 @@ use Rattle.pv_sections.specs.Reading.{RulesFetched}
 use Rattle.pv_links.specs.declared.chain.TheConstants.{LONGEST_CHAIN}
 use Rattle.pv_links.specs.Composed.{Composed}
 use Rattle.pv_links.specs.Reading.{AreContents, ChainRulesFetched, ComposesFetched}
+use Rattle.pv_migrate.specs.Migrated.{Migrated}
+use Rattle.pv_migrate.specs.Reading.{SaysFetched}
 use Rattle.pv_top.specs.declared.top.Reply.{Reply}
 use Rattle.pv_top.specs.declared.words.Command.{Command}
-use Rattle.pv_top.specs.declared.words.Command.TheVariants.{Validate, Check, Compose, CheckChain, Make}
+use Rattle.pv_top.specs.declared.words.Command.TheVariants.{Validate, Check, Compose, CheckChain, Migrate, Make}
 use Rattle.pv_top.specs.declared.words.Mode.TheVariants.{Cert}
 use Rattle.pv_top.specs.Words.{fetches, made_line, names_of, placed_names}
 use Rattle.pv_top.specs.Run.{AreContents as AreHeld, Says, Answered, IsAnswer, graphs_in, all_calls, fetch_calls, GrewBy, HasBadFile, IsBad, AskedFor, CallsFor, HoldsFront, HoldsPlaced, IsCutOff, IsPlaced, LeavesAt, LeavesKnown, LeavesBy, Leaves, insert_each}
-use Rattle.pv_top.specs.Fetching.{HoldAll, AnswersFetched, AreFetched, ChangesAt, ComposesIn, FetchesOf, Gives, IsMadeAnswer, MakesIn, PlaceCallsTo, PlaceCut, PlaceFailed, Places, PlacesFetched, PlacesIn, ReadFailed, ShowsIn, bytes_in, contents_of, names_in}
+use Rattle.pv_top.specs.Fetching.{HoldAll, AnswersFetched, AreFetched, ChangesAt, ComposesIn, FetchesOf, Gives, IsMadeAnswer, MakesIn, MigratesIn, PlaceCallsTo, PlaceCut, PlaceFailed, Places, PlacesFetched, PlacesIn, ReadFailed, ShowsIn, bytes_in, contents_of, names_in}
 use Rattle.pv_top.proofs.Answering.{Contents, contents_of as fetched_bytes, said_of, said_result}
 use Rattle.pv_top.proofs.Asking.{grew_more, more_nothing}
 use Rattle.pv_top.proofs.Placing.{place_failed_since}
@@ -53,6 +55,11 @@ composed_report a b c x y text status.AllEquivalent other h = refl
 composed_report a b c x y text status.BadClass other h = absurd (other tt)
 composed_report a b c x y text status.BadCert other h = absurd (other tt)
 composed_report a b c x y text _ other h = absurd h
+
+migrated_report : (old text : List ℕ) (s : Status) → (IsBad s → ⊥) → Migrated old text s → is_report s ≡ true
+migrated_report old text status.AllEquivalent other h = refl
+migrated_report old text status.BadCert other h = absurd (other tt)
+migrated_report old text _ other h = absurd h
 
 -- a composition that places nothing has the status of a bad file
 composed_bad : (a b c x y text : List ℕ) (s : Status) → s ≢ status.AllEquivalent → Composed a b c x y text s → IsBad s
@@ -181,6 +188,50 @@ module _ (command : Command (List ℕ)) (fetched : List Fetched) (name a b : Lis
       let all = shown_places reply.answer.text.items s p judges shows in
       subst (λ (k : Command (List ℕ)). PlacesFetched k fetched s p) (sym is) (subst (λ (f : List Fetched). PlacesFetched (Validate a b axioms rounds budget (Cert name)) f s p) items all)
 
+-- ---- a certificate of version 1
+
+-- where nothing is placed, the certificate has no reading
+migrated_bad : (old text : List ℕ) (s : Status) → s ≢ status.AllEquivalent → Migrated old text s → IsBad s
+migrated_bad old text status.AllEquivalent other h = absurd (other refl)
+migrated_bad old text status.BadCert other h = tt
+migrated_bad old text _ other h = absurd h
+
+-- what holds of the bytes of a certificate, holds of all contents that were fetched for it
+one_content : (P : List (List ℕ) → Type 0) (f : List ℕ × ℕ) (cert : Fetched) → ((x : List ℕ) → IsFetchedWithin f.1 cert x → P (x ∷ [])) → (contents : List (List ℕ)) → AreFetched (f ∷ []) (cert ∷ []) contents → P contents
+one_content P f cert so (x ∷ []) are = so x are.0
+one_content P f cert so [] are = absurd are
+one_content P f cert so (x ∷ y ∷ more) are = absurd are.1
+
+-- one that was fetched
+pub one_item : (fetched : List Fetched) (a : Fetched) → length fetched ≡ 1 → a ≡ get_or fetched 0 a → a ∷ [] ≡ fetched
+one_item (v ∷ []) a n p = ap (λ (x : Fetched). x ∷ []) p
+one_item [] a n p = absurd (omega (arith, n))
+one_item (v ∷ w ∷ more) a n p = absurd (omega (arith, n))
+
+module _ (command : Command (List ℕ)) (fetched : List Fetched) (name file : List ℕ) (cert : Fetched) (is : command ≡ Migrate file name) (items : cert ∷ [] ≡ fetched) where
+  migration_places : (text : List ℕ) (s : Status) (placed : List (List ℕ × List ℕ)) → SaysFetched cert text s → MigratesIn name cert s placed → PlacesFetched (Migrate file name) (cert ∷ []) s placed
+  migration_places text s [] says makes = one_content (λ (contents : List (List ℕ)). Places (Migrate file name) contents s []) (file, LONGEST_CERT) cert (λ x got. inr (migrated_bad x text s makes (says x got)))
+  migration_places text s (p ∷ []) says makes =
+      one_content (λ (contents : List (List ℕ)). Places (Migrate file name) contents s (p ∷ [])) (file, LONGEST_CERT) cert (λ x got. (ap (λ (w : List ℕ). w ∷ []) (sym makes.0), makes.1 x got, λ bad. subst IsBad makes.2 bad))
+  migration_places text s (p ∷ q ∷ more) says makes = absurd makes
+
+  pub migrate_answers : {E : Type 0} (r : Result Reply E) → IfOk r (λ reply. SaysFetched cert reply.answer.text.items reply.answer.status) → IfOk r (λ reply. AnswersFetched command fetched reply.answer.text.items reply.answer.status)
+  migrate_answers (Err e) says = tt
+  migrate_answers (Ok reply) says =
+      let text = reply.answer.text.items in
+      let s = reply.answer.status in
+      let all : AnswersFetched (Migrate file name) (cert ∷ []) text s = one_content (λ (contents : List (List ℕ)). IsAnswer (Migrate file name) contents text s) (file, LONGEST_CERT) cert says in
+      subst (λ (k : Command (List ℕ)). AnswersFetched k fetched text s) (sym is) (subst (λ (f : List Fetched). AnswersFetched (Migrate file name) f text s) items all)
+
+  pub migrate_places : {E : Type 0} (r : Result Reply E) → IfOk r (λ reply. SaysFetched cert reply.answer.text.items reply.answer.status) → IfOk r (λ reply. MigratesIn name cert reply.answer.status (contents_of reply.placed.items))
+      → IfOk r (λ reply. PlacesFetched command fetched reply.answer.status (contents_of reply.placed.items))
+  migrate_places (Err e) says makes = tt
+  migrate_places (Ok reply) says makes =
+      let s = reply.answer.status in
+      let p = contents_of reply.placed.items in
+      let all = migration_places reply.answer.text.items s p says makes in
+      subst (λ (k : Command (List ℕ)). PlacesFetched k fetched s p) (sym is) (subst (λ (f : List Fetched). PlacesFetched (Migrate file name) f s p) items all)
+
 -- ---- two classes that were made
 
 module _ (command : Command (List ℕ)) (seed count : ℕ) (first second : List ℕ) (is : command ≡ Make seed count first second) where
@@ -216,6 +267,7 @@ module _ (command : Command (List ℕ)) (seed count : ℕ) (first second : List 
 placed_report : (c : Command (List ℕ)) (contents : List (List ℕ)) (p : List ℕ × List ℕ) (placed : List (List ℕ × List ℕ)) (text : List ℕ) (s : Status) → IsAnswer c contents text s → Places c contents s (p ∷ placed) → is_report s ≡ true
 placed_report (Validate a b axioms rounds budget mode) (x ∷ y ∷ []) p placed text s answer places = judged_report (record { limits = record { axioms = axioms; rounds = rounds; budget = budget }; graphs = graphs_in mode }) x y text s places.2 answer
 placed_report (Compose a b c x y out) (j ∷ k ∷ l ∷ m ∷ n ∷ []) p placed text s answer places = composed_report j k l m n text s places.2 answer
+placed_report (Migrate cert out) (x ∷ []) p placed text s answer places = migrated_report x text s places.2 answer
 placed_report (Make seed count a b) [] p placed text s answer places = ap is_report answer.1
 placed_report _ _ p placed text s answer places = absurd places.1
 

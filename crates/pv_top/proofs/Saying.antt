@@ -7,7 +7,7 @@ use Rattle.pv_base.specs.Outside.{more}
 use Rattle.pv_report.specs.declared.status.Status.{Status}
 use Rattle.pv_report.specs.declared.status.Status.TheVariants as status
 use Rattle.pv_top.specs.declared.words.Command.{Command}
-use Rattle.pv_top.specs.declared.words.Command.TheVariants.{Validate, Check, Compose, CheckChain, Refute, Make}
+use Rattle.pv_top.specs.declared.words.Command.TheVariants.{Validate, Check, Compose, CheckChain, Migrate, Refute, Make}
 use Rattle.pv_top.specs.Run.{Puts, Says, Answered, IsAnswer, SaidOf}
 use Rattle.pv_top.specs.Fetching.{ReadFailed}
 use Rattle.pv_top.specs.Promise.{IsLineOf, EndsWith, HaveOneMeaning, EachEquivalent}
@@ -44,6 +44,7 @@ answer_meant (Validate a b axioms rounds budget mode) (x ∷ y ∷ []) text _ (v
 answer_meant (Check a b c) (x ∷ y ∷ z ∷ []) text _ (fs, r, is) = absurd is
 answer_meant (Compose a b c x y out) (j ∷ k ∷ l ∷ m ∷ n ∷ []) text _ is = absurd is
 answer_meant (CheckChain a c chain) (x ∷ y ∷ z ∷ []) text _ (fs, r, is) = absurd is
+answer_meant (Migrate cert out) (x ∷ []) text _ is = absurd is
 answer_meant (Refute a b tries steps) (x ∷ y ∷ []) text _ (fs, r, is) = absurd is
 answer_meant (Make seed count a b) [] text _ (e, is) = absurd (cc is)
 answer_meant _ _ text _ h = absurd h

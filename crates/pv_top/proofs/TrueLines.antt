@@ -1,5 +1,5 @@
 -- Each whole line of an answer that says `equivalent` is true.
-use Rattle.std.proofs.Common.{◌≡◌, ℕ, List, [], ◌∷◌, ◌++◌, Option, inl, inr, refl, sym, ap, subst, ◌∙◌}
+use Rattle.std.proofs.Common.{◌≡◌, ℕ, List, [], ◌∷◌, ◌++◌, length, Option, inl, inr, refl, sym, ap, subst, ◌∙◌}
 use Rattle.std.specs.Prelude.{codes, decimal}
 use Rattle.pv_base.specs.Stored.{Stored}
 use Rattle.pv_differences.specs.declared.finding.Finding.{Finding as Difference}
@@ -33,6 +33,8 @@ use Rattle.pv_links.specs.Lines.{bad_link_words, chain_flaw_words, link_line}
 use Rattle.pv_links.specs.Stages.{ordinal_word}
 use Rattle.pv_links.specs.Ruled.{ChainRuled, IsChainReport}
 use Rattle.pv_links.proofs.Cited.{bad_chain_other, bad_chain_whole, bad_link_other, bad_link_whole, bad_stage_other, bad_stage_whole, equivalent_means, composed_other, composed_whole, only_link, whole_link}
+use Rattle.pv_migrate.specs.Migrated.{Migrated}
+use Rattle.pv_migrate.proofs.Cited.{migrated_other, migrated_whole}
 use Rattle.pv_top.specs.Promise.{IsLineOf}
 use Rattle.pv_top.specs.Words.{made_line}
 use Rattle.pv_top.proofs.Files.{HoldsBoth, has_bytes}
@@ -86,10 +88,10 @@ judged_line held options a b first second text _ h (vs, r, is) = absurd is
 
 finding_line : (held : Option Stored) (a b first second cert text : List ℕ) (findings : List Finding) → HoldsBoth held a b first second → IsCertReport first second cert findings text → IsTrueOf held a b text
 finding_line held a b first second cert text findings h r line l ends =
-    let found = line_among (IsFinding r.first r.second) section_line whole_section r.certificate.sections findings line r.lines.each (subst (λ (t : List ℕ). IsLineOf t line) r.lines.text_is l) in
+    let found = line_among (IsFinding r.certificate.lemmas r.first r.second) section_line whole_section r.certificate.sections findings line r.lines.each (subst (λ (t : List ℕ). IsLineOf t line) r.lines.text_is l) in
     let s = found.thing in
     let is = only_accepted s found.answer ends.0 (sym found.says ∙ ends.1) in
-    let equal : IsFinding r.first r.second s (finding.Verdict Equivalent) = subst (λ (f : Finding). IsFinding r.first r.second s f) is found.is in
+    let equal : IsFinding r.certificate.lemmas r.first r.second s (finding.Verdict Equivalent) = subst (λ (f : Finding). IsFinding r.certificate.lemmas r.first r.second s f) is found.is in
     let m = equal.0 in
     let p = equal.1 in
     let named = equal.2.named in
@@ -108,7 +110,7 @@ finding_line held a b first second cert text findings h r line l ends =
       partner = p;
       partner_is = partner;
       says = found.says ∙ ap (section_line s) is ∙ ap (λ (n : List ℕ). method_line n s.desc (verdict_words Equivalent)) (sym named.name_is) ∙ ap (λ (d : List ℕ). method_line m.name d (verdict_words Equivalent)) (sym named.desc_is);
-      equivalent = accepted_meaning r.first m r.second p s equal.3 partner.like.desc (has_bytes first r.first m h.first_bytes r.first_is named.among) (has_bytes second r.second p h.second_bytes r.second_is partner.among);
+      equivalent = accepted_meaning r.certificate.lemmas r.first m r.second p s equal.3 partner.like.desc (has_bytes first r.first m h.first_bytes r.first_is named.among) (has_bytes second r.second p h.second_bytes r.second_is partner.among);
     }
 
 flaw_line : (held : Option Stored) (a b text : List ℕ) (f : Flaw) → text ≡ bad_certificate f → IsTrueOf held a b text
@@ -133,10 +135,10 @@ composed_line held a c first second third one two text _ none = absurd none
 
 links_line : (held : Option Stored) (a c first last chain text : List ℕ) (findings : List LinkFinding) → HoldsBoth held a c first last → IsChainReport first last chain findings text → IsTrueOf held a c text
 links_line held a c first last chain text findings h r line l ends =
-    let found = line_among (links.IsFinding r.first r.middle r.last) link_line whole_link (links.links r.chain.first.sections r.chain.second.sections) findings line r.lines.each (subst (λ (t : List ℕ). IsLineOf t line) r.lines.text_is l) in
+    let found = line_among (links.IsFinding (links.lemmas_of r.chain) r.first r.middle r.last) link_line whole_link (links.links r.chain.first.sections r.chain.second.sections) findings line r.lines.each (subst (λ (t : List ℕ). IsLineOf t line) r.lines.text_is l) in
     let x = found.thing in
     let is = only_link x found.answer ends.0 (sym found.says ∙ ends.1) in
-    let equal = equivalent_means first last chain text findings r x h.first_bytes h.second_bytes (subst (λ (f : LinkFinding). links.IsFinding r.first r.middle r.last x f) is found.is) in
+    let equal = equivalent_means first last chain text findings r x h.first_bytes h.second_bytes (subst (λ (f : LinkFinding). links.IsFinding (links.lemmas_of r.chain) r.first r.middle r.last x f) is found.is) in
     let m = equal.0 in
     let named = equal.2 in
     record {
@@ -162,6 +164,13 @@ chain_line held a c first last chain text status.BadCert h (one, two, (f, bad, e
 chain_line held a c first last chain text status.AllEquivalent h (fs, r, is) = links_line held a c first last chain text fs h r
 chain_line held a c first last chain text status.Others h (fs, r, is) = links_line held a c first last chain text fs h r
 chain_line held a c first last chain text _ h (fs, r, is) = absurd is
+
+-- ---- a certificate of version 1
+
+pub migrated_true : (held : Option Stored) (a b old text : List ℕ) (s : Status) → Migrated old text s → IsTrueOf held a b text
+migrated_true held a b old text status.AllEquivalent (c, is, e) = one_other held a b text (in_words (codes "migrated" ∷ decimal (length c.sections) ∷ codes "sections" ∷ [])) e (migrated_whole (length c.sections)) (migrated_other (length c.sections))
+migrated_true held a b old text status.BadCert (f, bad, e) = flaw_line held a b text f e
+migrated_true held a b old text _ none = absurd none
 
 -- ---- a report on differences
 

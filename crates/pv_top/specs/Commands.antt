@@ -8,7 +8,7 @@ use Rattle.pv_words.specs.Words.{Give}
 use Rattle.pv_top.specs.declared.words.Mode.{Mode}
 use Rattle.pv_top.specs.declared.words.Mode.TheVariants.{Plain, Counted, Cert}
 use Rattle.pv_top.specs.declared.words.Command.{Command}
-use Rattle.pv_top.specs.declared.words.Command.TheVariants.{Validate, Check, Compose, CheckChain, Refute, Make}
+use Rattle.pv_top.specs.declared.words.Command.TheVariants.{Validate, Check, Compose, CheckChain, Migrate, Refute, Make}
 use Rattle.pv_top.specs.declared.words.Order.{Order}
 use Rattle.pv_top.specs.declared.words.Checked.{Checked}
 use Rattle.pv_top.specs.Words.{GiveCheck, IsCommand, IsLimit, IsMode, IsSet, arguments_alone}
@@ -25,6 +25,7 @@ named (Validate a b axioms rounds budget mode) = Validate a.now b.now axioms rou
 named (Check a b cert) = Check a.now b.now cert.now
 named (Compose a b c x y out) = Compose a.now b.now c.now x.now y.now out.now
 named (CheckChain a c chain) = CheckChain a.now c.now chain.now
+named (Migrate cert out) = Migrate cert.now out.now
 named (Refute a b tries steps) = Refute a.now b.now tries steps
 named (Make seed count a b) = Make seed count a.now b.now
 

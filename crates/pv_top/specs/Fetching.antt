@@ -12,9 +12,11 @@ use Rattle.pv_report.specs.declared.report.Answer.{Answer}
 use Rattle.pv_report.specs.declared.status.Status.{Status}
 use Rattle.pv_report.specs.declared.status.Status.TheVariants as status
 use Rattle.pv_report.specs.Judging.{IsFetched, IsFetchedWithin}
+use Rattle.pv_sections.specs.declared.certificate.TheConstants.{LONGEST_CERT}
 use Rattle.pv_sections.specs.Certified.{IsCertificateFor}
 use Rattle.pv_links.specs.Composed.{IsChainFor}
 use Rattle.pv_links.specs.Reading.{AreContents}
+use Rattle.pv_migrate.specs.Migrated.{IsMigrated}
 use Rattle.pv_maker.specs.Classes.{IsMade}
 use Rattle.pv_top.specs.declared.words.Command.{Command}
 use Rattle.pv_top.specs.declared.top.Wanted.{Wanted}
@@ -111,6 +113,12 @@ abbrev pub ComposesIn : List ℕ → (first second third one two : Fetched) → 
 ComposesIn name first second third one two s (p ∷ []) = (p.0 ≡ name) × ((a b c x y : List ℕ) → AreContents first second third one two a b c x y → IsChainFor a b c x y p.1) × (s ≡ status.AllEquivalent)
 ComposesIn name first second third one two s [] = s ≢ status.AllEquivalent
 ComposesIn name first second third one two s _ = ⊥
+
+-- the certificate of version 2 for the one of version 1 that was fetched, under this name; nothing, where that has no reading
+abbrev pub MigratesIn : List ℕ → Fetched → Status → List (List ℕ × List ℕ) → Type 0
+MigratesIn name cert s (p ∷ []) = (p.0 ≡ name) × ((old : List ℕ) → IsFetchedWithin LONGEST_CERT cert old → IsMigrated old p.1) × (s ≡ status.AllEquivalent)
+MigratesIn name cert s [] = s ≢ status.AllEquivalent
+MigratesIn name cert s _ = ⊥
 
 -- what is said where two classes were made
 abbrev pub IsMadeAnswer : ℕ → Answer → Type 0

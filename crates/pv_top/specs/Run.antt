@@ -14,13 +14,14 @@ use Rattle.pv_sections.specs.Certified.{IsCertificateFor}
 use Rattle.pv_sections.specs.Ruled.{Ruled}
 use Rattle.pv_links.specs.Composed.{Composed, IsChainFor}
 use Rattle.pv_links.specs.Ruled.{ChainRuled}
+use Rattle.pv_migrate.specs.Migrated.{IsMigrated, Migrated}
 use Rattle.pv_maker.specs.Classes.{IsMade}
 use Rattle.pv_report.specs.declared.verdict.Graphs.{Graphs}
 use Rattle.pv_report.specs.declared.verdict.Graphs.TheVariants.{Least, LeastOrCleared}
 use Rattle.pv_top.specs.declared.words.Mode.{Mode}
 use Rattle.pv_top.specs.declared.words.Mode.TheVariants.{Counted}
 use Rattle.pv_top.specs.declared.words.Command.{Command}
-use Rattle.pv_top.specs.declared.words.Command.TheVariants.{Validate, Check, Compose, CheckChain, Refute, Make}
+use Rattle.pv_top.specs.declared.words.Command.TheVariants.{Validate, Check, Compose, CheckChain, Migrate, Refute, Make}
 use Rattle.pv_top.specs.Words.{fetches, names_of, placed_names, made_line, bad_words}
 use Rattle.pv_top.specs.Promise.{Holds}
 
@@ -46,6 +47,7 @@ IsAnswer (Validate a b axioms rounds budget mode) (x ∷ y ∷ []) text s = Judg
 IsAnswer (Check a b cert) (x ∷ y ∷ z ∷ []) text s = Ruled x y z text s
 IsAnswer (Compose a b c x y out) (j ∷ k ∷ l ∷ m ∷ n ∷ []) text s = Composed j k l m n text s
 IsAnswer (CheckChain a c chain) (x ∷ y ∷ z ∷ []) text s = ChainRuled x y z text s
+IsAnswer (Migrate cert out) (x ∷ []) text s = Migrated x text s
 IsAnswer (Refute a b tries steps) (x ∷ y ∷ []) text s = Refuted (record { tries = tries; steps = steps }) x y text s
 IsAnswer (Make seed count a b) [] text s = (text ≡ made_line count) × (s ≡ status.AllEquivalent)
 IsAnswer c contents text s = ⊥
@@ -64,7 +66,7 @@ pub record SaidOf (held : Option Stored) (c : Command (List ℕ)) (old new : Opt
   pub answer : IsAnswer c contents text meant
   pub says : Says old new text meant result write_rose
 
--- the status of an answer that a file is no class, or no certificate or chain for the others
+-- the status of an answer that a file is no class, or no certificate or chain, or not one for the others
 abbrev pub IsBad : Status → Type 0
 IsBad status.BadClass = Unit {0}
 IsBad status.BadCert = Unit {0}
@@ -140,6 +142,7 @@ CallsFor held (Some c) old new write_rose result = AskedFor held c old new write
 abbrev pub IsPlaced : Command (List ℕ) → List (List ℕ) → List (List ℕ) → Type 0
 IsPlaced (Validate a b axioms rounds budget mode) (x ∷ y ∷ []) (bytes ∷ []) = IsCertificateFor (record { axioms = axioms; rounds = rounds; budget = budget }) x y bytes
 IsPlaced (Compose a b c x y out) (j ∷ k ∷ l ∷ m ∷ n ∷ []) (bytes ∷ []) = IsChainFor j k l m n bytes
+IsPlaced (Migrate cert out) (x ∷ []) (bytes ∷ []) = IsMigrated x bytes
 IsPlaced (Make seed count a b) [] (plain ∷ twin ∷ []) = IsMade seed count false plain × IsMade seed count true twin
 IsPlaced c contents bytes = ⊥
 

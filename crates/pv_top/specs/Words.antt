@@ -14,7 +14,7 @@ use Rattle.pv_top.specs.declared.words.TheConstants.{DEFAULT_ROUNDS, MOST_ROUNDS
 use Rattle.pv_top.specs.declared.words.Mode.{Mode}
 use Rattle.pv_top.specs.declared.words.Mode.TheVariants.{Plain, Counted, Cert}
 use Rattle.pv_top.specs.declared.words.Command.{Command}
-use Rattle.pv_top.specs.declared.words.Command.TheVariants.{Validate, Check, Compose, CheckChain, Refute, Make}
+use Rattle.pv_top.specs.declared.words.Command.TheVariants.{Validate, Check, Compose, CheckChain, Migrate, Refute, Make}
 
 -- the value of an option is this number, which lies between two bounds; an option that isn't given has a default
 abbrev pub IsLimit : (least most default : ℕ) → Option (List ℕ) → ℕ → Type 0
@@ -101,6 +101,7 @@ AreOf words (Validate a b axioms rounds budget mode) = (rest : List (List ℕ)) 
 AreOf words (Check a b cert) = (rest : List (List ℕ)) × (words ≡ codes "check" ∷ rest) × GiveCheck rest (a ∷ b ∷ cert ∷ [])
 AreOf words (Compose a b c x y out) = (rest : List (List ℕ)) × (words ≡ codes "compose" ∷ rest) × Give (arguments_alone 6) rest [] [] (a ∷ b ∷ c ∷ x ∷ y ∷ out ∷ [])
 AreOf words (CheckChain a c chain) = (rest : List (List ℕ)) × (words ≡ codes "check-chain" ∷ rest) × GiveCheck rest (a ∷ c ∷ chain ∷ [])
+AreOf words (Migrate cert out) = (rest : List (List ℕ)) × (words ≡ codes "migrate" ∷ rest) × Give (arguments_alone 2) rest [] [] (cert ∷ out ∷ [])
 AreOf words (Refute a b tries steps) = (rest : List (List ℕ)) × (words ≡ codes "refute" ∷ rest) × GiveRefute rest a b tries steps
 AreOf words (Make seed count a b) = (rest : List (List ℕ)) × (words ≡ codes "make" ∷ rest) × GiveMake rest seed count a b
 
@@ -115,6 +116,7 @@ fetches (Validate a b axioms rounds budget mode) = (a, LONGEST_FILE) ∷ (b, LON
 fetches (Check a b cert) = (a, LONGEST_FILE) ∷ (b, LONGEST_FILE) ∷ (cert, LONGEST_CERT) ∷ []
 fetches (Compose a b c x y out) = (a, LONGEST_FILE) ∷ (b, LONGEST_FILE) ∷ (c, LONGEST_FILE) ∷ (x, LONGEST_CERT) ∷ (y, LONGEST_CERT) ∷ []
 fetches (CheckChain a c chain) = (a, LONGEST_FILE) ∷ (c, LONGEST_FILE) ∷ (chain, LONGEST_CHAIN) ∷ []
+fetches (Migrate cert out) = (cert, LONGEST_CERT) ∷ []
 fetches (Refute a b tries steps) = (a, LONGEST_FILE) ∷ (b, LONGEST_FILE) ∷ []
 fetches (Make seed count a b) = []
 
@@ -132,15 +134,17 @@ placed_names (Validate a b axioms rounds budget mode) = cert_in mode
 placed_names (Check a b cert) = []
 placed_names (Compose a b c x y out) = out ∷ []
 placed_names (CheckChain a c chain) = []
+placed_names (Migrate cert out) = out ∷ []
 placed_names (Refute a b tries steps) = []
 placed_names (Make seed count a b) = a ∷ b ∷ []
 
--- the two class files of whose methods a command speaks
+-- the two class files of whose methods a command speaks; `migrate` speaks of none, and has the name of its certificate for both
 abbrev pub first_of : Command (List ℕ) → List ℕ
 first_of (Validate a b axioms rounds budget mode) = a
 first_of (Check a b cert) = a
 first_of (Compose a b c x y out) = a
 first_of (CheckChain a c chain) = a
+first_of (Migrate cert out) = cert
 first_of (Refute a b tries steps) = a
 first_of (Make seed count a b) = a
 
@@ -149,6 +153,7 @@ second_of (Validate a b axioms rounds budget mode) = b
 second_of (Check a b cert) = b
 second_of (Compose a b c x y out) = c
 second_of (CheckChain a c chain) = c
+second_of (Migrate cert out) = cert
 second_of (Refute a b tries steps) = b
 second_of (Make seed count a b) = b
 

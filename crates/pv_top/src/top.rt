@@ -9,13 +9,14 @@ ghost use Rattle.pv_words.specs.Answers.{texts};
 ghost use Rattle.pv_report.specs.Judging.{JudgesFetched};
 ghost use Rattle.pv_report.specs.Options.{in_least, options_of};
 ghost use Rattle.pv_links.specs.Reading.{ComposesFetched};
+ghost use Rattle.pv_migrate.specs.Reading.{SaysFetched};
 ghost use Rattle.pv_maker.specs.declared.class.TheConstants.{MOST_MADE};
 ghost use Rattle.pv_report.specs.declared.verdict.Detail.TheVariants as Detail;
 ghost use Rattle.pv_top.specs.Words.{IsCommand, fetches, first_of, names_of, second_of};
 ghost use Rattle.pv_top.specs.Commands.{CanMake, named};
 ghost use Rattle.pv_top.specs.Run.{Answered, CallsFor, Leaves, Says};
 ghost use Rattle.pv_top.specs.Promise.{EachEquivalent};
-ghost use Rattle.pv_top.specs.Fetching.{AnswersFetched, Asks, AsksAll, ChangesAt, ComposesIn, Gives, HoldAll, HoldsFetched, HoldsWanted, PlaceFailed, PlacesEach, PlacesFetched, PlacesIn, ReadFailed, ShowsIn, IsMadeAnswer, MakesIn, contents_of, named_as, placed_of, wanted_names};
+ghost use Rattle.pv_top.specs.Fetching.{AnswersFetched, Asks, AsksAll, ChangesAt, ComposesIn, Gives, HoldAll, HoldsFetched, HoldsWanted, PlaceFailed, PlacesEach, PlacesFetched, PlacesIn, ReadFailed, ShowsIn, IsMadeAnswer, MakesIn, MigratesIn, contents_of, named_as, placed_of, wanted_names};
 ghost use Rattle.pv_top.specs.declared.words.Command as commands;
 
 use crate::words::{Command, Mode, order_of};
@@ -24,6 +25,7 @@ use pv_class::LONGEST_FILE;
 use pv_differences::{RunLimits, refute_all};
 use pv_links::{Composition, LONGEST_CHAIN, check_chain, compose};
 use pv_maker::generate;
+use pv_migrate::{Migration, migrate};
 use pv_pieces::Workers;
 use pv_report::{Answer, Detail, Fetched, Graphs, Limits, Status, judge};
 use pv_sections::{LONGEST_CERT, Shown, rule, show};
@@ -62,7 +64,8 @@ pub(crate) struct Placed<'a> {
 /// `check [--workers N] A B CERT` fetches a certificate too, and says, in a line for each of its sections, whether
 /// the steps of the section show this of the two methods that it names. `compose A B C CERT1 CERT2 OUT` places under OUT the chain of a certificate
 /// for A and B and one for B and C, and `check-chain [--workers N] A C CHAIN` says, in a line for each section of the first that has one of the same method
-/// in the second, whether the two show this of the methods of A and C. `refute [--tries N] [--steps N] A B` says, in a line for each
+/// in the second, whether the two show this of the methods of A and C. `migrate CERT OUT` places under OUT the certificate of version 2 that has the
+/// digests and the sections of CERT, a certificate of version 1. `refute [--tries N] [--steps N] A B` says, in a line for each
 /// method of A, whether runs of it and its partner end with different outcomes. `make SEED COUNT A B` places under A the class of COUNT random methods
 /// that the draws from SEED give, and under B that of their twins. Pairs of methods, the places of axioms and the
 /// steps of a section are cut into as many pieces as there are workers, which run at once, and each piece passes the gate before each of
@@ -179,6 +182,12 @@ fn reply_to<'a, R: Threads + Sync, G: Gate>(
             let answer = check_chain(workers, alloc, first, last, chain)?;
             Ok(said(alloc, answer))
         }
+        Command::Migrate { out, .. } => {
+            let [old] = fetched else {
+                unreachable!();
+            };
+            migrate_in(alloc, out, old)
+        }
         Command::Refute { tries, steps, .. } => {
             let [first, second] = fetched else {
                 unreachable!();
@@ -268,6 +277,21 @@ fn compose_in<'a>(
     let Composition { answer, chain } = compose(alloc, first, second, third, one, two)?;
     Ok(Reply {
         placed: placed_as(alloc, name, chain)?,
+        answer,
+    })
+}
+
+// What is said of a certificate of version 1, with the one of version 2 that it is under a name.
+fn migrate_in<'a>(alloc: Global, name: &'a str, cert: &Fetched) -> Result<Reply<'a>, Memory>
+    ensures answer { IfOk result (λ reply. SaysFetched cert.now reply.answer.text.items reply.answer.status) }
+    ensures placed { IfOk result (λ reply. MigratesIn name.entry.now cert.now reply.answer.status (contents_of reply.placed.items)) }
+{
+    let Migration {
+        answer,
+        certificate,
+    } = migrate(alloc, cert)?;
+    Ok(Reply {
+        placed: placed_as(alloc, name, certificate)?,
         answer,
     })
 }
@@ -457,6 +481,13 @@ fn fetch_files<F: Files>(
                     limit: LONGEST_CERT,
                 },
             ];
+            fetch_all(alloc, &all, files)
+        }
+        Command::Migrate { cert, .. } => {
+            let all = [Wanted {
+                name: cert,
+                limit: LONGEST_CERT,
+            }];
             fetch_all(alloc, &all, files)
         }
         Command::Make { .. } => fetch_all(alloc, &[], files),

@@ -87,6 +87,11 @@ pub enum Command<N> {
         last: N,
         chain: N,
     },
+    /// Make a certificate of version 1 one of version 2, and place it.
+    Migrate {
+        cert: N,
+        out: N,
+    },
     /// Run the methods of two class files, by `tries` tries of at most `steps` steps each.
     Refute {
         first: N,
@@ -146,6 +151,8 @@ pub(crate) fn order_of<'a>(alloc: Global, words: &'a [&'a str]) -> Result<Option
         Ok(alone(compose_of(alloc, rest)?))
     } else if name == "check-chain" {
         check_chain_of(alloc, rest)
+    } else if name == "migrate" {
+        Ok(alone(migrate_of(alloc, rest)?))
     } else if name == "refute" {
         Ok(alone(refute_of(alloc, rest)?))
     } else if name == "make" {
@@ -259,6 +266,22 @@ fn check_chain_of<'a>(alloc: Global, words: &'a [&'a str]) -> Result<Option<Orde
     Ok(Some(Order {
         command,
         workers: given.workers,
+    }))
+}
+
+// The command `migrate` with these words after its name.
+fn migrate_of<'a>(alloc: Global, words: &'a [&'a str]) -> Result<Option<Command<&'a str>>, Memory>
+    ensures { IfOk result (λ command. IsReadAs (codes "migrate") words.now command) }
+{
+    let Some(given) = arguments_of(alloc, words, 2)? else {
+        return Ok(None);
+    };
+    let [cert, out] = given.as_slice() else {
+        unreachable!();
+    };
+    Ok(Some(Command::Migrate {
+        cert: *cert,
+        out: *out,
     }))
 }
 

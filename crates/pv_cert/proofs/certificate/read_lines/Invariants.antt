@@ -5,4 +5,4 @@ use Rattle.pv_format.specs.Seen.{texts}
 use Rattle.pv_cert.proofs.certificate.read_lines.Given as goal
 
 abbrev pub invariant-loop-k : goal.invariant-loop-k
-invariant-loop-k l = read_lines (4 + l.k) (seen_place l.place) (texts (drop l.k l.lines)) ≡ read_lines 4 (between []) (texts l.lines)
+invariant-loop-k l = read_lines l.version (4 + l.k) (seen_place l.place) (texts (drop l.k l.lines)) ≡ read_lines l.version 4 (between [] []) (texts l.lines)

@@ -1,6 +1,6 @@
 use Rattle.std.specs.Prelude.{Some, None}
 use Rattle.pv_class.specs.Places.{IsNamedAt}
-use Rattle.pv_links.specs.Made.{IsPartnerAt}
+use Rattle.pv_links.specs.Made.{IsPartnerAt, lemmas_by}
 use Rattle.pv_links.proofs.Placed.{finding_at, none_named, without_last, without_middle}
 use Rattle.pv_links.proofs.finding.find.Goals as goal
 
@@ -31,4 +31,4 @@ returns g c =
     let named : IsNamedAt k.first.methods s.name s.desc c.in-Some.first = rw c.in-Some.is at c.in_ok-first.ensures.place in
     let partner : IsPartnerAt k.first c.in-Some.first k.middle (Some c.in-Some-2.middle) = rw c.in-Some-2.is at c.in_ok-middle.ensures.partner in
     let last : IsPartnerAt k.middle c.in-Some-2.middle k.last (Some c.in-Some-3.last) = rw c.in-Some-3.is at c.in_ok-last.ensures.partner in
-    finding_at k (record { first = c.in-Some.first; middle = c.in-Some-2.middle; last = c.in-Some-3.last }) (s, c.args.other.now) c.find_on.result named partner last c.find_on.ensures
+    finding_at (lemmas_by c.args.rules.now) k (record { first = c.in-Some.first; middle = c.in-Some-2.middle; last = c.in-Some-3.last }) (s, c.args.other.now) c.find_on.result named partner last c.find_on.ensures

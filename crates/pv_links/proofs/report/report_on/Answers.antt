@@ -5,6 +5,6 @@ returns g c = record {
   middle = c.in_ok-middle_of.field-0;
   middle_is = c.in_ok-middle_of.ensures;
   findings = c.in_ok-said.said.findings.items;
-  lines = rw (c.as_slice-sections.ensures, c.as_slice-others.ensures) at c.in_ok-said.ensures;
+  lines = c.in_ok-said.ensures;
   status_is = rw c.deref.ensures.value at c.status_of-status.ensures;
 }

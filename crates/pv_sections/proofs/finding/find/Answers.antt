@@ -26,4 +26,4 @@ returns-in-Some-2 g c =
     let lt : c.in-Some.method < length pair.first.methods = rw c.in-Some.is at c.in_ok-method.ensures.within in
     let here : slice_get pair.first.methods c.in-Some.method ≡ Some x = here_again pair.first.methods c.in-Some.method x lt (rw (← c.as_slice.ensures) c.index-as_slice-method.is) in
     let like : IsLikeAt x pair.second.methods c.in-Some-2.partner = rw c.in-Some-2.is at c.in_ok-partner_of.ensures in
-    finding_at pair.first pair.second c.args.section.now c.in-Some.method c.in-Some-2.partner x c.find_on.result named here like c.find_on.ensures
+    finding_at c.args.rules.now.lemmas.now pair.first pair.second c.args.section.now c.in-Some.method c.in-Some-2.partner x c.find_on.result named here like c.find_on.ensures

@@ -21,10 +21,12 @@ returns-in-Some g c =
     c.digest_of-2.ensures (rw c.in-Some.is at c.other_file.ensures) c.in_ok-bad_certificate.ensures.text c.in_ok-bad_certificate.ensures.status
 
 pub lines-requires : goal.lines-requires
-lines-requires g c = rw c.deref.ensures.value (zip_length (IsFinding c.in-Ok.pair.first c.in-Ok.pair.second) c.as_slice-sections.result.now c.in_ok-findings.findings.items c.in_ok-findings.ensures)
+lines-requires g c =
+    let cert = c.in-Ok-2.cert in
+    rw (c.deref.ensures.value, c.as_slice.ensures) (zip_length (IsFinding cert.lemmas c.in-Ok.pair.first c.in-Ok.pair.second) cert.sections c.in_ok-findings.findings.items c.in_ok-findings.ensures)
 
 pub returns : goal.returns
 returns g c =
     rules_all c.args.first.now c.args.second.now c.args.cert.now c.in-Ok.pair c.in-Ok-2.cert c.digest_of.result c.digest_of-2.result c.in_ok-findings.findings.items c.in_ok-text.text.items c.status_of-status.result (rw c.in-Ok.is at c.in_ok-pair.ensures.reads)
-    (rw c.in-Ok-2.is at c.in_ok-cert.ensures) c.digest_of.ensures c.digest_of-2.ensures (rw c.in_default.is at c.other_file.ensures) (rw c.as_slice-sections.ensures at c.in_ok-findings.ensures) (rw (c.deref.ensures.value, c.as_slice-sections.ensures) at c.in_ok-text.ensures)
+    (rw c.in-Ok-2.is at c.in_ok-cert.ensures) c.digest_of.ensures c.digest_of-2.ensures (rw c.in_default.is at c.other_file.ensures) c.in_ok-findings.ensures (rw (c.deref.ensures.value, c.as_slice.ensures) at c.in_ok-text.ensures)
     (rw c.deref-2.ensures.value at c.status_of-status.ensures)

@@ -5,7 +5,7 @@ use Rattle.pv_top.specs.declared.words.Command.TheVariants.{Validate}
 use Rattle.pv_top.specs.declared.words.Mode.{Mode}
 use Rattle.pv_top.specs.Commands.{named, named_mode}
 use Rattle.pv_top.specs.Fetching.{AnswersFetched}
-use Rattle.pv_top.proofs.Replying.{chain_rules, check_answers, five_items, make_answers, make_places, reply_answers, reply_places, show_places, three_items, two_items}
+use Rattle.pv_top.proofs.Replying.{chain_rules, check_answers, five_items, make_answers, make_places, migrate_answers, migrate_places, one_item, reply_answers, reply_places, show_places, three_items, two_items}
 use Rattle.pv_top.proofs.top.reply_to.Goals as goal
 
 pub returns-in_ok-answer-in-Check-clause-answer : goal.returns-in_ok-answer-in-Check-clause-answer
@@ -51,6 +51,20 @@ returns-in-len5-clause-placed g c =
     let two = c.two-item.result in
     let items = five_items c.args.fetched.now first second third one two (omega (arith, c.in-len5.len_at_least, c.in-len5.len_below)) c.first-item-then-fetched-lt6.is c.second-item-then-fetched-lt6.is c.third-item.is c.one-item.is c.two-item.is in
     reply_places (named c.args.command) c.args.fetched.now k.out.now k.first.now k.second.now k.third.now k.one.now k.two.now first second third one two (ap named k.is) items c.compose_in.result c.compose_in.ensures.answer c.compose_in.ensures.placed
+
+pub returns-in-len1-clause-answer : goal.returns-in-len1-clause-answer
+returns-in-len1-clause-answer g c =
+    let k = c.in-Migrate in
+    let cert = c.old-item.result in
+    let items = one_item c.args.fetched.now cert (omega (arith, c.in-len1.len_at_least, c.in-len1.len_below)) c.old-item.is in
+    migrate_answers (named c.args.command) c.args.fetched.now k.out.now k.cert.now cert (ap named k.is) items c.migrate_in.result c.migrate_in.ensures.answer
+
+pub returns-in-len1-clause-placed : goal.returns-in-len1-clause-placed
+returns-in-len1-clause-placed g c =
+    let k = c.in-Migrate in
+    let cert = c.old-item.result in
+    let items = one_item c.args.fetched.now cert (omega (arith, c.in-len1.len_at_least, c.in-len1.len_below)) c.old-item.is in
+    migrate_places (named c.args.command) c.args.fetched.now k.out.now k.cert.now cert (ap named k.is) items c.migrate_in.result c.migrate_in.ensures.answer c.migrate_in.ensures.placed
 
 pub make_in-requires : goal.make_in-requires
 make_in-requires g c = rw c.in-Make.is at c.requires.count

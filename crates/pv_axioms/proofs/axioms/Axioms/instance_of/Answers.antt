@@ -1,3 +1,5 @@
+use Rattle.pv_pattern.specs.Patterns.{Axiom}
+use Rattle.pv_pattern.specs.Instances.{IsInstance}
 use Rattle.pv_pattern.specs.Seen.{axiom_seen}
 use Rattle.pv_axioms.proofs.Finding.{entry_tells, none_tells}
 use Rattle.pv_axioms.proofs.Sound.{binds_names}
@@ -7,7 +9,7 @@ pub instance-requires : goal.instance-requires
 instance-requires c = binds_names (axiom_seen c.in-Some.axiom.now) c.in-Some.ensures.entry
 
 pub returns-in-Some : goal.returns-in-Some
-returns-in-Some c = entry_tells _ _ _ _ _ _ (axiom_seen c.in-Some.axiom.now) c.in-Some.ensures c.instance.result c.instance.ensures
+returns-in-Some c = entry_tells (λ (a : Axiom). IsInstance c.args.graph.now c.args.assumed.now a c.args.subst.now c.args.left c.args.right) _ (axiom_seen c.in-Some.axiom.now) c.in-Some.ensures c.instance.result c.instance.ensures
 
 pub returns-in-None : goal.returns-in-None
-returns-in-None c = none_tells _ _ _ _ _ _ c.in-None.ensures
+returns-in-None c = none_tells (λ (a : Axiom). IsInstance c.args.graph.now c.args.assumed.now a c.args.subst.now c.args.left c.args.right) _ c.in-None.ensures

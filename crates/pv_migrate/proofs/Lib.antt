@@ -1,0 +1,4 @@
+pub mod MigratedWords
+pub mod Migrating
+pub mod MigratedOnce
+pub mod Cited

@@ -1,0 +1,4 @@
+pub mod Numbers
+pub mod Ready
+pub mod Accepting
+pub mod Cited

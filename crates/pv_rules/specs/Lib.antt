@@ -1,0 +1,2 @@
+-- what is known of lemmas
+pub mod Known

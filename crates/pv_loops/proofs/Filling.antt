@@ -10,7 +10,7 @@ use Rattle.std.specs.Prelude.{slice_get, nat_eq}
 use Rattle.std.specs.List.{IsDistinct}
 use Rattle.std.specs.List.Sorted.{IsPermutation, IsNonDecreasing}
 use Rattle.pv_loops.specs.declared.forest.Loop.{Loop}
-use Rattle.pv_loops.specs.declared.forest.Forest.{Forest}
+use Rattle.pv_loops.specs.declared.nest.Nest.{Nest}
 use Rattle.pv_loops.specs.declared.headers.Headers.{Headers}
 use Rattle.pv_loops.specs.Shapes.{IsShape, IsReversed}
 use Rattle.pv_loops.specs.Bodies.{IsOrder, IsHead, InBody, AreBody}
@@ -34,7 +34,7 @@ baring_more headers loops n l is B = record {
       (pushed_at loops l i k e);
 }
 
-pub bare_nested : (sources : List (List ℕ)) (place headers : List ℕ) (most count : ℕ) (f : Forest) → length sources ≡ count → length f.home.items ≡ count → ((x : ℕ) → x < count → get_or f.home.items x None ≡ None) → Baring headers f.loops.items (length headers)
+pub bare_nested : (sources : List (List ℕ)) (place headers : List ℕ) (most count : ℕ) (f : Nest) → length sources ≡ count → length f.home.items ≡ count → ((x : ℕ) → x < count → get_or f.home.items x None ≡ None) → Baring headers f.loops.items (length headers)
     → IsNested sources place headers most 0 f
 bare_nested sources place headers most count f size homes none B = record {
   size = B.size;
@@ -42,16 +42,6 @@ bare_nested sources place headers most count f size homes none B = record {
   homes = homes ∙ sym size;
   home = λ x lt. subst (λ o. IsHomeBefore sources place headers 0 x o) (sym (none x (omega (arith, lt, size)))) (λ z _ before _. absurd (omega (arith, before)));
   filled = λ i l _ before. absurd (omega (arith, before));
-}
-
--- the order that a forest carries is no part of its loops
-pub nested_with : (sources : List (List ℕ)) (place headers : List ℕ) (most n : ℕ) (f g : Forest) → g.loops ≡ f.loops → g.home ≡ f.home → IsNested sources place headers most n f → IsNested sources place headers most n g
-nested_with sources place headers most n f g loops home N = record {
-  size = subst (λ v. length v.items ≡ length headers) (sym loops) N.size;
-  header = subst (λ v. (i : ℕ) (l : Loop) → slice_get v.items i ≡ Some l → l.header ≡ get_or headers i 0) (sym loops) N.header;
-  homes = subst (λ v. length v.items ≡ length sources) (sym home) N.homes;
-  home = subst (λ v. (x : ℕ) → x < length sources → IsHomeBefore sources place headers n x (get_or v.items x None)) (sym home) N.home;
-  filled = subst (λ v. (i : ℕ) (l : Loop) → slice_get v.items i ≡ Some l → get_or place l.header 0 < n → IsFilled sources place headers most l) (sym loops) N.filled;
 }
 
 pub some_of : (o : Option ℕ) → o ≢ None → (i : ℕ) × (o ≡ Some i)
@@ -102,7 +92,7 @@ module _ (sources : List (List ℕ)) (order place : List ℕ) (S : IsShape sourc
   pub head_here : (h i : ℕ) → get_or headers.at.items h None ≡ Some i → (i < length nodes) × (get_or nodes i 0 ≡ h) × Head h
   head_here h i at = let f = H.found h i at in (f.0, f.1, subst (λ v. Head v) f.1 (H.heads i f.0))
 
-  module _ (most : ℕ) (f : Forest) (h : ℕ) (N : IsNested sources place nodes most (P h) f) (hh : h < length sources) where
+  module _ (most : ℕ) (f : Nest) (h : ℕ) (N : IsNested sources place nodes most (P h) f) (hh : h < length sources) where
     head_at : (i : ℕ) (l : Loop) → slice_get f.loops.items i ≡ Some l → Head l.header
     head_at i l e = subst (λ v. Head v) (sym (N.header i l e)) (H.heads i (let lt = slice_get_within f.loops.items i l e in omega (arith, lt, N.size)))
 
@@ -213,7 +203,7 @@ module _ (sources : List (List ℕ)) (order place : List ℕ) (S : IsShape sourc
               (cases_eq z h)
 
       -- the loop of h is filled
-      pub nested_more : (i : ℕ) (l : Loop) (g : Forest) → i < length nodes → get_or nodes i 0 ≡ h → l.header ≡ h → IsFilled sources place nodes most l → g.loops.items ≡ set f.loops.items i l
+      pub nested_more : (i : ℕ) (l : Loop) (g : Nest) → i < length nodes → get_or nodes i 0 ≡ h → l.header ≡ h → IsFilled sources place nodes most l → g.loops.items ≡ set f.loops.items i l
           → (members : List ℕ) (homes : List (Option ℕ)) → AreBody sources place h members → g.home.items ≡ homes → IsMarked i homes members → KeepsHomes i f.home.items homes → IsNested sources place nodes most (P h + 1) g
       nested_more i l g hi is own F loops members homes are written marked keeps = record {
         size = ap (λ (k : List Loop). length k) loops ∙ length-set f.loops.items i l ∙ N.size;

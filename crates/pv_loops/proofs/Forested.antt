@@ -22,7 +22,7 @@ use Rattle.pv_loops.proofs.Merged.{one_has_order}
 use Rattle.pv_loops.proofs.Nesting.{meets, fewer_around, enclosed_head, enclosed_loop, loop_enclosed}
 use Rattle.pv_loops.proofs.Orders.{reversed_shape}
 use Rattle.pv_loops.proofs.Ranking.{ranking_from}
-use Rattle.pv_loops.proofs.Surrounding.{Surrounds, from_none, from_loop}
+use Rattle.pv_loops.proofs.Surrounding.{Surrounds, from_none, from_loop, at_most}
 
 module _ (s sources : List (List ℕ)) (order place : List ℕ) (rev : IsReversed s sources) (S : IsShape sources) (O : IsOrder sources order place) (f : Forest) (F : IsForest s f) (N : NestsUpTo s MAX_DEPTH) where
   abbrev P : ℕ → ℕ
@@ -97,4 +97,4 @@ ranking s f S red N F =
     let T = reversed_shape s (sources_of s) S rev in
     let ts = reduces_to_one s S red in
     let O = one_has_order s (sources_of s) S rev ts.0 ts.1 in
-    ranking_from s (sources_of s) O.0 O.1 rev T O.2 f (forest_surrounds s (sources_of s) O.0 O.1 rev T O.2 f F N)
+    ranking_from s (sources_of s) O.0 O.1 rev T O.2 (around f) (forest_surrounds s (sources_of s) O.0 O.1 rev T O.2 f F N) (λ x. at_most MAX_DEPTH f.loops.items (get_or f.home.items x None))

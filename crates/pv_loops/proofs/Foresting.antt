@@ -4,6 +4,7 @@ use Rattle.std.proofs.lemmas.Option.{slice_get_within, get_or_from_slice_get}
 use Rattle.std.specs.Prelude.{slice_get}
 use Rattle.pv_loops.specs.declared.forest.Loop.{Loop}
 use Rattle.pv_loops.specs.declared.forest.Forest.{Forest}
+use Rattle.pv_loops.specs.declared.nest.Nest.{Nest}
 use Rattle.pv_loops.specs.declared.headers.Headers.{Headers}
 use Rattle.pv_loops.specs.Shapes.{IsShape, IsReversed}
 use Rattle.pv_loops.specs.Loops.{IsLoop}
@@ -15,7 +16,7 @@ use Rattle.pv_loops.proofs.Listing.{listed_at, increases}
 use Rattle.pv_loops.proofs.Nesting.{meets, same_next, same_around, fewer_around, enclosed_head, enclosed_loop, IsEnclosed, loop_enclosed}
 use Rattle.pv_loops.proofs.Filling.{found_head, distinct}
 
-module _ (s sources : List (List ℕ)) (order place : List ℕ) (rev : IsReversed s sources) (S : IsShape sources) (O : IsOrder sources order place) (headers : Headers) (H : AreHeaders sources place headers) (most : ℕ) (f : Forest)
+module _ (s sources : List (List ℕ)) (order place : List ℕ) (rev : IsReversed s sources) (S : IsShape sources) (O : IsOrder sources order place) (headers : Headers) (H : AreHeaders sources place headers) (most : ℕ) (f : Nest)
     (N : IsNested sources place headers.nodes.items most (length order) f) where
   abbrev P : ℕ → ℕ
   P x = get_or place x 0
@@ -121,15 +122,6 @@ module _ (s sources : List (List ℕ)) (order place : List ℕ) (rev : IsReverse
             deeper x i j k.0 l k.1 at ne b d (let w = ap P is in omega (arith, w, le)),
       )
 
-  pub forest_is : IsForest s f
-  forest_is = record {
-    loops = listed;
-    all = has_all;
-    ascend = λ i j k l lt ek el. let less = increases nodes H.ascend i j lt (in_headers j l el) in omega (arith, less, N.header i k ek, N.header j l el);
-    homes = N.homes ∙ rev.size;
-    home = λ x o e. home_is x o (subst (λ v. IsHomeBefore sources place nodes (length order) x v) (get_or_from_slice_get f.home.items x o None e) (N.home x (let lt = slice_get_within f.home.items x o e in omega (arith, lt, N.homes))));
-  }
-
   shallow_is : (hs members : List ℕ) → IsEnclosed sources order place S O s rev hs members → length hs ≤ most
   shallow_is [] members q = absurd q
   shallow_is (h ∷ around) members q =
@@ -140,3 +132,16 @@ module _ (s sources : List (List ℕ)) (order place : List ℕ) (rev : IsReverse
 
   pub nests_up_to : NestsUpTo s most
   nests_up_to hs members loop = shallow_is hs members (loop_enclosed sources order place S O s rev bodies hs members loop)
+
+pub forest_is : (s sources : List (List ℕ)) (order place : List ℕ) → IsReversed s sources → IsShape sources → IsOrder sources order place → (headers : Headers) → AreHeaders sources place headers → (most : ℕ) (f : Forest)
+    → IsNested sources place headers.nodes.items most (length order) (record { loops = f.loops; home = f.home }) → IsForest s f
+forest_is s sources order place rev S O headers H most f N = record {
+  loops = listed s sources order place rev S O headers H most (record { loops = f.loops; home = f.home }) N;
+  all = has_all s sources order place rev S O headers H most (record { loops = f.loops; home = f.home }) N;
+  ascend = λ i j k l lt ek el.
+      let less = increases headers.nodes.items H.ascend i j lt (in_headers s sources order place rev S O headers H most (record { loops = f.loops; home = f.home }) N j l el) in
+      omega (arith, less, N.header i k ek, N.header j l el);
+  homes = N.homes ∙ rev.size;
+  home = λ x o e. home_is s sources order place rev S O headers H most (record { loops = f.loops; home = f.home }) N x o
+      (subst (λ v. IsHomeBefore sources place headers.nodes.items (length order) x v) (get_or_from_slice_get f.home.items x o None e) (N.home x (let lt = slice_get_within f.home.items x o e in omega (arith, lt, N.homes))));
+}

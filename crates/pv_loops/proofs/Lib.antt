@@ -16,6 +16,8 @@ mod Foresting
 mod Surrounding
 mod Ordering
 mod Weights
+mod Keyed
+mod Leading
 mod Ranking
 pub mod Unique
 mod Walking

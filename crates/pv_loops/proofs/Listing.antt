@@ -1,9 +1,11 @@
 -- Loops in a list.
-use Rattle.std.proofs.Common.{◌≡◌, ◌≢◌, ℕ, ◌<◌, ◌≤◌, ◌+◌, zero, suc, List, [], ◌∷◌, ◌++◌, length, get_or, set, refl, sym, ◌∙◌, ap, arith, ◌⊎◌, inl, inr, ⊎_elim, Some, None, get_or-set_other, get_or-set_same}
+use Rattle.std.proofs.Common.{◌≡◌, ◌≢◌, ℕ, ◌<◌, ◌≤◌, ◌+◌, zero, suc, List, [], ◌∷◌, ◌++◌, length, get_or, set, refl, sym, ◌∙◌, ap, subst, arith, ◌⊎◌, inl, inr, ⊎_elim, Some, None, get_or-set_other, get_or-set_same}
 use Rattle.std.proofs.lemmas.Bool.{cases_eq, cases_lt}
-use Rattle.std.proofs.lemmas.List.{length-append, length-set, get_or_append_left, get_or_push, get_or_default}
+use Rattle.std.proofs.lemmas.List.{append_assoc, append-nil, length-append, length-set, get_or_append_left, get_or_push, get_or_default}
 use Rattle.std.proofs.lemmas.Option.{slice_get_within, slice_get_cases, slice_get_read, get_or_from_slice_get}
+use Rattle.std.proofs.lemmas.List.Elements.{Contains-get_or, Contains-append_right}
 use Rattle.std.specs.Prelude.{slice_get}
+use Rattle.std.specs.List.{Contains}
 use Rattle.std.specs.List.Sorted.{IsStrictlyIncreasing}
 
 -- a list without its first number
@@ -19,11 +21,67 @@ last_of (x ∷ xs) = ⊎_elim
     (λ (q : (front : List ℕ) × (z : ℕ) × (xs ≡ front ++ z ∷ [])). inr (x ∷ q.0, q.1, ap (λ (l : List ℕ). x ∷ l) q.2))
     (last_of xs)
 
--- of two ends of a list one ends in the other
-pub two_ends : (us vs xs ys : List ℕ) → us ++ vs ≡ xs ++ ys → ((zs : List ℕ) × (vs ≡ zs ++ ys)) ⊎ ((zs : List ℕ) × (ys ≡ zs ++ vs))
-two_ends [] vs xs ys e = inl (xs, e)
-two_ends (u ∷ us) vs [] ys e = inr (u ∷ us, sym e)
-two_ends (u ∷ us) vs (x ∷ xs) ys e = two_ends us vs xs ys (ap rest e)
+-- a number is in a list, or it isn't
+pub found_or_not : (xs : List ℕ) (h : ℕ) → ((G : List ℕ) × (B : List ℕ) × (xs ≡ G ++ h ∷ B)) ⊎ (Contains xs h → ⊥)
+found_or_not [] h = inr (λ c. let lt = c.1 in omega (arith, lt))
+found_or_not (x ∷ xs) h = ⊎_elim
+    (λ (e : x ≡ h). inl ([], xs, ap (λ v. v ∷ xs) e))
+    (λ (ne : x ≢ h). ⊎_elim
+    (λ (q : (G : List ℕ) × (B : List ℕ) × (xs ≡ G ++ h ∷ B)). inl (x ∷ q.0, q.1, ap (λ (l : List ℕ). x ∷ l) q.2))
+    (λ (not_in : Contains xs h → ⊥). inr (λ c. other ne not_in c))
+    (found_or_not xs h))
+    (cases_eq x h)
+  where
+    other : x ≢ h → (Contains xs h → ⊥) → Contains (x ∷ xs) h → ⊥
+    other ne not_in (zero, lt, e) = ne e
+    other ne not_in (suc k, lt, e) = not_in (k, omega arith, e)
+
+pub split_at : (xs : List ℕ) (h : ℕ) → Contains xs h → (G : List ℕ) × (B : List ℕ) × (xs ≡ G ++ h ∷ B)
+split_at xs h c = ⊎_elim (λ (q : (G : List ℕ) × (B : List ℕ) × (xs ≡ G ++ h ∷ B)). q) (λ (not_in : Contains xs h → ⊥). absurd (not_in c)) (found_or_not xs h)
+
+pub split_has : (xs G : List ℕ) (h : ℕ) (B : List ℕ) → xs ≡ G ++ h ∷ B → Contains xs h
+split_has xs G h B e = subst (λ (l : List ℕ). Contains l h) (sym e) (Contains-append_right G (h ∷ B) h (Contains-get_or (h ∷ B) 0 0 (omega arith)))
+
+-- two lists that end alike, up to two numbers that differ
+pub record Fork (us vs : List ℕ) : Type 0 where
+  pub left : List ℕ
+  pub u : ℕ
+  pub right : List ℕ
+  pub v : ℕ
+  pub common : List ℕ
+  pub differ : u ≢ v
+  pub us_is : us ≡ left ++ u ∷ common
+  pub vs_is : vs ≡ right ++ v ∷ common
+
+abbrev pub fork_back : (us vs xs : List ℕ) → Fork us vs → Fork (xs ++ vs) us
+fork_back us vs xs k = record {
+  left = xs ++ k.right;
+  u = k.v;
+  right = k.left;
+  v = k.u;
+  common = k.common;
+  differ = λ e. k.differ (sym e);
+  us_is = ap (λ (l : List ℕ). xs ++ l) k.vs_is ∙ sym (append_assoc xs k.right (k.v ∷ k.common));
+  vs_is = k.us_is;
+}
+
+-- one of two lists ends in the other, or they fork
+pub fork : (us vs : List ℕ) → ((xs : List ℕ) × (us ≡ xs ++ vs)) ⊎ (((xs : List ℕ) × (vs ≡ xs ++ us)) ⊎ Fork us vs)
+fork [] vs = inr (inl (vs, sym (append-nil vs)))
+fork (x ∷ us) vs = ⊎_elim
+    (λ (q : (xs : List ℕ) × (us ≡ xs ++ vs)). inl (x ∷ q.0, ap (λ (l : List ℕ). x ∷ l) q.1))
+    (λ (q : ((xs : List ℕ) × (vs ≡ xs ++ us)) ⊎ Fork us vs). ⊎_elim
+    (λ (q : (xs : List ℕ) × (vs ≡ xs ++ us)). ⊎_elim
+    (λ (none : q.0 ≡ []). inl (x ∷ [], ap (λ (l : List ℕ). x ∷ l) (sym (q.1 ∙ ap (λ (l : List ℕ). l ++ us) none))))
+    (λ (l : (front : List ℕ) × (z : ℕ) × (q.0 ≡ front ++ z ∷ [])).
+    let e : vs ≡ l.0 ++ l.1 ∷ us = q.1 ∙ ap (λ (l : List ℕ). l ++ us) l.2 ∙ append_assoc l.0 (l.1 ∷ []) us in ⊎_elim
+    (λ (same : x ≡ l.1). inr (inl (l.0, e ∙ ap (λ v. l.0 ++ v ∷ us) (sym same))))
+    (λ (ne : x ≢ l.1). inr (inr (record { left = []; u = x; right = l.0; v = l.1; common = us; differ = ne; us_is = refl; vs_is = e })))
+    (cases_eq x l.1))
+    (last_of q.0))
+    (λ (k : Fork us vs). inr (inr (record { left = x ∷ k.left; u = k.u; right = k.right; v = k.v; common = k.common; differ = k.differ; us_is = ap (λ (l : List ℕ). x ∷ l) k.us_is; vs_is = k.vs_is })))
+    q)
+    (fork us vs)
 
 -- there is an element at each place
 pub listed_at : {X : Type 0} (xs : List X) (i : ℕ) → i < length xs → (x : X) × (slice_get xs i ≡ Some x)

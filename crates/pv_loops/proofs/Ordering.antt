@@ -1,23 +1,37 @@
 -- The order of a reduction is an order of the shape.
-use Rattle.std.proofs.Common.{◌≡◌, ◌≢◌, ℕ, ◌<◌, ◌≤◌, List, ◌∷◌, length, get_or, sym, ◌∙◌, ap, subst, arith, inl, inr, ◌⊎◌, ⊎_elim, Some, true, false}
-use Rattle.std.proofs.lemmas.Bool.{cases_lt, eqb-true}
-use Rattle.std.proofs.lemmas.Bool.Decides.{eqb_tells}
+use Rattle.std.proofs.Common.{◌≡◌, ◌≢◌, ℕ, ◌<◌, ◌≤◌, ◌+◌, ◌*◌, List, [], ◌∷◌, ◌++◌, length, map, reverse, get_or, sym, ◌∙◌, ap, subst, arith, inl, inr, ◌⊎◌, ⊎_elim, Some, None, true, false}
+use Rattle.std.proofs.lemmas.Bool.{cases_eq, cases_lt, eqb-true}
+use Rattle.std.proofs.lemmas.Bool.Decides.{eqb_tells, Decides-eqb}
 use Rattle.std.proofs.lemmas.Cmp.{nat_eq_equiv}
 use Rattle.std.proofs.Math.Dec.{eqb}
 use Rattle.std.proofs.lemmas.List.{get_or_default}
-use Rattle.std.proofs.lemmas.List.Elements.{Contains-get_or, Contains-append_right}
+use Rattle.std.proofs.lemmas.List.Elements.{Contains-get_or}
 use Rattle.std.proofs.lemmas.Option.{slice_get_within, get_or_from_slice_get}
 use Rattle.std.proofs.lemmas.Map.Keys.{IsDistinct-from_apart}
 use Rattle.std.proofs.lemmas.Map.Steps.{length-le_from_distinct_below, le-length_from_below}
 use Rattle.std.proofs.lemmas.Map.Views.{list_any-from_Contains, Contains-from_any}
-use Rattle.std.specs.Prelude.{slice_get}
-use Rattle.std.specs.List.{Contains}
+use Rattle.std.proofs.lemmas.List.Sorted.{IsNonDecreasingBy-from_all_adjacent, IsPermutation-sym, Contains-permutation, length_permutation}
+use Rattle.std.proofs.lemmas.Map.Keys.{IsDistinct-IsPermutation}
+use Rattle.std.proofs.lemmas.Map.Made.{AllPairs-from_IsDistinct}
+use Rattle.std.specs.Prelude.{slice_get, nat_eq}
+use Rattle.std.specs.Global.{Vec}
+use Rattle.std.specs.List.{Contains, AllPairs, IsDistinct}
+use Rattle.std.specs.List.Sorted.{IsNonDecreasingBy, IsPermutation, IsSortedByKey}
+use Rattle.std.specs.Cmp.Lexicographic.{slice_cmp}
+use Rattle.std.specs.Ordering.{is_lt, nat_cmp}
 use Rattle.pv_loops.specs.declared.forest.Forest.{Forest}
-use Rattle.pv_loops.specs.Shapes.{Edge, IsShape, IsReversed}
-use Rattle.pv_loops.specs.Bodies.{IsOrder, back}
-use Rattle.pv_loops.specs.Ranks.{around, IsOrdered}
-use Rattle.pv_loops.proofs.Listing.{listed_read}
-use Rattle.pv_loops.proofs.Surrounding.{Surrounds, found_in}
+use Rattle.pv_loops.specs.Shapes.{IsShape, IsReversed}
+use Rattle.pv_loops.specs.Bodies.{IsOrder}
+use Rattle.pv_loops.specs.declared.forest.TheConstants.{MAX_DEPTH}
+use Rattle.pv_loops.specs.Keys.{key_at, AreKeys}
+use Rattle.pv_loops.specs.Ranks.{around, Heads, IsOrdered, IsArranged, IsRanking}
+use Rattle.pv_loops.proofs.Bodies.{same}
+use Rattle.pv_loops.proofs.Weights.{unit, weigh, positive}
+use Rattle.pv_loops.proofs.Keyed.{digits, digits_reverse, not_less}
+use Rattle.pv_loops.proofs.Leading.{rows_long, row_headers}
+use Rattle.pv_loops.proofs.Listing.{listed_at, listed_read, found_or_not, split_at, split_has}
+use Rattle.pv_loops.proofs.Ranking as ranking
+use Rattle.pv_loops.proofs.Surrounding.{Surrounds, at_most}
 
 differ : (a b : ℕ) → a ≢ b → eqb a b ≡ false
 differ a b ne = ⊎_elim
@@ -53,28 +67,138 @@ module _ (sources : List (List ℕ)) (order place : List ℕ) (S : IsShape sourc
       let ge = le-length_from_below order (length sources) (λ q lt. list_any-from_Contains nat_eq_equiv q order (let at = O.place_in q lt in subst (λ v. Contains order v) (O.listed q lt) (Contains-get_or order (P q) 0 at))) in
       omega (arith, le, ge)
 
-  module _ (s : List (List ℕ)) (rev : IsReversed s sources) (f : Forest) (A : (x : ℕ) → Surrounds sources place x (around f x)) (is : f.order.items ≡ order) where
-    forward : (a b : ℕ) → Edge s a b → (P a < P b) ⊎ Contains (around f a) b
-    forward a b e = ⊎_elim
-        (λ (lt : P a < P b). inl lt)
-        (λ (ge : P b ≤ P a).
-        let back_edge : Edge sources b a = (rev.edges a b).1 e in
-        let q = found_in sources order place S O a (around f a) (A a) b (a, back_edge, ge) (inr (back a back_edge ge)) in
-        inr (subst (λ (l : List ℕ). Contains l b) (sym q.2) (Contains-append_right q.0 (b ∷ q.1) b (Contains-get_or (b ∷ q.1) 0 0 (omega arith)))))
-        (cases_lt (P a) (P b))
+  distinct : IsDistinct nat_eq order
+  distinct = IsDistinct-from_apart eqb order apart
 
-    pub ordered_is : IsOrdered s f
-    ordered_is = record {
-      size = ap length is ∙ size ∙ rev.size;
-      nodes = λ k x e. let lt = (place_at k x (read k x e)).0 in omega (arith, lt, rev.size);
-      each = λ x lt. (P x, ap (λ (l : List ℕ). slice_get l (P x)) is ∙ here x (omega (arith, lt, rev.size)));
-      once = λ j k x ej ek. sym (place_at j x (read j x ej)).1 ∙ (place_at k x (read k x ek)).1;
-      entry = ap (λ (l : List ℕ). slice_get l 0) is ∙ subst (λ v. slice_get order v ≡ Some 0) O.first (here 0 S.entry);
-      forward = λ j k a b ej ek e. ⊎_elim
-          (λ (lt : P a < P b). inl (omega (arith, lt, (place_at j a (read j a ej)).1, (place_at k b (read k b ek)).1)))
-          (λ (c : Contains (around f a) b). inr c)
-          (forward a b e);
-    }
-      where
-        read : (k x : ℕ) → slice_get f.order.items k ≡ Some x → slice_get order k ≡ Some x
-        read k x e = ap (λ (l : List ℕ). slice_get l k) (sym is) ∙ e
+-- the nodes in the order of their keys
+module _ (s sources : List (List ℕ)) (order place : List ℕ) (rev : IsReversed s sources) (S : IsShape sources) (O : IsOrder sources order place) (f : Forest) (A : (x : ℕ) → Surrounds sources place x (around f x))
+    (homes : length f.home.items ≡ length sources) (moved : IsPermutation order f.order.items)
+    (keys : List (Vec ℕ)) (are : AreKeys f.loops.items place f.rows keys) (sorted : IsSortedByKey (key_at keys) (slice_cmp nat_cmp) f.order.items) where
+  abbrev Q : ℕ → ℕ
+  Q x = get_or place x 0
+
+  few : (x : ℕ) → length (around f x) ≤ MAX_DEPTH
+  few x = at_most MAX_DEPTH f.loops.items (get_or f.home.items x None)
+
+  abbrev rank : ℕ → ℕ
+  rank = ranking.rank s sources order place rev S O (around f) A MAX_DEPTH few
+
+  is : IsRanking s (around f) rank
+  is = ranking.ranking_is s sources order place rev S O (around f) A MAX_DEPTH few
+
+  long : length f.order.items ≡ length order
+  long = length_permutation order f.order.items moved
+
+  -- each node stands in the order
+  node_at : (k x : ℕ) → slice_get f.order.items k ≡ Some x → x < length sources
+  node_at k x e =
+      let lt = slice_get_within f.order.items k x e in
+      let c = Contains-permutation f.order.items order x (IsPermutation-sym order f.order.items moved) (k, lt, get_or_from_slice_get f.order.items k x x e) in
+      (place_at sources order place S O c.0 x (listed_read order c.0 x c.1 c.2)).0
+
+  at_node : (x : ℕ) → x < length sources → (k : ℕ) × (slice_get f.order.items k ≡ Some x)
+  at_node x lt =
+      let e = here sources order place S O x lt in
+      let c = Contains-permutation order f.order.items x moved (Q x, slice_get_within order (Q x) x e, get_or_from_slice_get order (Q x) x x e) in
+      (c.0, listed_read f.order.items c.0 x c.1 c.2)
+
+  -- the key of a node: the digits of its rank
+  key_is : (x : ℕ) → x < length sources → key_at keys x ≡ digits Q (length order) MAX_DEPTH (x ∷ around f x)
+  key_is x lt =
+      let low : x < length f.home.items = omega (arith, lt, homes) in
+      let rows = rows_long f.loops.items f.home.items f.rows f.outwards in
+      are x (omega (arith, low, rows)) ∙ ap (λ (l : List ℕ). reverse (map Q (x ∷ l))) (row_headers f.loops.items f.home.items f.rows f.outwards x low) ∙ sym (digits_reverse Q (length order) MAX_DEPTH (x ∷ around f x))
+
+  rises : IsNonDecreasingBy rank f.order.items
+  rises = IsNonDecreasingBy-from_all_adjacent rank f.order.items (λ k d lt.
+      let x = get_or f.order.items k d in
+      let y = get_or f.order.items (k + 1) d in
+      let hx : x < length sources = node_at k x (listed_read f.order.items k x (omega arith) (get_or_default f.order.items k x d (omega arith))) in
+      let hy : y < length sources = node_at (k + 1) y (listed_read f.order.items (k + 1) y lt (get_or_default f.order.items (k + 1) y d lt)) in
+      not_less Q (length order) MAX_DEPTH (ranking.below s sources order place rev S O (around f) A MAX_DEPTH few) (x ∷ around f x) (y ∷ around f y) (let le = few x in omega arith)
+      (subst (λ (l : List ℕ). is_lt (slice_cmp nat_cmp (digits Q (length order) MAX_DEPTH (y ∷ around f y)) l) ≡ false) (key_is x hx)
+      (subst (λ (l : List ℕ). is_lt (slice_cmp nat_cmp l (key_at keys x)) ≡ false) (key_is y hy) (sorted k d (omega arith) lt))))
+
+  not_after : (j k a b : ℕ) → slice_get f.order.items j ≡ Some a → slice_get f.order.items k ≡ Some b → j ≤ k → rank a ≤ rank b
+  not_after j k a b ea eb le =
+      let r = rises j k 0 le (slice_get_within f.order.items k b eb) in
+      let p = ap rank (get_or_from_slice_get f.order.items j a 0 ea) in
+      let q = ap rank (get_or_from_slice_get f.order.items k b 0 eb) in
+      omega (arith, r, p, q)
+
+  earlier : (j k a b : ℕ) → slice_get f.order.items j ≡ Some a → slice_get f.order.items k ≡ Some b → rank a < rank b → j < k
+  earlier j k a b ea eb lt = ⊎_elim
+      (λ (less : j < k). less)
+      (λ (ge : k ≤ j). let r = not_after k j b a eb ea ge in absurd (omega (arith, r, lt)))
+      (cases_lt j k)
+
+  once : (j k x : ℕ) → slice_get f.order.items j ≡ Some x → slice_get f.order.items k ≡ Some x → j ≡ k
+  once j k x ej ek = ⊎_elim
+      (λ (lt : j < k). absurd (twice j k lt ej ek))
+      (λ (ge : k ≤ j). ⊎_elim
+      (λ (e : j ≡ k). e)
+      (λ (ne : j ≢ k). absurd (twice k j (omega arith) ek ej))
+      (cases_eq j k))
+      (cases_lt j k)
+    where
+      apart_all : AllPairs (λ x y. x ≢ y) f.order.items
+      apart_all = AllPairs-from_IsDistinct Decides-eqb f.order.items (IsDistinct-IsPermutation nat_eq nat_eq_equiv.symm order f.order.items moved (distinct sources order place S O))
+
+      twice : (j k : ℕ) → j < k → slice_get f.order.items j ≡ Some x → slice_get f.order.items k ≡ Some x → ⊥
+      twice j k lt ej ek = apart_all j k 0 lt (slice_get_within f.order.items k x ek) (get_or_from_slice_get f.order.items j x 0 ej ∙ sym (get_or_from_slice_get f.order.items k x 0 ek))
+
+  -- the entry has the lowest rank
+  entry_rank : (A : List ℕ) → (A ≡ []) ⊎ (A ≡ 0 ∷ []) → weigh Q (length order) MAX_DEPTH A 0 ≡ 0
+  entry_rank A (inl e) = subst (λ (l : List ℕ). weigh Q (length order) MAX_DEPTH l 0 ≡ 0) (sym e) (let z = ap (λ v. v * unit Q (length order) MAX_DEPTH 0) O.first in omega (arith, z))
+  entry_rank A (inr e) = subst (λ (l : List ℕ). weigh Q (length order) MAX_DEPTH l 0 ≡ 0) (sym e)
+      (let z = ap (λ v. v * unit Q (length order) MAX_DEPTH 0) O.first in let w = ap (λ v. v * unit Q (length order) MAX_DEPTH 1) O.first in omega (arith, z, w))
+
+  entry_first : slice_get f.order.items 0 ≡ Some 0
+  entry_first =
+      let k = at_node 0 S.entry in
+      let y = listed_at f.order.items 0 (let lt = slice_get_within f.order.items k.0 0 k.1 in omega (arith, lt)) in
+      let low = not_after 0 k.0 y.0 0 y.1 k.1 (omega arith) in
+      let zero_is = entry_rank (around f 0) is.first in ⊎_elim
+      (λ (lt : 0 < Q y.0). let more = positive Q (length order) MAX_DEPTH (ranking.below s sources order place rev S O (around f) A MAX_DEPTH few) (around f y.0) y.0 lt in absurd (omega (arith, low, zero_is, more)))
+      (λ (le : Q y.0 ≤ 0). y.1 ∙ ap Some (same sources order place S O y.0 0 (node_at 0 y.0 y.1) S.entry (omega (arith, le, O.first))))
+      (cases_lt 0 (Q y.0))
+
+  pub ordered_is : IsOrdered s f
+  ordered_is = record {
+    size = long ∙ size sources order place S O ∙ rev.size;
+    nodes = λ k x e. let lt = node_at k x e in omega (arith, lt, rev.size);
+    each = λ x lt. at_node x (omega (arith, lt, rev.size));
+    once = once;
+    entry = entry_first;
+    forward = λ j k a b ea eb e. let q = is.edges a b e in ⊎_elim
+        (λ (back : (around f b ≡ q.1) × Heads q.1 b). inr (split_has (around f a) q.0 b back.1.0 (q.2 ∙ ap (λ (l : List ℕ). q.0 ++ l) back.1.1)))
+        (λ (on : (rank a < rank b) × (b ≢ 0) × (((around f b ≡ q.1) × (Heads q.1 b → ⊥)) ⊎ (around f b ≡ b ∷ q.1))). inl (earlier j k a b ea eb on.0))
+        q.3;
+  }
+
+  pub arranged_is : IsArranged f
+  arranged_is = record {
+    headers = λ j k h x eh ex c.
+        let q = split_at (around f x) h c in
+        let le = (is.headers x h q.0 q.1 q.2).1 in ⊎_elim
+        (λ (lt : k < j).
+        let ge = not_after k j x h ex eh (omega arith) in
+        let one = ranking.one_rank s sources order place rev S O (around f) A MAX_DEPTH few h x (node_at j h eh) (node_at k x ex) (omega (arith, le, ge)) in
+        let e = once j k x (eh ∙ ap Some one) ex in
+        absurd (omega (arith, lt, e)))
+        (λ (ge : j ≤ k). ge)
+        (cases_lt k j);
+    together = λ i j k a b c h ea eb ec lt less ca cc. ⊎_elim
+        (λ (q : (G : List ℕ) × (B : List ℕ) × (around f b ≡ G ++ h ∷ B)). split_has (around f b) q.0 h q.1 q.2)
+        (λ (not_in : Contains (around f b) h → ⊥).
+        let p = split_at (around f a) h ca in
+        let q = split_at (around f c) h cc in
+        let own = (is.headers a h p.0 p.1 p.2).0 in
+        let at_c : around f c ≡ q.0 ++ h ∷ p.1 = q.2 ∙ ap (λ (l : List ℕ). q.0 ++ l) (sym (is.headers c h q.0 q.1 q.2).0 ∙ own) in
+        let up = not_after i j a b ea eb (omega arith) in
+        let on = not_after j k b c eb ec (omega arith) in ⊎_elim
+        (λ (low : (x : ℕ) (G : List ℕ) → around f x ≡ G ++ h ∷ p.1 → rank b < rank x). let z = low a p.0 p.2 in absurd (omega (arith, z, up)))
+        (λ (high : (x : ℕ) (G : List ℕ) → around f x ≡ G ++ h ∷ p.1 → rank x < rank b). let z = high c q.0 at_c in absurd (omega (arith, z, on)))
+        (ranking.beside s sources order place rev S O (around f) A MAX_DEPTH few h p.1 own b (node_at j b eb) (λ Y e. not_in (split_has (around f b) Y h p.1 e))))
+        (found_or_not (around f b) h);
+  }

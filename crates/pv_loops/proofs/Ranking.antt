@@ -1,18 +1,18 @@
 -- The nodes are ranked by the places of the headers around them, the outermost first, and then their own.
-use Rattle.std.proofs.Common.{◌≡◌, ◌≢◌, ℕ, zero, suc, ◌<◌, ◌≤◌, ◌+◌, ◌^◌, List, [], ◌∷◌, ◌++◌, length, get_or, refl, sym, ◌∙◌, ap, subst, arith, inl, inr, ◌⊎◌, ⊎_elim, None}
+use Rattle.std.proofs.Common.{◌≡◌, ◌≢◌, ℕ, zero, suc, ◌<◌, ◌≤◌, ◌+◌, ◌^◌, List, [], ◌∷◌, ◌++◌, length, get_or, refl, sym, ◌∙◌, ap, subst, arith, inl, inr, ◌⊎◌, ⊎_elim}
 use Rattle.std.proofs.lemmas.Bool.{cases_eq, cases_lt}
 use Rattle.std.proofs.lemmas.List.{append-nil, append_assoc, get_or_past}
 use Rattle.pv_loops.specs.Shapes.{Edge, IsShape, IsReversed}
 use Rattle.pv_loops.specs.Bodies.{IsOrder, IsHead, Reaches, back, before, InBody}
-use Rattle.pv_loops.specs.declared.forest.Forest.{Forest}
 use Rattle.pv_loops.specs.declared.forest.TheConstants.{MAX_DEPTH}
 use Rattle.pv_loops.specs.Nests.{Encloses, alone, within}
-use Rattle.pv_loops.specs.Ranks.{Heads, IsAlong, LeadsBack, turns, passes, IsRanking, HasRanking, around}
-use Rattle.pv_loops.proofs.Bodies.{head_of, body_in, body_zero, closed}
-use Rattle.pv_loops.proofs.Listing.{last_of, two_ends}
+use Rattle.pv_loops.specs.Ranks.{Heads, IsAlong, LeadsBack, turns, passes, IsRanking}
+use Rattle.pv_loops.proofs.Grouping.{source_within}
+use Rattle.pv_loops.proofs.Bodies.{same, head_of, body_in, body_zero, closed}
+use Rattle.pv_loops.proofs.Listing.{rest, last_of, Fork, fork, fork_back}
 use Rattle.pv_loops.proofs.Nesting.{low, same_head, same_around, enclosed_head}
-use Rattle.pv_loops.proofs.Surrounding.{Surrounds, found_in, around_node, at_most}
-use Rattle.pv_loops.proofs.Weights.{weigh, lower, lower_beside, not_above, heavier, below_top}
+use Rattle.pv_loops.proofs.Surrounding.{Surrounds, found_in, around_node}
+use Rattle.pv_loops.proofs.Weights.{weight, weigh, lower, less, lower_beside, not_above, heavier, below_top}
 
 module _ (s sources : List (List ℕ)) (order place : List ℕ) (rev : IsReversed s sources) (S : IsShape sources) (O : IsOrder sources order place)
     (around : ℕ → List ℕ) (surrounds : (x : ℕ) → Surrounds sources place x (around x)) (deepest : ℕ) (shallow : (x : ℕ) → length (around x) ≤ deepest) where
@@ -29,7 +29,7 @@ module _ (s sources : List (List ℕ)) (order place : List ℕ) (rev : IsReverse
   node h head = head_of sources order place S O h head
 
   -- places are below the number of nodes
-  below : (x : ℕ) → P x < length order
+  pub below : (x : ℕ) → P x < length order
   below x = ⊎_elim
       (λ (lt : x < length sources). O.place_in x lt)
       (λ (ge : length sources ≤ x). let e = get_or_past place x 0 (omega (arith, ge, O.places)) in let first = O.place_in 0 S.entry in omega (arith, e, first))
@@ -175,32 +175,85 @@ module _ (s sources : List (List ℕ)) (order place : List ℕ) (rev : IsReverse
       (q.0, b ∷ q.1, q.2, inl (own b q.1 q.3, (q.1, refl))))
       (cases_lt (P a) (P b))
 
+  -- ---- nodes of a loop and others
+
+  -- no loop around a node ends in the node itself and all the headers around it
+  never_own : (x y : ℕ) (Y : List ℕ) → around x ≡ Y ++ y ∷ around y → ⊥
+  never_own x y Y e = let q = own y (around y) (around_one x Y y (around y) e).0 in absurd (omega (arith, ap length q))
+
+  header_in : (x : ℕ) (G : List ℕ) (u : ℕ) (D : List ℕ) → around x ≡ G ++ u ∷ D → u < length sources
+  header_in x G u D e = node u (enclosed_head sources order place S O u D (around_one x G u D e).0)
+
+  row_in : (x : ℕ) → x < length sources → (G : List ℕ) (u : ℕ) (D : List ℕ) → x ∷ around x ≡ G ++ u ∷ D → u < length sources
+  row_in x hx [] u D e = subst (λ v. v < length sources) (ap (λ (l : List ℕ). get_or l 0 0) e) hx
+  row_in x hx (g ∷ G) u D e = header_in x G u D (ap rest e)
+
+  abbrev W : List ℕ → ℕ
+  W = weight P (length order) deepest
+
+  -- where two rows fork, the one with the earlier node weighs less, and so inside more headers
+  under : (us vs X : List ℕ) (k : Fork us vs) → length us ≤ deepest + 1 → P k.u < P k.v → W us < W (X ++ vs)
+  under us vs X k le lt =
+      let a = less P (length order) deepest below k.left k.u k.v k.common (omega (arith, le, ap length k.us_is)) lt in
+      let b = heavier P (length order) deepest below (X ++ k.right) (k.v ∷ k.common) in
+      let p : W us ≡ W (k.left ++ k.u ∷ k.common) = ap W k.us_is in
+      let q : W ((X ++ k.right) ++ k.v ∷ k.common) ≡ W (X ++ vs) = ap W (append_assoc X k.right (k.v ∷ k.common) ∙ ap (λ (l : List ℕ). X ++ l) (sym k.vs_is)) in
+      omega (arith, a, b, p, q)
+
+  apart : (us vs : List ℕ) (k : Fork us vs) → k.u < length sources → k.v < length sources → (P k.u < P k.v) ⊎ (P k.v < P k.u)
+  apart us vs k hu hv = ⊎_elim
+      (λ (lt : P k.u < P k.v). inl lt)
+      (λ (ge : P k.v ≤ P k.u). inr (⊎_elim
+      (λ (e : P k.u ≡ P k.v). absurd (k.differ (same sources order place S O k.u k.v hu hv e)))
+      (λ (ne : P k.u ≢ P k.v). let lt : P k.v < P k.u = omega arith in lt)
+      (cases_eq (P k.u) (P k.v))))
+      (cases_lt (P k.u) (P k.v))
+
+  -- no two nodes have one rank
+  pub one_rank : (x y : ℕ) → x < length sources → y < length sources → rank x ≡ rank y → x ≡ y
+  one_rank x y hx hy e = ⊎_elim
+      (λ (q : (Y : List ℕ) × (x ∷ around x ≡ Y ++ y ∷ around y)). inside_out x y q.0 q.1)
+      (λ (q : ((Y : List ℕ) × (y ∷ around y ≡ Y ++ x ∷ around x)) ⊎ Fork (x ∷ around x) (y ∷ around y)). ⊎_elim
+      (λ (q : (Y : List ℕ) × (y ∷ around y ≡ Y ++ x ∷ around x)). sym (inside_out y x q.0 q.1))
+      (λ (k : Fork (x ∷ around x) (y ∷ around y)). ⊎_elim
+      (λ (lt : P k.u < P k.v). let less = under (x ∷ around x) (y ∷ around y) [] k (let le = shallow x in omega arith) lt in absurd (omega (arith, less, e)))
+      (λ (lt : P k.v < P k.u). let less = under (y ∷ around y) (x ∷ around x) [] (fork_back (x ∷ around x) (y ∷ around y) [] k) (let le = shallow y in omega arith) lt in absurd (omega (arith, less, e)))
+      (apart (x ∷ around x) (y ∷ around y) k (row_in x hx k.left k.u k.common k.us_is) (row_in y hy k.right k.v k.common k.vs_is)))
+      q)
+      (fork (x ∷ around x) (y ∷ around y))
+    where
+      inside_out : (x y : ℕ) (Y : List ℕ) → x ∷ around x ≡ Y ++ y ∷ around y → x ≡ y
+      inside_out x y [] e = ap (λ (l : List ℕ). get_or l 0 0) e
+      inside_out x y (g ∷ Y) e = absurd (never_own x y Y (ap rest e))
+
+  -- a node outside a loop has a lower rank than all of its nodes, or a higher one
+  abbrev pub IsBeside : ℕ → List ℕ → ℕ → Type 0
+  IsBeside h B b = ((x : ℕ) (G : List ℕ) → around x ≡ G ++ h ∷ B → rank b < rank x) ⊎ ((x : ℕ) (G : List ℕ) → around x ≡ G ++ h ∷ B → rank x < rank b)
+
+  pub beside : (h : ℕ) (B : List ℕ) → around h ≡ h ∷ B → (b : ℕ) → b < length sources → ((Y : List ℕ) → around b ≢ Y ++ h ∷ B) → IsBeside h B b
+  beside h B e b hb out = ⊎_elim
+      (λ (q : (Y : List ℕ) × (b ∷ around b ≡ Y ++ h ∷ B)). absurd (not_in q.0 q.1))
+      (λ (q : ((Y : List ℕ) × (h ∷ B ≡ Y ++ b ∷ around b)) ⊎ Fork (b ∷ around b) (h ∷ B)). ⊎_elim
+      (λ (q : (Y : List ℕ) × (h ∷ B ≡ Y ++ b ∷ around b)). absurd (never_own h b q.0 (e ∙ q.1)))
+      (λ (k : Fork (b ∷ around b) (h ∷ B)). ⊎_elim
+      (λ (lt : P k.u < P k.v). inl (λ x G at. let less = under (b ∷ around b) (h ∷ B) (x ∷ G) k (let le = shallow b in omega arith) lt in subst (λ (l : List ℕ). rank b < W (x ∷ l)) (sym at) less))
+      (λ (lt : P k.v < P k.u). inr (λ x G at. let less = under (x ∷ G ++ h ∷ B) (b ∷ around b) [] (fork_back (b ∷ around b) (h ∷ B) (x ∷ G) k) (let le = shallow x in omega (arith, le, ap length at)) lt in subst (λ (l : List ℕ). W (x ∷ l) < rank b) (sym at) less))
+      (apart (b ∷ around b) (h ∷ B) k (row_in b hb k.left k.u k.common k.us_is) (header_in h k.right k.v k.common (e ∙ k.vs_is))))
+      q)
+      (fork (b ∷ around b) (h ∷ B))
+    where
+      not_in : (Y : List ℕ) → b ∷ around b ≡ Y ++ h ∷ B → ⊥
+      not_in [] q =
+          let same : b ≡ h = ap (λ (l : List ℕ). get_or l 0 0) q in
+          let w : B ≡ h ∷ B = sym (ap rest q) ∙ ap around same ∙ e in
+          absurd (omega (arith, ap length w))
+      not_in (g ∷ Y) q = out Y (ap rest q)
+
   keeps_together : (h : ℕ) (B G X : List ℕ) (a c b : ℕ) → around a ≡ G ++ h ∷ B → around c ≡ X ++ h ∷ B → Edge s a b → rank a < rank b → ((Y : List ℕ) → around b ≢ Y ++ h ∷ B) → rank c < rank b
   keeps_together h B G X a c b ea ec e lt out = ⊎_elim
-      (λ (later : P a < P b).
-      let q = on a b e in
-      let side = either q.1 b q.3 in ⊎_elim
-      (λ (i : (Z : List ℕ) × (q.1 ≡ Z ++ h ∷ B)). absurd (stays q.1 i.0 side i.1))
-      (λ (i : (Z : List ℕ) × (h ∷ B ≡ Z ++ q.1)). ⊎_elim
-      (λ (none : i.0 ≡ []). absurd (stays q.1 [] side (sym (i.1 ∙ ap (λ (l : List ℕ). l ++ q.1) none))))
-      (λ (j : (I : List ℕ) × (z : ℕ) × (i.0 ≡ I ++ z ∷ [])).
-      let w : h ∷ B ≡ j.0 ++ j.1 ∷ q.1 = i.1 ∙ ap (λ (l : List ℕ). l ++ q.1) j.2 ∙ append_assoc j.0 (j.1 ∷ []) q.1 in
-      let le = (around_one a (G ++ j.0) j.1 q.1 (ea ∙ ap (λ (l : List ℕ). G ++ l) w ∙ sym (append_assoc G j.0 (j.1 ∷ q.1)))).2 in
-      let high = rank_inner c (X ++ j.0) j.1 q.1 b (ec ∙ ap (λ (l : List ℕ). X ++ l) w ∙ sym (append_assoc X j.0 (j.1 ∷ q.1))) (omega (arith, le, later)) in
-      let up = rank_beside q.1 b side in
-      omega (arith, high, up))
-      (last_of i.0))
-      (two_ends q.0 q.1 G (h ∷ B) (sym q.2 ∙ ea)))
-      (λ (ge : P b ≤ P a).
-      let back_edge : Edge sources b a = (rev.edges a b).1 e in
-      let q = found_in sources order place S O a (around a) (surrounds a) b (a, back_edge, ge) (inr (back a back_edge ge)) in
-      let least = header_least a b q.0 q.1 q.2 (own b q.1 q.3) in
-      absurd (omega (arith, least, lt)))
-      (cases_lt (P a) (P b))
-    where
-      stays : (D Z : List ℕ) → (around b ≡ D) ⊎ (around b ≡ b ∷ D) → D ≡ Z ++ h ∷ B → ⊥
-      stays D Z (inl at) w = out Z (at ∙ w)
-      stays D Z (inr at) w = out (b ∷ Z) (at ∙ ap (λ (l : List ℕ). b ∷ l) w)
+      (λ (low : (x : ℕ) (G : List ℕ) → around x ≡ G ++ h ∷ B → rank b < rank x). let less = low a G ea in absurd (omega (arith, less, lt)))
+      (λ (high : (x : ℕ) (G : List ℕ) → around x ≡ G ++ h ∷ B → rank x < rank b). high c X ec)
+      (beside h B (own h B (around_one a G h B ea).0) b (source_within sources b a ((rev.edges a b).1 e)) out)
 
   pub ranking_is : IsRanking s around rank
   ranking_is = record {
@@ -211,15 +264,13 @@ module _ (s sources : List (List ℕ)) (order place : List ℕ) (rev : IsReverse
     compact = keeps_together;
   }
 
--- a forest whose homes give the headers around the nodes
-pub ranking_from : (s sources : List (List ℕ)) (order place : List ℕ) → IsReversed s sources → IsShape sources → IsOrder sources order place → (f : Forest) → ((x : ℕ) → Surrounds sources place x (around f x)) → HasRanking s f
-ranking_from s sources order place rev S O f A = (
-  rank s sources order place rev S O (around f) A MAX_DEPTH few,
+-- where the headers around the nodes are known
+pub ranking_from : (s sources : List (List ℕ)) (order place : List ℕ) → IsReversed s sources → IsShape sources → IsOrder sources order place → (around : ℕ → List ℕ) → ((x : ℕ) → Surrounds sources place x (around x)) → ((x : ℕ) → length (around x) ≤ MAX_DEPTH)
+    → (rank : ℕ → ℕ) × (top : ℕ) × ((x : ℕ) → rank x < top) × IsRanking s around rank × ((x : ℕ) → length (around x) ≤ MAX_DEPTH)
+ranking_from s sources order place rev S O around A few = (
+  rank s sources order place rev S O around A MAX_DEPTH few,
   length order ^ (MAX_DEPTH + 1),
-  in_top s sources order place rev S O (around f) A MAX_DEPTH few,
-  ranking_is s sources order place rev S O (around f) A MAX_DEPTH few,
+  in_top s sources order place rev S O around A MAX_DEPTH few,
+  ranking_is s sources order place rev S O around A MAX_DEPTH few,
   few,
 )
-  where
-    few : (x : ℕ) → length (around f x) ≤ MAX_DEPTH
-    few x = at_most MAX_DEPTH f.loops.items (get_or f.home.items x None)

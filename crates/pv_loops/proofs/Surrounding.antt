@@ -4,14 +4,14 @@ use Rattle.std.proofs.lemmas.Bool.{cases_eq, cases_lt}
 use Rattle.std.proofs.lemmas.List.{get_or_past, length-append}
 use Rattle.std.specs.Prelude.{slice_get}
 use Rattle.pv_loops.specs.declared.forest.Loop.{Loop}
-use Rattle.pv_loops.specs.declared.forest.Forest.{Forest}
+use Rattle.pv_loops.specs.declared.nest.Nest.{Nest}
 use Rattle.pv_loops.specs.declared.forest.TheConstants.{MAX_DEPTH}
 use Rattle.pv_loops.specs.declared.headers.Headers.{Headers}
 use Rattle.pv_loops.specs.Shapes.{IsShape, IsReversed}
 use Rattle.pv_loops.specs.Bodies.{IsOrder, IsHead, InBody}
 use Rattle.pv_loops.specs.Nests.{AreHeaders, Encloses, alone, within, IsHomeBefore, IsNested}
 use Rattle.pv_loops.specs.Forests.{AreAround, outermost, inner}
-use Rattle.pv_loops.specs.Ranks.{header_and, headers_from, around}
+use Rattle.pv_loops.specs.Ranks.{header_and, headers_from}
 use Rattle.pv_loops.proofs.Bodies.{head_of, body_in}
 use Rattle.pv_loops.proofs.Listing.{rest, listed_at}
 use Rattle.pv_loops.proofs.Nesting.{meets, inside, enclosed_head}
@@ -93,7 +93,7 @@ at_most (suc n) loops (Some i) = one_more (λ o. at_most n loops o) (slice_get l
     one_more outer None = omega arith
     one_more outer (Some l) = let le = outer l.parent in omega (arith, le)
 
-module _ (s sources : List (List ℕ)) (order place : List ℕ) (rev : IsReversed s sources) (S : IsShape sources) (O : IsOrder sources order place) (headers : Headers) (H : AreHeaders sources place headers) (f : Forest)
+module _ (s sources : List (List ℕ)) (order place : List ℕ) (rev : IsReversed s sources) (S : IsShape sources) (O : IsOrder sources order place) (headers : Headers) (H : AreHeaders sources place headers) (f : Nest)
     (N : IsNested sources place headers.nodes.items MAX_DEPTH (length order) f) where
   from_home : (x : ℕ) (o : Option ℕ) → IsHomeBefore sources place headers.nodes.items (length order) x o → Surrounds sources place x (headers_from MAX_DEPTH f.loops.items o)
   from_home x None q = subst (λ (A : List ℕ). Surrounds sources place x A) (sym (from_none MAX_DEPTH f.loops.items)) (λ z hz b. q z hz (O.place_in z (head_of sources order place S O z hz)) b)
@@ -105,7 +105,7 @@ module _ (s sources : List (List ℕ)) (order place : List ℕ) (rev : IsReverse
       subst (λ (A : List ℕ). Surrounds sources place x A) (sym (from_loop f.loops.items MAX_DEPTH l.0 F.around around (omega (arith, F.depth, F.shallow)) i l.1))
       (F.outer, subst (λ v. InBody sources place v x) (sym is) q.2, λ z hz b. let le = q.3 z hz (O.place_in z (head_of sources order place S O z hz)) b in let w = ap (λ v. get_or place v 0) is in omega (arith, le, w))
 
-  pub surrounds : (x : ℕ) → Surrounds sources place x (around f x)
+  pub surrounds : (x : ℕ) → Surrounds sources place x (headers_from MAX_DEPTH f.loops.items (get_or f.home.items x None))
   surrounds x = ⊎_elim
       (λ (lt : x < length sources). from_home x (get_or f.home.items x None) (N.home x lt))
       (λ (ge : length sources ≤ x). subst (λ (o : Option ℕ). Surrounds sources place x (headers_from MAX_DEPTH f.loops.items o)) (sym (get_or_past f.home.items x None (omega (arith, ge, N.homes))))

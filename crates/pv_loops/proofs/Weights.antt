@@ -6,7 +6,7 @@ use Rattle.std.proofs.Math.Nat.{pow-zero, pow-succ', add-mul}
 
 module _ (place : ℕ → ℕ) (n : ℕ) (deepest : ℕ) where
   -- what a digit below k headers counts
-  abbrev unit : ℕ → ℕ
+  abbrev pub unit : ℕ → ℕ
   unit k = n ^ (deepest - k)
 
   abbrev pub weight : List ℕ → ℕ
@@ -22,15 +22,15 @@ module _ (place : ℕ → ℕ) (n : ℕ) (deepest : ℕ) where
   cap A = weight A + n ^ (deepest + 1 - length A)
 
   module _ (below : (x : ℕ) → place x < n) where
-    one_more : (k : ℕ) → 0 < n ^ k
+    pub one_more : (k : ℕ) → 0 < n ^ k
     one_more zero = omega (arith, pow-zero n)
     one_more (suc k) = let i = one_more k in let b = below 0 in let m = mul-le 1 1 n (n ^ k) (omega arith) i in omega (arith, pow-succ' n k, m)
 
-    whole : (k : ℕ) → k ≤ deepest → n ^ (deepest + 1 - k) ≡ n * unit k
+    pub whole : (k : ℕ) → k ≤ deepest → n ^ (deepest + 1 - k) ≡ n * unit k
     whole k le = ap (λ v. n ^ v) (let e : deepest + 1 - k ≡ suc (deepest - k) = omega arith in e) ∙ pow-succ' n (deepest - k)
 
     -- a lower digit
-    lower_digit : (a b u : ℕ) → a < b → a * u + u ≤ b * u
+    pub lower_digit : (a b u : ℕ) → a < b → a * u + u ≤ b * u
     lower_digit a b u lt = let m = mul-le (a + 1) u b u (omega arith) (omega arith) in omega (arith, add-mul a 1 u, m)
 
     below_cap : (A : List ℕ) (x : ℕ) → length A ≤ deepest → weigh A x < cap A
@@ -63,6 +63,14 @@ module _ (place : ℕ → ℕ) (n : ℕ) (deepest : ℕ) where
 
     pub not_above : (D : List ℕ) (a b : ℕ) → place a ≤ place b → weigh D a ≤ weigh D b
     not_above D a b le = let d = mul-le (place a) (unit (length D)) (place b) (unit (length D)) le (omega arith) in omega arith
+
+    -- a row whose last digit that differs is lower weighs less
+    pub less : (G : List ℕ) (u v : ℕ) (D : List ℕ) → length (G ++ u ∷ D) ≤ deepest + 1 → place u < place v → weight (G ++ u ∷ D) < weight (v ∷ D)
+    less [] u v D le lt = lower_beside D u v lt
+    less (x ∷ G) u v D le lt = lower G u D x v (omega arith) lt
+
+    pub positive : (A : List ℕ) (x : ℕ) → 0 < place x → 0 < weigh A x
+    positive A x lt = let p = one_more (deepest - length A) in let d = lower_digit 0 (place x) (unit (length A)) lt in omega (arith, p, d)
 
     -- headers add to the weight
     pub heavier : (G A : List ℕ) → weight A ≤ weight (G ++ A)

@@ -6,6 +6,8 @@ pub mod Groups
 pub mod Reductions
 pub mod Bodies
 pub mod Nests
+pub mod Outwards
+pub mod Keys
 pub mod Forests
 pub mod Ranks
 pub mod Faults

@@ -3,7 +3,7 @@ use Rattle.std.specs.Prelude.{◌≡◌, ◌≢◌, ℕ, ◌<◌, ◌≤◌, ◌
 use Rattle.std.specs.List.{Contains, IsDistinct}
 use Rattle.std.specs.List.Sorted.{IsStrictlyIncreasing}
 use Rattle.pv_loops.specs.declared.forest.Loop.{Loop}
-use Rattle.pv_loops.specs.declared.forest.Forest.{Forest}
+use Rattle.pv_loops.specs.declared.nest.Nest.{Nest}
 use Rattle.pv_loops.specs.declared.headers.Headers.{Headers}
 use Rattle.pv_loops.specs.Bodies.{IsHead, InBody, AreBody}
 
@@ -53,7 +53,7 @@ IsHomeBefore sources place headers n x (Some i) = (i < length headers) × (slice
     × ((z : ℕ) → IsHead sources place z → slice_index place z < n → InBody sources place z x → slice_index place z ≤ slice_index place (slice_index headers i))
 
 -- a loop for each header, those of the headers before place n filled, and the homes of nodes in these
-pub record IsNested (sources : List (List ℕ)) (place headers : List ℕ) (most n : ℕ) (f : Forest) : Type 0 where
+pub record IsNested (sources : List (List ℕ)) (place headers : List ℕ) (most n : ℕ) (f : Nest) : Type 0 where
   pub size : length f.loops.items ≡ length headers
   pub header : (i : ℕ) (l : Loop) → slice_get f.loops.items i ≡ Some l → l.header ≡ slice_index headers i
   pub homes : length f.home.items ≡ length sources

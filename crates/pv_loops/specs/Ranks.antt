@@ -30,6 +30,14 @@ pub record IsOrdered (s : List (List ℕ)) (f : Forest) : Type 0 where
   pub entry : slice_get f.order.items 0 ≡ Some 0
   pub forward : (j k a b : ℕ) → slice_get f.order.items j ≡ Some a → slice_get f.order.items k ≡ Some b → Edge s a b → (j < k) ⊎ Contains (around f a) b
 
+-- in the order of a forest the nodes of a loop stand together
+pub record IsArranged (f : Forest) : Type 0 where
+  -- a header comes before the other nodes of its loop
+  pub headers : (j k h x : ℕ) → slice_get f.order.items j ≡ Some h → slice_get f.order.items k ≡ Some x → Contains (around f x) h → j ≤ k
+  -- what stands between two nodes of a loop is in the loop
+  pub together : (i j k a b c h : ℕ) → slice_get f.order.items i ≡ Some a → slice_get f.order.items j ≡ Some b → slice_get f.order.items k ≡ Some c → i < j → j < k
+      → Contains (around f a) h → Contains (around f c) h → Contains (around f b) h
+
 -- m is the first of these headers
 abbrev pub Heads : List ℕ → ℕ → Type 0
 Heads A m = (B : List ℕ) × (A ≡ m ∷ B)

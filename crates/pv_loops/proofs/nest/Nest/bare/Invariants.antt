@@ -1,5 +1,5 @@
 use Rattle.pv_loops.proofs.Filling.{Baring}
-use Rattle.pv_loops.proofs.forest.Forest.bare.Given as goal
+use Rattle.pv_loops.proofs.nest.Nest.bare.Given as goal
 
 abbrev pub invariant-loop-h : goal.invariant-loop-h
 invariant-loop-h l = Baring l.headers l.loops.items l.h-index

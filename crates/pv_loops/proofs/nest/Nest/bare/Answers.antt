@@ -2,7 +2,7 @@ use Rattle.std.proofs.Common.{◌≡◌, ℕ, List, length, get_or, ◌∙◌, a
 use Rattle.std.proofs.lemmas.List.{get_or-replicate, length-replicate}
 use Rattle.pv_loops.specs.declared.forest.TheConstants.{MAX_DEPTH}
 use Rattle.pv_loops.proofs.Filling.{Baring, bare_nested}
-use Rattle.pv_loops.proofs.forest.Forest.bare.Goals as goal
+use Rattle.pv_loops.proofs.nest.Nest.bare.Goals as goal
 
 pub returns : goal.returns
 returns c =

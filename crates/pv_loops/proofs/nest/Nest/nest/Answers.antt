@@ -7,8 +7,8 @@ use Rattle.std.specs.Vec.{with_item, with_items}
 use Rattle.pv_loops.specs.Nests.{Encloses, KeepsHomes}
 use Rattle.pv_loops.proofs.Listing.{read_at}
 use Rattle.pv_loops.proofs.Filling.{head_here, nested_skip, nested_more, depth_alone, depth_parent, filled_now, home_unused, too_deep}
-use Rattle.pv_loops.proofs.forest.Forest.nest.Goals as goal
-use Rattle.pv_loops.proofs.forest.Forest.nest.Goals.{in-None, in-Some-parent}
+use Rattle.pv_loops.proofs.nest.Nest.nest.Goals as goal
+use Rattle.pv_loops.proofs.nest.Nest.nest.Goals.{in-None, in-Some-parent}
 
 pub returns-in_default-clause-nested : goal.returns-in_default-clause-nested
 returns-in_default-clause-nested c =
@@ -74,7 +74,7 @@ returns-clause-nested c =
     let marked = c.in_ok-members.ensures.marked in
     let kept : KeepsHomes c.in-Some.i c.args.self.now.home.items c.body.new.home = subst (λ (m : List (Option ℕ)). KeepsHomes c.in-Some.i m c.body.new.home) c.deref_mut.ensures.value c.in_ok-members.ensures.kept in
     nested_more c.args.sources.now c.args.order.now.nodes.items c.args.order.now.place.items c.requires.shape c.requires.order c.args.headers.now c.requires.headers MAX_DEPTH c.args.self.now c.args.h c.requires.nested c.requires.node found.2
-    c.in-Some.i l (record { loops = with_item c.args.self.now.loops c.in-Some.i l; home = with_items c.args.self.now.home c.body.new.home; order = c.args.self.now.order }) found.0 found.1 refl
+    c.in-Some.i l (record { loops = with_item c.args.self.now.loops c.in-Some.i l; home = with_items c.args.self.now.home c.body.new.home }) found.0 found.1 refl
     (filled_now c.args.sources.now c.args.order.now.nodes.items c.args.order.now.place.items c.requires.shape c.requires.order c.args.headers.now c.requires.headers MAX_DEPTH c.args.self.now c.args.h c.requires.nested c.requires.node found.2
     l c.in_ok-members.members.items refl d.0 d.1 c.if-depth-gt-MAX_DEPTH.false c.in_ok-members.ensures.body marked.distinct c.sort_unstable.ensures.permutation (IsNonDecreasingBy-from_sort (λ x. x) c.sort_unstable.new.self.items c.sort_unstable.ensures.sorted))
     refl c.in_ok-members.members.items c.body.new.home c.in_ok-members.ensures.body (with_items_is c.args.self.now.home c.body.new.home (kept.size ∙ sym c.args.self.now.home.ok.0)) marked kept

@@ -1,6 +1,6 @@
 use Rattle.pv_loops.specs.Nests.{IsNested}
 use Rattle.pv_loops.specs.declared.forest.TheConstants.{MAX_DEPTH}
-use Rattle.pv_loops.proofs.forest.Forest.fill.Given as goal
+use Rattle.pv_loops.proofs.nest.Nest.fill.Given as goal
 
 abbrev pub invariant-loop-h : goal.invariant-loop-h
 invariant-loop-h l = IsNested l.sources l.order.place.items l.headers.nodes.items MAX_DEPTH l.h-index l.self

@@ -2,7 +2,7 @@
 """Draws the crates by layers, as docs/layers.svg: tests/layers.py > docs/layers.svg
 
 What stands on what comes from crates.txt: a line leads to each crate below that no other crate between them has. Only the place of a crate is said here. The
-libraries of cases are left out.
+libraries of cases and of worked examples are left out.
 """
 
 import os
@@ -52,7 +52,7 @@ def stands_on(name):
 
 def drawing():
     at = places()
-    missing = [it for it in LISTS if it not in at and not it.startswith("cases")]
+    missing = [it for it in LISTS if it not in at and not it.startswith(("cases", "examples"))]
     if missing:
         sys.exit(f"no layer for {', '.join(missing)}")
     wide, high = LEFT + 7 * ACROSS + 30, len(LAYERS) * DOWN

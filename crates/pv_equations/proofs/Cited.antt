@@ -5,4 +5,7 @@ pub use Rattle.pv_equations.proofs.Walks.{IsNode, Walk, Walks, go, header_back, 
 pub use Rattle.pv_equations.proofs.Machine.{after_rest}
 pub use Rattle.pv_equations.proofs.Free.{FreeAll}
 pub use Rattle.pv_equations.proofs.Levels.{free_seen}
-pub use Rattle.pv_equations.proofs.Law.{graph_machine, solvable}
+pub use Rattle.pv_equations.proofs.Law.{graph_blocks, graph_machine, solvable}
+pub use Rattle.pv_equations.proofs.Search.{below}
+pub use Rattle.pv_equations.proofs.Decide.{Code, of_op, op_back, op_of}
+pub use Rattle.pv_equations.proofs.Exists.{solution}

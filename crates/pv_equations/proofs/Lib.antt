@@ -23,13 +23,4 @@ pub mod Bare
 pub mod Build
 pub mod Exists
 pub mod Decide
-pub mod Tests
-pub mod Places
-pub mod Evaluate
-pub mod Flows
-pub mod Shapes
-pub mod Typed
-pub mod Running
-pub mod Examples
-pub mod ExampleRuns
 pub mod Cited

@@ -26,5 +26,4 @@ pub mod Typed
 pub mod Carried
 pub mod Ranked
 pub mod Converted
-mod Examples
 pub mod Cited

@@ -8,8 +8,8 @@ use Rattle.pv_graph.specs.Ops.{shape, plain}
 use Rattle.pv_equations.specs.Exp.{Exp, Over, NoExp, one, two, three}
 use Rattle.pv_equations.specs.Flow.{Part, Slot, Of, NoPart, More, Return, Throw, Dest, To, End, Exit, Chain, Leave, Test, Flow}
 use Rattle.pv_equations.specs.Equations.{Values, first_kid}
-use Rattle.pv_equations.proofs.Tests.{member}
-use Rattle.pv_equations.proofs.Evaluate.{Wanted}
+use Rattle.examples_flows.proofs.Tests.{member}
+use Rattle.examples_flows.proofs.Evaluate.{Wanted}
 
 -- ---- parts and exits; slots 0 to 3 are the token, the fault, the result and the heap, and locals follow
 

@@ -2,7 +2,7 @@
 use Rattle.std.proofs.Common.{◌≡◌, ℕ, zero, suc, Bool, true, false, not, ◌&&◌, ◌||◌, List, [], ◌∷◌, ◌++◌, ◌⊎◌, inl, inr, ⊎_elim, refl, sym, ap, ◌∙◌, subst, ◌==◌, if◌then◌else◌}
 use Rattle.pv_equations.specs.Flow.{Dest, To, End, Exit, Chain, Leave, Test, InChain, Flow}
 use Rattle.pv_equations.specs.Equations.{Target, Node, Back, Finish, Returning, Leaving, Place, On, Again, Header, Gone, Lands, beside, enters, again, header, leaves, gone, Hits, Ahead, now, later}
-use Rattle.pv_equations.proofs.Tests.{same_number, number_self, and_parts, or_parts, or_neither, not_both, same_list, list_self, ends_with, ends_self, ends_more, ends_not, longer_not, member, heads_by, heads_true, heads_false}
+use Rattle.examples_flows.proofs.Tests.{same_number, number_self, and_parts, or_parts, or_neither, not_both, same_list, list_self, ends_with, ends_self, ends_more, ends_not, longer_not, member, heads_by, heads_true, heads_false}
 
 -- ---- places
 

@@ -4,9 +4,9 @@ use Rattle.std.proofs.lemmas.Bool.{leb-true, le-leb}
 use Rattle.pv_loops.specs.Ranks.{Heads}
 use Rattle.pv_equations.specs.Flow.{Part, Parts, Slot, Of, NoPart, More, NamesBelow, AllBelow, Dest, To, End, Exit, InChain, InTests, Flow, TokenPart, kept as same_token, Edge, LeadsBack, turns, passes, Shape, Compact, IsFinite}
 use Rattle.pv_equations.specs.Equations.{Values, AreEquations}
-use Rattle.pv_equations.proofs.Tests.{same_number, number_self, and_parts, or_parts, not_both, same_list, same_list_true, ends_with, ends_true, ends_self, member, heads_by, heads_true, heads_false}
-use Rattle.pv_equations.proofs.Exists.{solution}
-use Rattle.pv_equations.proofs.Flows.{Block, Way, Ways, Go, If, exit_of, chain_of, slots_of, block_at, no_block, flow_of}
+use Rattle.examples_flows.proofs.Tests.{same_number, number_self, and_parts, or_parts, not_both, same_list, same_list_true, ends_with, ends_true, ends_self, member, heads_by, heads_true, heads_false}
+use Rattle.pv_equations.proofs.Cited.{solution}
+use Rattle.examples_flows.proofs.Flows.{Block, Way, Ways, Go, If, exit_of, chain_of, slots_of, block_at, no_block, flow_of}
 
 abbrev at_least : ℕ → ℕ → Bool
 at_least n m = nat_le m n

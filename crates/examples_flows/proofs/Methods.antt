@@ -29,7 +29,7 @@ use Rattle.pv_runs.specs.Held.{unit_part, clear_part, null_part, int_part, local
 use Rattle.pv_runs.specs.Chains.{two_parts, ieq, ilt, aeq}
 use Rattle.pv_runs.specs.Blocks.{block_chain}
 use Rattle.pv_runs.specs.Carrying.{always_carried, writes_in, carries}
-use Rattle.pv_runs.proofs.Departures.{exits_of}
+use Rattle.pv_runs.proofs.Cited.{exits_of}
 
 -- a static method, with room enough
 abbrev method : List JType → Option JType → ℕ → List Action → Program

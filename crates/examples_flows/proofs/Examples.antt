@@ -5,9 +5,9 @@ use Rattle.pv_equations.specs.Exp.{Exp, Name, Over, NoExp, Then, two, three, mad
 use Rattle.pv_equations.specs.Flow.{Slot, Of, NoPart, Flow}
 use Rattle.pv_equations.specs.Equations.{Values, AreEquations, unit_exp, never_exp}
 use Rattle.pv_equations.specs.Root.{root_of}
-use Rattle.pv_equations.proofs.Shapes.{shaped_solution}
-use Rattle.pv_equations.proofs.Evaluate.{Wanted, at_block, where_entered, where_again, whether_left, solved, solved_root}
-use Rattle.pv_equations.proofs.Flows.{Block, Go, If, block, header, flow_of, goes, returns, throws, int_part, add_part, less_part, each, Kids, int, add, less, phi, param, clear, heap, eval}
+use Rattle.examples_flows.proofs.Shapes.{shaped_solution}
+use Rattle.examples_flows.proofs.Evaluate.{Wanted, at_block, where_entered, where_again, whether_left, solved, solved_root}
+use Rattle.examples_flows.proofs.Flows.{Block, Go, If, block, header, flow_of, goes, returns, throws, int_part, add_part, less_part, each, Kids, int, add, less, phi, param, clear, heap, eval}
 
 abbrev root : Exp → Exp → Exp → Exp → Exp
 root t x r m = Over op.Root (Then t (three x r m))

@@ -11,9 +11,9 @@ use Rattle.pv_loops.specs.Ranks.{Heads}
 use Rattle.pv_equations.specs.Flow.{Part, Parts, Slot, Of, NoPart, More, put, put_all, Return, Throw, Dest, To, End, Exit, Chain, Leave, Test, Flow}
 use Rattle.pv_equations.specs.Equations.{Target, Node, Back, Finish, Returning, Leaving, Place, On, Again, Header, Gone, Ended, Seen, Joins, IsChain, Values, outs, token_out, token_outs, leaf, AtPlace, IsExit, IsTree, OfToken, FreeIn, theta, name, entered, begun, kid, first_kid, tree_of, first_of_region, first_loops, or_else, Given, never_exp, true_exp, false_exp, at_start, AreEquations}
 use Rattle.pv_equations.specs.Root.{root_of}
-use Rattle.pv_equations.proofs.Search.{below}
-use Rattle.pv_equations.proofs.Tests.{same_number, number_self, and_parts, or_parts, or_neither, not_both, same_list, same_list_true, list_self, heads_by, heads_true, heads_false, same_exp, same_exp_true, same_exp_false}
-use Rattle.pv_equations.proofs.Places.{place_by, place_is, ahead_by, ahead_true, lost_in, lost_of, lost_true}
+use Rattle.pv_equations.proofs.Cited.{below}
+use Rattle.examples_flows.proofs.Tests.{same_number, number_self, and_parts, or_parts, or_neither, not_both, same_list, same_list_true, list_self, heads_by, heads_true, heads_false, same_exp, same_exp_true, same_exp_false}
+use Rattle.examples_flows.proofs.Places.{place_by, place_is, ahead_by, ahead_true, lost_in, lost_of, lost_true}
 
 -- ---- what is free
 

@@ -4,7 +4,7 @@ use Rattle.std.proofs.lemmas.Bool.Decides.{Decides-eqb}
 use Rattle.pv_graph.specs.declared.node.Op.{Op}
 use Rattle.pv_equations.specs.Exp.{Exp, Exps, Name, Over, NoExp, Then}
 use Rattle.pv_loops.specs.Ranks.{Heads}
-use Rattle.pv_equations.proofs.Decide.{Code, of_op, op_of, op_back}
+use Rattle.pv_equations.proofs.Cited.{Code, of_op, op_of, op_back}
 
 pub same_number : (a b : ℕ) → (a == b) ≡ true → a ≡ b
 same_number a b e = (Decides-eqb a b).0 e

@@ -29,11 +29,10 @@ use Rattle.pv_graph.specs.Unfold.{UnfoldsAs}
 use Rattle.pv_equations.specs.Exp.{Exp}
 use Rattle.pv_equations.specs.Equations.{Values, form_of, AreEquations}
 use Rattle.pv_equations.specs.Root.{root_of, IsOutcome, EndsWith, Finishes}
-use Rattle.pv_equations.proofs.Law.{graph_blocks}
-use Rattle.pv_equations.proofs.Follow.{chooses_in}
-use Rattle.pv_equations.proofs.Tests.{and_parts, or_parts}
-use Rattle.pv_equations.proofs.Flows.{Block, Way, Ways, Go, If, exit_of, chain_of, slots_of, block_at, flow_of}
-use Rattle.pv_equations.proofs.Shapes.{all_below, below_true, all_ways, ways_true, is_slot, slot_true, less_true, rank_at, is_shaped, shaped, shape_is, below_top, deep}
+use Rattle.pv_equations.proofs.Cited.{graph_blocks, chooses_in}
+use Rattle.examples_flows.proofs.Tests.{and_parts, or_parts}
+use Rattle.examples_flows.proofs.Flows.{Block, Way, Ways, Go, If, exit_of, chain_of, slots_of, block_at, flow_of}
+use Rattle.examples_flows.proofs.Shapes.{all_below, below_true, all_ways, ways_true, is_slot, slot_true, less_true, rank_at, is_shaped, shaped, shape_is, below_top, deep}
 
 -- ---- sorts of values
 

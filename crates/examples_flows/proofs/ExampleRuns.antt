@@ -18,10 +18,10 @@ use Rattle.pv_equations.specs.Exp.{Exp}
 use Rattle.pv_equations.specs.Flow.{Part, Slot, PartIs, Kind, Return, To, End, Exit, Flow, Chooses, Steps, Runs, ends, goes, Starts}
 use Rattle.pv_equations.specs.Equations.{Values, form_of, AreEquations}
 use Rattle.pv_equations.specs.Root.{root_of}
-use Rattle.pv_equations.proofs.Flows.{Block, flow_of, exit_of, goes as goes_on, add_part, less_part, int_part}
-use Rattle.pv_equations.proofs.Typed.{a_unit, an_int, a_clear, a_heap, Sort, RootLaw, root_law, part_once}
-use Rattle.pv_equations.proofs.Running.{Ended, value_at, run_by, run_true, part_true}
-use Rattle.pv_equations.proofs.Examples.{straight_blocks, thrower_blocks, diamond_blocks, sum_loop_blocks, entry_loop_blocks, endless_blocks, nested_blocks, breaks_blocks}
+use Rattle.examples_flows.proofs.Flows.{Block, flow_of, exit_of, goes as goes_on, add_part, less_part, int_part}
+use Rattle.examples_flows.proofs.Typed.{a_unit, an_int, a_clear, a_heap, Sort, RootLaw, root_law, part_once}
+use Rattle.examples_flows.proofs.Running.{Ended, value_at, run_by, run_true, part_true}
+use Rattle.examples_flows.proofs.Examples.{straight_blocks, thrower_blocks, diamond_blocks, sum_loop_blocks, entry_loop_blocks, endless_blocks, nested_blocks, breaks_blocks}
 
 -- the sorts at a block: these locals are ints
 abbrev with_locals : List Sort → List Sort

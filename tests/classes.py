@@ -168,10 +168,10 @@ def is_induction(nodes, fixed, depth, least, pairs):
 
 
 def firsts(nodes, least):
-    """The nodes that are the first of their form."""
+    """The nodes that are the first of their form in their class."""
     seen = {}
     for n, (operation, kids) in enumerate(nodes):
-        seen.setdefault((operation, tuple(least[kid] for kid in kids)), n)
+        seen.setdefault((least[n], operation, tuple(least[kid] for kid in kids)), n)
     return list(seen.values())
 
 

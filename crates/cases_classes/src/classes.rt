@@ -15,7 +15,7 @@
 //! | `joined FIRST SECOND` | whether two nodes are in one class |
 //! | `members NODE` | the nodes of a node's class, ascending |
 //! | `class OPERATION KID ..` | the number of a class with a node of this operation over kids of the classes of these; `-` if there is none |
-//! | `firsts` | the nodes that are the first of their form |
+//! | `firsts` | the nodes that are the first of their form in their class |
 //! | `with NUMBER` | the nodes whose operation has this number |
 //! | `joins` | the joins, as `2=5 kids`, `2=5 axiom 1 [3, 4]`, `2=5 induction 0` (the number of a block) or `2=5 pair 0` |
 //! | `blocks` | the blocks of inductions, each as `(DEPTH PAIRS: JOINS)`, with the blocks inside it before the colon |

@@ -1,5 +1,5 @@
 -- Nodes of one form are those of one key.
-use Rattle.std.proofs.Common.{◌≡◌, ◌≢◌, ◌⊎◌, ◌↔◌, inl, inr, ℕ, ◌+◌, ◌<◌, Bool, true, false, List, [], ◌∷◌, ◌++◌, length, Option, Some, None, get_or, slice_get, slice_index_or, IsTrue, refl, sym, ◌∙◌, ap, subst, arith, true≢false}
+use Rattle.std.proofs.Common.{◌≡◌, ◌≢◌, ◌⊎◌, ◌↔◌, inl, inr, ℕ, zero, suc, ◌+◌, ◌<◌, Bool, true, false, List, [], ◌∷◌, ◌++◌, length, Option, Some, None, get_or, slice_get, slice_index_or, IsTrue, refl, sym, ◌∙◌, ap, subst, arith, true≢false}
 use Rattle.std.specs.List.{All, Contains, AllZip}
 use Rattle.std.proofs.lemmas.List.{length-append, get_or_append_left, get_or_at}
 use Rattle.std.proofs.lemmas.Option.{slice_get_within, same_Some, none-some}
@@ -11,9 +11,9 @@ use Rattle.pv_graph.specs.contracts.node.NodeEq.TheImpl.Laws.{laws-law}
 use Rattle.pv_graph.proofs.Cited.{same_nodes, same_or_other}
 use Rattle.pv_classes.specs.Partition.{Parts, IsPartition, IsKept, at, AreOne}
 use Rattle.pv_classes.specs.Closest.{Is}
-use Rattle.pv_classes.specs.Forms.{HasForm, IsClassWith, AreFirst, AreMembers}
+use Rattle.pv_classes.specs.Forms.{HasForm, IsClassWith, IsFirst, AreFirst, AreMembers}
 use Rattle.pv_classes.specs.Index.{Index, IsEntry, IsFound, IsIndex, IsTracked, Enters, found_by, found_in, first_of, key_of, labels_of}
-use Rattle.pv_classes.specs.Keyed.{HasKey, IsKeyedIn, IsNodeWith, Keeps, IsFirstKey, AreFirstKeys, AreFirstTo}
+use Rattle.pv_classes.specs.Keyed.{HasKey, HasClassKey, class_key, IsAlone, IsKeyedIn, IsNodeWith, Keeps, Notes, IsFirstKey, AreFirstKeys, AreFirstTo}
 use Rattle.pv_classes.proofs.Elements.{zip_map}
 use Rattle.pv_classes.proofs.Keys.{labels_one, zip_labels}
 
@@ -143,46 +143,103 @@ keeps_old old key n some = record {
   lacks = λ other. ((λ e. (e, (λ s. none-some n (sym e ∙ ap (found_in old) (sym s) ∙ some)))), (λ l. l.0));
 }
 
+-- ---- .. in its class
+
+pub alone_members : (labels : List ℕ) (n one : ℕ) (others : List ℕ) → AreMembers labels n one others → others ≡ [] → n < length labels → IsAlone labels n
+alone_members labels n one others members none lt m low e = sym (is_one m (members.each m).1 (low, e)) ∙ is_one n (members.each n).1 (lt, refl)
+  where
+    empty_has : (k : ℕ) → Contains [] k → ⊥
+    empty_has k c = let lt = c.1 in absurd (omega arith)
+
+    is_one : (k : ℕ) → ((k < length labels) × AreOne labels k n → (one ≡ k) ⊎ Contains others k) → (k < length labels) × AreOne labels k n → one ≡ k
+    is_one k h is = elim (h is) [ inl e ↦ e | inr c ↦ absurd (empty_has k (subst (λ (xs : List ℕ). Contains xs k) none c)) ]
+
+pub all_first : (n l : ℕ) (kids : List ℕ) → n < l → All (λ k. k < l) kids → All (λ k. k < l) (n ∷ kids)
+all_first n l kids here all zero d lt = here
+all_first n l kids here all (suc k) d lt = all k d (omega arith)
+
+pub key_class : (labels : List ℕ) (m n : ℕ) (node other : Node) → class_key labels m other ≡ class_key labels n node → AreOne labels m n × (key_of labels other ≡ key_of labels node)
+key_class labels m n node other e =
+    let kids = ap (λ (x : Node). x.kids) e in
+    (ap (λ (xs : List ℕ). at xs 0) kids, ap (λ (x : Node). node_of x.op (rest x.kids)) e)
+
+pub class_keys : (labels : List ℕ) (m n : ℕ) (node other : Node) → AreOne labels m n → key_of labels other ≡ key_of labels node → class_key labels m other ≡ class_key labels n node
+class_keys labels m n node other one e =
+    ap (λ (x : Node). node_of x.op (at labels m ∷ x.kids)) e ∙ ap (λ (l : ℕ). node_of node.op (l ∷ labels_of labels node.kids)) one
+
 pub first_none : (nodes : List Node) (labels : List ℕ) → AreFirstTo 0 nodes labels [] []
 first_none nodes labels = record {
   long = refl;
-  lacks = λ key. ((λ e m lt. absurd (omega arith)), (λ h. refl));
+  alone = λ key e m lt. absurd (omega arith);
+  lacks = λ key h. refl;
   each = λ k lt. absurd (omega arith);
 }
 
-pub first_more : (n : ℕ) (nodes : List Node) (labels : List ℕ) (seen after : List (Node × ℕ)) (firsts more : List Bool) (node : Node) (is_new : Bool) → slice_get nodes n ≡ Some node → AreFirstTo n nodes labels seen firsts
-    → Keeps seen after (key_of labels node) is_new → more ≡ firsts ++ is_new ∷ [] → AreFirstTo (n + 1) nodes labels after more
-first_more n nodes labels seen after firsts more node is_new is h k e = record {
-  long = ap length e ∙ omega (arith, length-append firsts (is_new ∷ []), h.long);
-  lacks = λ key. (
-    (λ none m lt. lacks key ((k.lacks key).0 none) m (before m lt)),
-    (λ out. (k.lacks key).1 ((h.lacks key).1 (λ m lt. out m (omega arith)), (λ s. out n (omega arith) (node, is, s)))),
-  );
-  each = λ m lt. each m (before m lt);
-}
-  where
-    before : (m : ℕ) → m < n + 1 → (m < n) ⊎ (m ≡ n)
-    before m lt = grind arith
+module _ (n : ℕ) (nodes : List Node) (labels : List ℕ) (below : n < length labels) (seen after : List (Node × ℕ)) (firsts : List Bool) (is_new : Bool) (h : AreFirstTo n nodes labels seen firsts) where
+  before : (m : ℕ) → m < n + 1 → (m < n) ⊎ (m ≡ n)
+  before m lt = grind arith
 
-    lacks : (key : Node) → (found_in seen key ≡ None) × (key_of labels node ≢ key) → (m : ℕ) → (m < n) ⊎ (m ≡ n) → HasKey nodes labels key m → ⊥
-    lacks key l m (inl lt) has = (h.lacks key).0 l.0 m lt has
-    lacks key l m (inr same) has =
-        let one : has.0 ≡ node = same_Some has.0 node (sym has.1 ∙ ap (slice_get nodes) same ∙ is) in
-        l.1 (ap (key_of labels) (sym one) ∙ has.2)
+  -- a node before n in its class isn't alone
+  not_alone : (m : ℕ) → m < n → IsAlone labels m → AreOne labels m n → ⊥
+  not_alone m lt is one = let e = is n below (sym one) in absurd (omega arith)
 
-    here : IsTrue is_new ↔ IsFirstKey nodes labels n
-    here = (
-      (λ t m other lt at_ has. (h.lacks (key_of labels node)).0 (k.says.0 t) m lt (subst (λ (x : Node). HasKey nodes labels (key_of labels x) m) (same_Some other node (sym at_ ∙ is)) has)),
-      (λ first. k.says.1 ((h.lacks (key_of labels node)).1 (λ m lt has. first m node lt is has))),
-    )
+  found_or_none : (key : Node) → (found_in seen key ≡ None) ⊎ (found_in seen key ≡ None → ⊥)
+  found_or_none key = go (found_in seen key) refl
+    where
+      go : (o : Option ℕ) → found_in seen key ≡ o → (found_in seen key ≡ None) ⊎ (found_in seen key ≡ None → ⊥)
+      go None e = inl e
+      go (Some k) e = inr (λ none. none-some k (sym none ∙ e))
 
-    each : (m : ℕ) → (m < n) ⊎ (m ≡ n) → IsTrue (slice_index_or more m false) ↔ IsFirstKey nodes labels m
-    each m (inl lt) =
-        let same : slice_index_or more m false ≡ slice_index_or firsts m false = ap (λ (xs : List Bool). slice_index_or xs m false) e ∙ get_or_append_left firsts (is_new ∷ []) false m (subst (λ (l : ℕ). m < l) (sym h.long) lt) in
-        subst (λ (b : Bool). IsTrue b ↔ IsFirstKey nodes labels m) (sym same) (h.each m lt)
-    each m (inr s) =
-        let same : slice_index_or more m false ≡ is_new = ap (λ (xs : List Bool). slice_index_or xs m false) e ∙ get_or_at firsts is_new [] false m (h.long ∙ sym s) in
-        subst (λ (b : Bool). IsTrue b ↔ IsFirstKey nodes labels m) (sym same) (subst (λ (l : ℕ). IsTrue is_new ↔ IsFirstKey nodes labels l) (sym s) here)
+  more_firsts : (IsTrue is_new ↔ IsFirstKey nodes labels n) → (m : ℕ) → (m < n) ⊎ (m ≡ n) → IsTrue (slice_index_or (firsts ++ is_new ∷ []) m false) ↔ IsFirstKey nodes labels m
+  more_firsts here m (inl lt) =
+      subst (λ (b : Bool). IsTrue b ↔ IsFirstKey nodes labels m) (sym (get_or_append_left firsts (is_new ∷ []) false m (subst (λ (l : ℕ). m < l) (sym h.long) lt))) (h.each m lt)
+  more_firsts here m (inr s) =
+      subst (λ (b : Bool). IsTrue b ↔ IsFirstKey nodes labels m) (sym (get_or_at firsts is_new [] false m (h.long ∙ sym s))) (subst (λ (l : ℕ). IsTrue is_new ↔ IsFirstKey nodes labels l) (sym s) here)
+
+  -- it is alone, and the table stays
+  alone_more : IsAlone labels n → after ≡ seen → is_new ≡ true → AreFirstTo (n + 1) nodes labels after (firsts ++ is_new ∷ [])
+  alone_more is same new_ = record {
+    long = omega (arith, length-append firsts (is_new ∷ []), h.long);
+    alone = λ key none m lt has. elim (before m lt) [ inl low ↦ h.alone key (ap (λ (t : List (Node × ℕ)). found_in t key) (sym same) ∙ none) m low has | inr e ↦ subst (IsAlone labels) (sym e) is ];
+    lacks = λ key out. ap (λ (t : List (Node × ℕ)). found_in t key) same ∙ h.lacks key (λ m lt. out m (omega arith));
+    each = λ m lt. more_firsts here m (before m lt);
+  }
+    where
+      first : IsFirstKey nodes labels n
+      first m node lt at_ has = let e = is m (omega arith) (key_class labels m n node has.0 has.2).0 in absurd (omega arith)
+
+      here : IsTrue is_new ↔ IsFirstKey nodes labels n
+      here = ((λ t. first), (λ f. subst IsTrue (sym new_) refl))
+
+  -- its key is put in, where the table lacked it
+  keyed_more : (node : Node) → slice_get nodes n ≡ Some node → Keeps seen after (class_key labels n node) is_new → AreFirstTo (n + 1) nodes labels after (firsts ++ is_new ∷ [])
+  keyed_more node is k = record {
+    long = omega (arith, length-append firsts (is_new ∷ []), h.long);
+    alone = λ key none m lt has. elim (before m lt) [
+      | inl low ↦ h.alone key ((k.lacks key).0 none).0 m low has
+      | inr e ↦ absurd (((k.lacks key).0 none).1 (own key m e has))
+    ];
+    lacks = λ key out. (k.lacks key).1 (h.lacks key (λ m lt. out m (omega arith)), (λ s. out n (omega arith) (node, is, s)));
+    each = λ m lt. more_firsts here m (before m lt);
+  }
+    where
+      own : (key : Node) (m : ℕ) → m ≡ n → HasClassKey nodes labels key m → class_key labels n node ≡ key
+      own key m e has =
+          let one : has.0 ≡ node = same_Some has.0 node (sym has.1 ∙ ap (slice_get nodes) e ∙ is) in
+          ap (class_key labels n) (sym one) ∙ ap (λ (l : ℕ). class_key labels l has.0) (sym e) ∙ has.2
+
+      first : found_in seen (class_key labels n node) ≡ None → IsFirstKey nodes labels n
+      first none m other lt at_ has =
+          let same : class_key labels n other ≡ class_key labels n node = ap (class_key labels n) (same_Some other node (sym at_ ∙ is)) in
+          let key : HasClassKey nodes labels (class_key labels n node) m = (has.0, has.1, has.2 ∙ same) in
+          not_alone m lt (h.alone (class_key labels n node) none m lt key) (key_class labels m n node has.0 (has.2 ∙ same)).0
+
+      here : IsTrue is_new ↔ IsFirstKey nodes labels n
+      here = ((λ t. first (k.says.0 t)), (λ f. k.says.1 (h.lacks (class_key labels n node) (λ m lt has. f m node lt is has))))
+
+  pub first_more : (more : List Bool) → Notes nodes labels n seen after is_new → more ≡ firsts ++ is_new ∷ [] → AreFirstTo (n + 1) nodes labels after more
+  first_more more (inl a) e = subst (AreFirstTo (n + 1) nodes labels after) (sym e) (alone_more a.0 a.1 a.2)
+  first_more more (inr k) e = subst (AreFirstTo (n + 1) nodes labels after) (sym e) (keyed_more k.0 k.1 k.2)
 
 pub first_all : (n : ℕ) (nodes : List Node) (labels : List ℕ) (seen : List (Node × ℕ)) (firsts : List Bool) → n ≡ length nodes → AreFirstTo n nodes labels seen firsts → AreFirstKeys nodes labels firsts
 first_all n nodes labels seen firsts e h = record { long = h.long ∙ e; each = λ k lt. h.each k (subst (λ (m : ℕ). k < m) (sym e) lt) }
@@ -190,14 +247,25 @@ first_all n nodes labels seen firsts e h = record { long = h.long ∙ e; each = 
 pub first_forms : (nodes : List Node) (i : Index) → IsIndex nodes i → (firsts : List Bool) → AreFirstKeys nodes i.parts.labels firsts → AreFirst nodes i.parts.numbers firsts
 first_forms nodes i is firsts h = record {
   long = h.long;
-  each = λ n lt. (
-    (λ t m node l at_ form. (h.each n lt).0 t m node l at_ (form_key nodes i.parts.labels node.op node.kids m (form_labels nodes i is node.op node.kids (kids n node at_) m form))),
-    (λ first. (h.each n lt).1 (λ m node l at_ key. first m node l at_ (form_numbers nodes i is node.op node.kids (kids n node at_) m (key_form nodes i.parts.labels node.op node.kids m key)))),
-  );
+  each = λ n lt. ((λ t. first n lt ((h.each n lt).0 t)), (λ f. (h.each n lt).1 (first_key n lt f)));
 }
   where
     kids : (n : ℕ) (node : Node) → slice_get nodes n ≡ Some node → (k : ℕ) → Contains node.kids k → k < length i.parts.labels
     kids n node at_ k c = subst (λ (m : ℕ). k < m) (sym is.long) (is.kids n k node at_ c)
+
+    low : (n : ℕ) → n < length nodes → n < length i.parts.labels
+    low n lt = subst (λ (m : ℕ). n < m) (sym is.long) lt
+
+    first : (n : ℕ) → n < length nodes → IsFirstKey nodes i.parts.labels n → IsFirst nodes i.parts.numbers n
+    first n lt f m node l at_ one form =
+        let key = form_key nodes i.parts.labels node.op node.kids m (form_labels nodes i is node.op node.kids (kids n node at_) m form) in
+        f m node l at_ (key.0, key.1, class_keys i.parts.labels m n node key.0 ((is.parts.one m n (low m (omega arith)) (low n lt)).1 one) key.2)
+
+    first_key : (n : ℕ) → n < length nodes → IsFirst nodes i.parts.numbers n → IsFirstKey nodes i.parts.labels n
+    first_key n lt f m node l at_ has =
+        let both = key_class i.parts.labels m n node has.0 has.2 in
+        let form = key_form nodes i.parts.labels node.op node.kids m (has.0, has.1, both.1) in
+        f m node l at_ ((is.parts.one m n (low m (omega arith)) (low n lt)).0 both.0) (form_numbers nodes i is node.op node.kids (kids n node at_) m form)
 
 -- ---- the nodes of a class
 

@@ -17,11 +17,11 @@ abbrev pub IsClassWith : List Node → List ℕ → Op → List ℕ → Option �
 IsClassWith nodes numbers o over (Some c) = (n : ℕ) × HasForm nodes numbers o over n × (at numbers n ≡ c)
 IsClassWith nodes numbers o over None = (n : ℕ) → HasForm nodes numbers o over n → ⊥
 
--- no node before n has the form of n
+-- no node of its class before n has the form of n
 abbrev pub IsFirst : List Node → List ℕ → ℕ → Type 0
-IsFirst nodes numbers n = (m : ℕ) (node : Node) → m < n → slice_get nodes n ≡ Some node → HasForm nodes numbers node.op node.kids m → ⊥
+IsFirst nodes numbers n = (m : ℕ) (node : Node) → m < n → slice_get nodes n ≡ Some node → AreOne numbers m n → HasForm nodes numbers node.op node.kids m → ⊥
 
--- for each node whether it is the first of its form
+-- for each node whether it is the first of its form in its class
 pub record AreFirst (nodes : List Node) (numbers : List ℕ) (firsts : List Bool) : Type 0 where
   pub long : length firsts ≡ length nodes
   pub each : (n : ℕ) → n < length nodes → IsTrue (slice_index_or firsts n false) ↔ IsFirst nodes numbers n

@@ -146,8 +146,8 @@ impl Classes {
         }
     }
 
-    /// For each node whether it is the first of its form, which is its operation over the classes of its kids. Two
-    /// nodes of one form match the same patterns. It takes a key of each node.
+    /// For each node whether it is the first of its form in its class. The form of a node is its operation over the classes of
+    /// its kids: two nodes of one form match the same patterns. It takes a key of each node that isn't alone in its class.
     pub fn first_of_forms(&self, alloc: Global, g: &Graph) -> Result<Vec<bool>, Memory>
         requires { Knows g.now.nodes self.now }
         ensures { IfOk result (λ firsts. AreFirst g.now.nodes self.now.numbers firsts.items) }

@@ -1,12 +1,12 @@
 //! The forms of nodes, by their keys.
 
-ghost use Rattle.std.specs.Prelude.{◌≡◌, ◌<◌, ℕ, Some, length, slice_get, IfOk};
+ghost use Rattle.std.specs.Prelude.{◌≡◌, ◌<◌, ◌∷◌, ℕ, Some, length, slice_get, IfOk};
 ghost use Rattle.std.specs.List.{All, Contains};
 ghost use Rattle.pv_graph.specs.declared.node.Node.{Node};
 ghost use Rattle.pv_graph.specs.Nodes.{node_of};
 ghost use Rattle.pv_classes.specs.Index.{IsIndex, IsTracked, labels_of};
 ghost use Rattle.pv_classes.specs.Congruence.{index_of};
-ghost use Rattle.pv_classes.specs.Keyed.{AreFirstKeys, IsKeyedIn, IsNodeWith, Keeps};
+ghost use Rattle.pv_classes.specs.Keyed.{AreFirstKeys, IsKeyedIn, IsNodeWith, Keeps, Notes, class_key};
 
 use crate::congruence::{Congruence, key_of, labels_of};
 use crate::partition::Partition;
@@ -77,16 +77,47 @@ fn keep(seen: &mut Table, key: Node, n: NodeId) -> Result<bool, Memory>
     Ok(true)
 }
 
-/// For each node whether no node before it has its key.
+// The key of a node within its class.
+fn class_key(alloc: Global, parts: &Partition, node: &Node, n: NodeId) -> Result<Node, Memory>
+    requires { All (λ k. k < length parts.now.labels) (n ∷ node.now.kids) }
+    ensures { IfOk result (λ key. key ≡ class_key parts.now.labels n node.now) }
+{
+    let mut over = vec![in alloc; n]?;
+    over.extend_from_slice(node.kids.as_slice())?;
+    key_over(alloc, parts, &node.op, &over)
+}
+
+// Whether no earlier node of its class has the form of node n. Most nodes are alone in their classes, so they cost no key.
+fn is_first(
+    alloc: Global,
+    g: &Graph,
+    parts: &Partition,
+    n: NodeId,
+    seen: &mut Table,
+) -> Result<bool, Memory>
+    requires node { n < length g.now.nodes }
+    requires there { n < length parts.now.labels }
+    requires kids { (m k : ℕ) (node : Node) → slice_get g.now.nodes m ≡ Some node → Contains node.kids k → k < length parts.now.labels }
+    ensures { IfOk result (λ is_first. Notes g.now.nodes parts.now.labels n seen.old seen.new is_first) }
+{
+    let (_, others) = parts.members(n);
+    if others.is_empty() {
+        return Ok(true);
+    }
+    let key = class_key(alloc, parts, g.node(n), n)?;
+    keep(seen, key, n)
+}
+
+/// For each node whether no earlier node of its class has its form.
 pub(crate) fn first_keys(alloc: Global, g: &Graph, parts: &Partition) -> Result<Vec<bool>, Memory>
+    requires long { length parts.now.labels ≡ length g.now.nodes }
     requires kids { (n k : ℕ) (node : Node) → slice_get g.now.nodes n ≡ Some node → Contains node.kids k → k < length parts.now.labels }
     ensures { IfOk result (λ firsts. AreFirstKeys g.now.nodes parts.now.labels firsts.items) }
 {
     let mut seen = Table::new(alloc);
     let mut firsts = Vec::new(alloc);
     for n in 0..g.len() {
-        let key = key_of(alloc, parts, g.node(n))?;
-        firsts.push(keep(&mut seen, key, n)?)?;
+        firsts.push(is_first(alloc, g, parts, n, &mut seen)?)?;
     }
     Ok(firsts)
 }

@@ -9,7 +9,7 @@
 //! fixed (`IsOutside`); and each join that `close` adds is of two nodes of one operation with kids that the
 //! joins before it link (`AreOfKids`). `nodes_with` gives the nodes whose operation has a number (`specs/Numbered`). The
 //! form of a node is its operation over the classes of its kids; `class_with` finds a node of some form, and
-//! `first_of_forms` tells the first node of each (`specs/Forms`).
+//! `first_of_forms` tells the first node of each in each class (`specs/Forms`).
 //!
 //! The layers above use the clauses of `Classes`: each call says what it changes (`specs/Calls`), and that the classes
 //! are classes still (`IsClasses`) and know the nodes of the graph (`Knows`). What is tried is joined between `save` and

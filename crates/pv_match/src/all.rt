@@ -27,7 +27,7 @@ use pv_value::Memory;
 use std::alloc::Global;
 use std::thread::Threads;
 
-// What is looked up while matches are looked for: the class of each node, which nodes are the first of their form, the members of the
+// What is looked up while matches are looked for: the class of each node, which nodes are the first of their form in their class, the members of the
 // classes, the marks of the classes, and the axioms of a table by their heads.
 #[derive(Drop)]
 struct Lookups {
@@ -47,7 +47,6 @@ impl Lookups {
         table: &[Axiom],
     ) -> Result<Lookups, Memory>
         requires knows { Knows graph.now.nodes classes.now }
-        requires congruence { IsCongruence (base_view graph.now) (nodes graph.now) (IsNode graph.now) (OneClass classes.now.numbers) }
         requires base { length base.now ≤ length graph.now.nodes }
         ensures { IfOk result (AreLookups graph.now classes.now.numbers base.now (map axiom_seen table.now)) }
     {
@@ -84,7 +83,7 @@ impl Lookups {
 }
 
 /// All matches of a table over the classes of a graph's nodes, or that there are more than `limit`. `base` has the marks of the nodes
-/// of the base, as `pv_marks::node_marks` gives them, with some nodes assumed to end. Of nodes with one operation over kids in the
+/// of the base, as `pv_marks::node_marks` gives them, with some nodes assumed to end. Of the nodes of a class with one operation over kids in the
 /// same classes, which match the same patterns, the first alone is looked at. Those of these at which a left side may start are cut into
 /// consecutive pieces, one for each worker, which run at once. The answer is the same for every number of workers.
 ///

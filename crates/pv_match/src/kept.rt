@@ -1,4 +1,4 @@
-//! Which nodes are kept: of those of one form the first, since all of them match the same patterns.
+//! Which nodes are kept: of those of one form in one class the first, since all of them match the same patterns.
 
 ghost use Rattle.std.specs.Prelude.{◌↔◌, IsTrue, OnOk};
 ghost use Rattle.pv_match.specs.Kept.{AddsKept, IsKept};

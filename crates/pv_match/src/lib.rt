@@ -15,8 +15,8 @@
 //! node. So it looks at the touched nodes alone, and puts the known matches beside those that start there. A list of all matches can be taken over while
 //! nothing is touched (`law_known`).
 //!
-//! How it goes: of the nodes of one form, which is an operation over the classes of kids, the first is kept (`kept`). They all match the
-//! same patterns, and when classes are closed many are of one form, so without this the work would multiply. The nodes that are kept are
+//! How it goes: of the nodes of a class that have one form, which is an operation over the classes of kids, the first is kept (`kept`). They all
+//! match the same patterns, and when classes are closed many are of one form, so without this the work would multiply. The nodes that are kept are
 //! grouped by their classes and the numbers of their operations (`members`), and the axioms by those of their heads (`rules`). A left
 //! side is read along a node and the classes of its kids (`reader`), which gives bindings (`binding`): a node for each name, and a class
 //! for each variable. A binding of the whole left side whose conditions hold is a match (`matching`). The nodes at which a left side may

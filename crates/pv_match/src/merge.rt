@@ -56,8 +56,9 @@ pub(crate) fn merge_ordered<T: Ord + Drop>(
     if second.is_empty() {
         return Ok(cut(first, limit));
     }
+    let most = first.len().saturating_add(second.len()).min(limit);
     let (mut first, mut second) = (VecDeque::from_vec(first), VecDeque::from_vec(second));
-    let mut list = Vec::new(alloc);
+    let mut list = Vec::with_capacity(alloc, most)?;
     while let Some(x) = pop_least(&mut first, &mut second) {
         list.push(x)?;
         if list.len() > limit {

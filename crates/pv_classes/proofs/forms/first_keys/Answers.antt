@@ -1,12 +1,8 @@
-use Rattle.std.proofs.Common.{List, Bool, [], ℕ, get_or, sym, subst, arith}
-use Rattle.std.proofs.lemmas.List.Elements.{Contains-get_or}
+use Rattle.std.proofs.Common.{List, Bool, [], ℕ, ◌<◌, sym, subst, arith}
 use Rattle.pv_graph.specs.declared.node.Node.{Node}
-use Rattle.pv_classes.specs.Keyed.{AreFirstTo, Keeps}
+use Rattle.pv_classes.specs.Keyed.{AreFirstTo}
 use Rattle.pv_classes.proofs.Keying.{first_none, first_more, first_all}
 use Rattle.pv_classes.proofs.forms.first_keys.Goals as goal
-
-pub key_of-requires : goal.key_of-requires
-key_of-requires c k d lt = c.requires.kids c.loop-n.n (get_or c.node.result.now.kids k d) c.node.result.now c.node.ensures (Contains-get_or c.node.result.now.kids k d lt)
 
 pub loop-n-init : goal.loop-n-init
 loop-n-init c =
@@ -16,9 +12,8 @@ loop-n-init c =
 
 pub loop-n-preserved : goal.loop-n-preserved
 loop-n-preserved c =
-    let is_new = c.in_ok-keep.field-0 in
-    first_more c.loop-n.n c.args.g.now.nodes c.args.parts.now.labels c.loop-n.seen c.keep.new.seen c.loop-n.firsts.items c.push.new.self.items c.node.result.now is_new c.node.ensures c.loop-n.invariant
-    (subst (λ (key : Node). Keeps c.loop-n.seen c.keep.new.seen key is_new) c.in_ok-key.ensures c.in_ok-keep.ensures) c.in_ok-push.ensures.items
+    let below = subst (λ (m : ℕ). c.loop-n.n < m) (sym c.requires.long) (omega (arith, c.loop-n.auto.n-end, c.loop-n-test.true, c.len-n-end.ensures.len)) in
+    first_more c.loop-n.n c.args.g.now.nodes c.args.parts.now.labels below c.loop-n.seen c.is_first.new.seen c.loop-n.firsts.items c.in_ok-is_first.field-0 c.loop-n.invariant c.push.new.self.items c.in_ok-is_first.ensures c.in_ok-push.ensures.items
 
 pub returns : goal.returns
 returns c =

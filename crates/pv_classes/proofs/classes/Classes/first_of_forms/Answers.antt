@@ -10,7 +10,7 @@ use Rattle.pv_classes.proofs.classes.Classes.first_of_forms.Goals as goal
 pub first_keys-requires : goal.first_keys-requires
 first_keys-requires c =
     let index = (subst (λ (x : Classes). Knows c.args.g.now.nodes x) (sym c.self.view_is) c.requires).index in
-    record { kids = λ n k node there has. subst (λ (m : ℕ). k < m) (sym index.long) (index.kids n k node there has) }
+    record { long = index.long; kids = λ n k node there has. subst (λ (m : ℕ). k < m) (sym index.long) (index.kids n k node there has) }
 
 pub returns : goal.returns
 returns c =

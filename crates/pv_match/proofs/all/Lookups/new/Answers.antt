@@ -9,7 +9,7 @@ pub new-requires-clause-kept : goal.new-requires-clause-kept
 new-requires-clause-kept c =
     subst (λ (ns : List ℕ). KeepsForms c.args.graph.now ns c.deref-2.result.now) (sym (c.deref.ensures.value ∙ c.in_ok-numbers.ensures))
     (subst (KeepsForms c.args.graph.now c.args.classes.now.numbers) (sym c.deref-2.ensures.value)
-    (firsts_keep c.args.graph.now c.args.classes.now.numbers c.requires.knows.long c.in_ok-kept.kept.items c.requires.knows.index.kids c.requires.congruence c.in_ok-kept.ensures))
+    (firsts_keep c.args.graph.now c.args.classes.now.numbers c.in_ok-kept.kept.items c.in_ok-kept.ensures))
 
 pub returns : goal.returns
 returns c =
@@ -24,7 +24,7 @@ returns c =
         least = λ k l. c.len-count.ensures.classes.least k (subst (λ (m : ℕ). k < m) (sym long) l);
       };
       numbers_ = c.in_ok-numbers.ensures;
-      kept = firsts_keep g numbers long c.in_ok-kept.kept.items c.requires.knows.index.kids c.requires.congruence c.in_ok-kept.ensures;
+      kept = firsts_keep g numbers c.in_ok-kept.kept.items c.in_ok-kept.ensures;
       members = subst (λ (ns : List ℕ). IsMembers g ns c.in_ok-members.members.groups.items) (c.deref.ensures.value ∙ c.in_ok-numbers.ensures) c.in_ok-members.ensures.members;
       marks_ = λ assumed base. subst (λ (ns : List ℕ). AreClassMarks g ns assumed c.in_ok-marks.marks.items) (c.deref-3.ensures.value ∙ c.in_ok-numbers.ensures) (c.in_ok-marks.ensures assumed base);
       rules = c.in_ok-rules.ensures;

@@ -1,7 +1,7 @@
 #!/bin/sh
 # Checks what README.md and docs/ say against the tree and the program.
 #
-#   the kit         README names the kit that `rt version` prints
+#   the kit         README names the kit that `rt version` prints, among others
 #   the size        README has at most 16 KB
 #   the examples    README shows what examples/run.sh and examples/bug.sh print, and a section of the certificate for the first;
 #                   examples/report.txt keeps the report
@@ -45,7 +45,7 @@ section() {
   awk -v head="method $1 " 'index($0, head) == 1 { inside = 1 } inside; $0 == "end" { inside = 0 }' "$work/cert"
 }
 
-[ "$(shown kit)" = "$(rt version)" ]
+shown kit | grep -qxF "$(rt version)"
 verdict $? "the kit is $(rt version)"
 [ "$(wc -c <"$top/README.md")" -le 16384 ]
 verdict $? 'README has at most 16 KB'

@@ -18,7 +18,7 @@ touched-requires-clause-kept g c =
     let s = c.args.self.now in
     subst (λ (ns : List ℕ). KeepsForms s.graph ns c.deref-7.result.now) (sym (c.deref-5.ensures.value ∙ c.in_ok-numbers.ensures))
     (subst (KeepsForms s.graph s.classes.numbers) (sym c.deref-7.ensures.value)
-    (firsts_keep s.graph s.classes.numbers is.knows.long c.in_ok-kept.kept.items is.knows.index.kids (congruence least k s is) c.in_ok-kept.ensures))
+    (firsts_keep s.graph s.classes.numbers c.in_ok-kept.kept.items c.in_ok-kept.ensures))
 
 pub rematch-requires-clause-congruence : goal.rematch-requires-clause-congruence
 rematch-requires-clause-congruence g c κs within = let (least, k, is) = c.requires.begun in congruence least k c.args.self.now is

@@ -1,5 +1,5 @@
 -- Over to the other system and back comes to the same class.
-use Rattle.std.proofs.Common.{◌≡◌, ℕ, zero, suc, List, [], ◌∷◌, Some, slice_get, inl, inr, refl}
+use Rattle.std.proofs.Common.{◌≡◌, ℕ, zero, suc, List, [], ◌∷◌, Some, slice_get, inl, inr, refl, ap}
 use Rattle.std.specs.List.{AllZip}
 use Rattle.pv_graph.specs.declared.node.Op.{Op}
 use Rattle.pv_graph.specs.Walks.{In}
@@ -18,6 +18,11 @@ pub In-slice_get : {A : Type 0} (xs : List A) (j : ℕ) (x : A) → slice_get xs
 In-slice_get [] j x h = absurd (cc)
 In-slice_get (y ∷ ys) zero x h = inl (cc)
 In-slice_get (y ∷ ys) (suc j) x h = inr (In-slice_get ys j x h)
+
+pub place_of : {A : Type 0} (xs : List A) (x : A) → In xs x → (i : ℕ) × (slice_get xs i ≡ Some x)
+place_of [] x i = absurd i
+place_of (y ∷ xs) x (inl e) = (zero, ap Some e)
+place_of (y ∷ xs) x (inr i) = let p = place_of xs x i in (suc p.0, p.1)
 
 module _ {view : View} (whole : IsWhole view) {S T : System} (lS : IsSystem view S) (lT : IsSystem view T) {C : Subset S} {D : Subset T} {J : Relation S} {E : Relation T}
     (closed : AreClosed S C) (cJ : IsCongruence view S C J) (cE : IsCongruence view T D E) (h : SameClasses view S T C D J E) where

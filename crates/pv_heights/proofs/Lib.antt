@@ -23,9 +23,9 @@ pub mod Nodes
 pub mod Reached
 -- 6. A round by a list of matches is one, and a list of matches counts them.
 pub mod Named
+pub mod Saturation
 pub mod Listed
 pub mod Counting
-pub mod Saturation
 -- 7. The verdict.
 pub mod Verdicts
 pub mod Once

@@ -1,5 +1,5 @@
 -- A round by a list of matches is a round on nodes, and with a closing it takes a search to the next height.
-use Rattle.std.proofs.Common.{◌≡◌, ℕ, zero, suc, List, [], ◌∷◌, length, Some, slice_get, ◌⊎◌, inl, inr, refl, sym, ap, ◌∙◌, subst}
+use Rattle.std.proofs.Common.{◌≡◌, ℕ, suc, List, [], ◌∷◌, length, Some, slice_get, ◌⊎◌, inl, inr, refl, sym, ◌∙◌, subst}
 use Rattle.pv_graph.specs.declared.node.Op.{Op}
 use Rattle.pv_graph.specs.Walks.{In}
 use Rattle.pv_graph.specs.Graphs.{Graph, form_at, Extends}
@@ -10,20 +10,21 @@ use Rattle.pv_pattern.specs.Binding.{names, BindsItsNames}
 use Rattle.pv_steps.specs.Facts.{View}
 use Rattle.pv_heights.specs.Systems.{System, Joined, given, Relation, Subset}
 use Rattle.pv_heights.specs.Filled.{Params, kid, variable, Filled, at, of, Parts, no_part, part}
-use Rattle.pv_heights.specs.Sides.{Match, ClassHas, InClass, AllInClass, IsSide, AreSides, IsSideOf}
+use Rattle.pv_heights.specs.Sides.{Match, ClassHas, InClass, AllInClass, StandsIn, IsSide, AreSides, IsSideOf}
 use Rattle.pv_heights.specs.Conditions.{ClassNode, Settled, NotFree, Holds}
 use Rattle.pv_heights.specs.Matches.{IsMatch, AgreeOn, AreOne}
-use Rattle.pv_heights.specs.Searches.{IsWhole, nodes, IsNode, OneClass, Joining, AreJoined, IsMatchAt, IsRound, Reached, grow}
+use Rattle.pv_heights.specs.Searches.{IsWhole, nodes, IsNode, OneClass, Joining, AreJoined, BothStand, IsMatchAt, IsRound, Reached, grow}
 use Rattle.pv_heights.specs.SameClasses.{IsCongruence}
-use Rattle.pv_heights.specs.Rounds.{Copy, ClassCopy, IsMadePart, IsInstanceOf, AreSidesOf, IsRoundOn}
+use Rattle.pv_heights.specs.Rounds.{Copy, itself, ClassCopy, IsMadePart, IsInstanceOf, AreSidesOf, IsRoundOn}
 use Rattle.pv_heights.proofs.Zips.{zip_join}
 use Rattle.pv_heights.proofs.Matches.{all_map}
 use Rattle.pv_heights.proofs.Height.{over_self}
 use Rattle.pv_heights.proofs.Induct.{close-close}
-use Rattle.pv_heights.proofs.Both.{In-slice_get}
+use Rattle.pv_heights.proofs.Both.{In-slice_get, place_of}
 use Rattle.pv_heights.proofs.Nodes.{Keeps, extends_keeps, node_is_base, base_is_node}
 use Rattle.pv_heights.proofs.Reached.{reached_exact, has_less, more_congruence}
 use Rattle.pv_heights.proofs.Named.{filled_agrees, right_named}
+use Rattle.pv_heights.proofs.Saturation.{both_on_one}
 
 -- ---- matches on one graph are matches on another that has the same nodes there
 
@@ -118,10 +119,9 @@ listed_sides view assumed table S C J CNext c m n binds o a b s = record {
 
 -- ---- a round
 
-pub place_of : {A : Type 0} (xs : List A) (x : A) → In xs x → (i : ℕ) × (slice_get xs i ≡ Some x)
-place_of [] x i = absurd i
-place_of (y ∷ xs) x (inl e) = (zero, ap Some e)
-place_of (y ∷ xs) x (inr i) = let p = place_of xs x i in (suc p.0, p.1)
+-- two things serve as the sides of the match, and are given
+abbrev IsServed : Graph → Graph → List ℕ → List (ℕ × ℕ) → Match ℕ → Type 0
+IsServed h i numbers pairs m = (a : ℕ) × (b : ℕ) × AreSidesOf (nodes i) (IsNode h) (OneClass numbers) (IsNode i) m a b × Joining numbers pairs a b
 
 pub list_round : (view : View) (assumed : List ℕ) (table : List Axiom) (h i : Graph) (numbers : List ℕ) (pairs : List (ℕ × ℕ)) → Extends h i → ((a b : ℕ) → OneClass numbers a b → IsNode h a × IsNode h b)
     → IsCongruence view (nodes i) (IsNode h) (OneClass numbers) → ((e : Axiom) → In table e → BindsItsNames e) → IsRound view assumed table h i numbers pairs
@@ -130,7 +130,7 @@ list_round view assumed table h i numbers pairs e carried c binds r = record {
   kept = kept;
   made = λ a d. made a (r.made a d);
   joined = λ a b j. inl j;
-  full = λ m k. let n = r.are.all m (less m k) in let p = r.joins n.1 (In-slice_get r.list n.0 n.1 n.2) in (p.0, p.1, sides m n.1 k n.3 p.0 p.1 p.3, inr p.2);
+  full = λ m k. let n = r.are.all m (less m k) in served m n.1 k n.3 (r.joins n.1 (In-slice_get r.list n.0 n.1 n.2));
   given = given_by;
 }
   where
@@ -158,6 +158,28 @@ list_round view assumed table h i numbers pairs e carried c binds r = record {
     sides : (m n : Match ℕ) → IsMatch view assumed table (nodes i) (IsNode h) (OneClass numbers) m → AreOne (OneClass numbers) m n → (a b : ℕ) → IsInstanceOf (nodes i) (IsNode h) (OneClass numbers) (IsNode i) n a b
         → AreSidesOf (nodes i) (IsNode h) (OneClass numbers) (IsNode i) m a b
     sides m n k o a b s = listed_sides view assumed table (nodes i) (IsNode h) (OneClass numbers) (IsNode i) c m n (binds m.entry k.of_table) o a b s
+
+    -- a thing in whose class both sides of a listed match stand serves as both sides of each match that is one with it
+    stand : (m n : Match ℕ) → IsMatch view assumed table (nodes i) (IsNode h) (OneClass numbers) m → AreOne (OneClass numbers) m n → BothStand (nodes h) (IsNode h) (OneClass numbers) n → IsServed h i numbers pairs m
+    stand m n k o s =
+        let on : (p : Pattern) → StandsIn (nodes h) (IsNode h) (OneClass numbers) n p s.0 → StandsIn (nodes i) (IsNode h) (OneClass numbers) n p s.0 = λ p q.
+        (q.0, q.1, class_on h i (IsNode h) (OneClass numbers) (λ x y ks d e. up x y ks e) n q.0 s.0 q.2) in
+        let t = both_on_one view (nodes i) (IsNode h) (OneClass numbers) c m n (binds m.entry k.of_table) o (s.0, s.1, on n.entry.left s.2, on n.entry.right s.3) in (
+          t.0,
+          t.0,
+          record {
+            chosen = m;
+            is_chosen = over_self (IsNode h) (ClassCopy (nodes i) (IsNode h) (OneClass numbers) (IsNode i)) (λ a d. record { thing = a; is = d; joins = c.same a d; copy = itself a a d refl }) m k.kids k.vars;
+            left = inl (t.1, t.2);
+            right = inl (t.1, t.3);
+          },
+          inl (c.same t.0 t.1),
+        )
+
+    served : (m n : Match ℕ) → IsMatch view assumed table (nodes i) (IsNode h) (OneClass numbers) m → AreOne (OneClass numbers) m n
+        → BothStand (nodes h) (IsNode h) (OneClass numbers) n ⊎ ((a : ℕ) × (b : ℕ) × In pairs (a, b) × IsInstanceOf (nodes i) (IsNode h) (OneClass numbers) (IsNode i) n a b) → IsServed h i numbers pairs m
+    served m n k o (inl s) = stand m n k o s
+    served m n k o (inr p) = (p.0, p.1, sides m n k o p.0 p.1 p.3, inr p.2)
 
     given_by : (a b : ℕ) → Joining numbers pairs a b
         → (IsNode h a × IsNode h b × OneClass numbers a b) ⊎ ((m : Match ℕ) × IsMatch view assumed table (nodes i) (IsNode h) (OneClass numbers) m × AreSidesOf (nodes i) (IsNode h) (OneClass numbers) (IsNode i) m a b)

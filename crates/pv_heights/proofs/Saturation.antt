@@ -14,12 +14,11 @@ use Rattle.pv_heights.specs.Matches.{AreOne, IsSaturated}
 use Rattle.pv_heights.specs.Searches.{AreAll, BothStand, nodes, IsNode, OneClass, Reached, IsWhole}
 use Rattle.pv_heights.specs.SameClasses.{IsCongruence}
 use Rattle.pv_heights.proofs.Zips.{some_once, zip_length}
-use Rattle.pv_heights.proofs.Both.{In-slice_get}
+use Rattle.pv_heights.proofs.Both.{In-slice_get, place_of}
 use Rattle.pv_heights.proofs.Sides.{zip_right}
 use Rattle.pv_heights.proofs.Height.{over_self}
 use Rattle.pv_heights.proofs.Round.{in_class_once}
 use Rattle.pv_heights.proofs.Named.{filled_agrees, right_named}
-use Rattle.pv_heights.proofs.Listed.{place_of}
 use Rattle.pv_heights.proofs.Reached.{reached_exact}
 
 module _ (view : View) (S : System) (C : Subset S) (J : Relation S) (c : IsCongruence view S C J) where
@@ -49,14 +48,21 @@ module _ (view : View) (S : System) (C : Subset S) (J : Relation S) (c : IsCongr
   stands_on_one m n o p up t h =
       (h.0, filled_agrees m.params n.params (length m.kids) p (λ i v. o.params i (up i v)) ∙ (ap (λ k. filled n.params k p) (zip_length J m.kids n.kids o.kids) ∙ h.1), class_on_one m n (things_on_one m n o) h.0 t h.2)
 
-  -- where both sides of a match stand in one class, the right side of each match that is one with it stands where its left
-  -- side does
+  -- both sides of a match stand in the class in which those of a match that is one with it do
+  pub both_on_one : (m n : Match S.Thing) → BindsItsNames m.entry → AreOne J m n → BothStand S C J n → BothStand S C J m
+  both_on_one m n b o h = (
+    h.0,
+    h.1,
+    stands_on_one m n o m.entry.left (λ i v. v) h.0 (subst (λ (e : Axiom). StandsIn S C J n e.left h.0) (sym o.entry) h.2),
+    stands_on_one m n o m.entry.right (right_named m.entry b) h.0 (subst (λ (e : Axiom). StandsIn S C J n e.right h.0) (sym o.entry) h.3),
+  )
+
+  -- .. so its right side stands where its left side does
   still_on_one : (m n : Match S.Thing) → AllByRecursion C m.kids → AllByRecursion C m.vars → BindsItsNames m.entry → AreOne J m n → BothStand S C J n → (t : S.Thing) → StandsIn S C J m m.entry.left t → StandsIn S C J m m.entry.right t
   still_on_one m n ks xs b o h t l =
-      let left = stands_on_one m n o m.entry.left (λ i v. v) h.0 (subst (λ (e : Axiom). StandsIn S C J n e.left h.0) (sym o.entry) h.2) in
-      let right = stands_on_one m n o m.entry.right (right_named m.entry b) h.0 (subst (λ (e : Axiom). StandsIn S C J n e.right h.0) (sym o.entry) h.3) in
-      let one = in_class_once view S C J c m m (over_self C J c.same m ks xs) l.0 h.0 t (subst (λ s. InClass S C J m s h.0) (some_once (sym left.1 ∙ l.1)) left.2) l.2 in
-      (right.0, right.1, class_moved m right.0 h.0 t one right.2)
+      let s = both_on_one m n b o h in
+      let one = in_class_once view S C J c m m (over_self C J c.same m ks xs) l.0 s.0 t (subst (λ f. InClass S C J m f s.0) (some_once (sym s.2.1 ∙ l.1)) s.2.2) l.2 in
+      (s.3.0, s.3.1, class_moved m s.3.0 s.0 t one s.3.2)
 
 -- no match joins more exactly where both sides of each listed match stand in one class
 pub saturated_where : (g : Graph) → IsWhole (form_at g.nodes) → (assumed : List ℕ) (table : List Axiom) → ((e : Axiom) → In table e → BindsItsNames e) → (k : ℕ) (h : Graph) (numbers : List ℕ) → Reached g assumed table k h numbers

@@ -81,12 +81,12 @@ AtLeastAt view assumed table h numbers n = AtLeast view assumed table (nodes h) 
 abbrev pub IsSaturatedAt : View → List ℕ → List Axiom → Graph → List ℕ → Type 0
 IsSaturatedAt view assumed table h numbers = IsSaturated view assumed table (nodes h) (IsNode h) (OneClass numbers)
 
--- a round takes the graph h to i. It goes by a list of all matches; for each of them it makes an instance, whose sides are a pair; each
--- pair is the sides of such an instance; and each new node is a part of a side of a match, or a copy
+-- a round takes the graph h to i. It goes by a list of all matches; both sides of each of them stand in one class already, or it makes an
+-- instance, whose sides are a pair; each pair is the sides of such an instance; and each new node is a part of a side of a match, or a copy
 pub record IsRound (view : View) (assumed : List ℕ) (table : List Axiom) (h i : Graph) (numbers : List ℕ) (pairs : List (ℕ × ℕ)) : Type 0 where
   pub list : List (Match ℕ)
   pub are : AreAllAt view assumed table h numbers list
-  pub joins : (m : Match ℕ) → In list m → (a : ℕ) × (b : ℕ) × In pairs (a, b) × IsInstanceOf (nodes i) (IsNode h) (OneClass numbers) (IsNode i) m a b
+  pub joins : (m : Match ℕ) → In list m → BothStand (nodes h) (IsNode h) (OneClass numbers) m ⊎ ((a : ℕ) × (b : ℕ) × In pairs (a, b) × IsInstanceOf (nodes i) (IsNode h) (OneClass numbers) (IsNode i) m a b)
   pub from : (a b : ℕ) → In pairs (a, b) → (m : Match ℕ) × In list m × IsInstanceOf (nodes i) (IsNode h) (OneClass numbers) (IsNode i) m a b
   pub made : (a : ℕ) → IsNode i a → IsNode h a ⊎ ((m : Match ℕ) × In list m × IsMadePart (nodes i) (IsNode h) (OneClass numbers) (IsNode i) m a) ⊎ ((u : ℕ) × Copy (nodes i) (IsNode h) (OneClass numbers) (IsNode i) a u)
 

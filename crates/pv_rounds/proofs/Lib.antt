@@ -12,6 +12,8 @@ pub mod Numbers
 pub mod Joined
 -- 4. A round as a whole.
 pub mod Keeping
+pub mod Leaving
+pub mod Stood
 pub mod Rounding
 pub mod Searching
 -- 5. What other crates cite.

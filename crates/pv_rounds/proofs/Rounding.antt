@@ -21,13 +21,14 @@ use Rattle.pv_instances.proofs.ClassSorts.{closing_keeps_sorts}
 use Rattle.pv_witness.specs.Numbered.{numbered}
 use Rattle.pv_witness.proofs.Cited.{first_is}
 use Rattle.pv_rounds.specs.declared.owed.Owed.{Owed}
+use Rattle.pv_rounds.specs.Known.{StandsAt}
 use Rattle.pv_rounds.specs.Owed.{IsOwed, AddsAll}
 use Rattle.pv_rounds.specs.Joining.{pair_of, pairs_of, Linked, given, flip, chain, JoinsAll}
 use Rattle.pv_rounds.proofs.Numbers.{grown_one, one_grown}
 
 -- ---- lists place by place
 
-zip_first : {A B : Type 0} (R : A → B → Type 0) (xs : List A) (ys : List B) → AllZip R xs ys → (x : A) → In xs x → (y : B) × In ys y × R x y
+pub zip_first : {A B : Type 0} (R : A → B → Type 0) (xs : List A) (ys : List B) → AllZip R xs ys → (x : A) → In xs x → (y : B) × In ys y × R x y
 zip_first R [] ys z x i = absurd i
 zip_first R (a ∷ xs) [] z x i = absurd z
 zip_first R (a ∷ xs) (b ∷ ys) z x (inl e) = (b, inl refl, subst (λ v. R v b) e z.0)
@@ -40,7 +41,7 @@ zip_second R (a ∷ xs) [] z y i = absurd z
 zip_second R (a ∷ xs) (b ∷ ys) z y (inl e) = (a, inl refl, subst (R a) e z.0)
 zip_second R (a ∷ xs) (b ∷ ys) z y (inr i) = let r = zip_second R xs ys z.1 y i in (r.0, inr r.1, r.2)
 
-pair_in : (owed : List Owed) (o : Owed) → In owed o → In (pairs_of owed) (pair_of o)
+pub pair_in : (owed : List Owed) (o : Owed) → In owed o → In (pairs_of owed) (pair_of o)
 pair_in [] o i = absurd i
 pair_in (x ∷ xs) o (inl e) = inl (ap pair_of e)
 pair_in (x ∷ xs) o (inr i) = inr (pair_in xs o i)
@@ -54,12 +55,13 @@ pair_from (x ∷ xs) p (inr i) = let r = pair_from xs p i in (r.0, inr r.1, r.2)
 pub all_numbered : (h : Graph) (numbers : List ℕ) → length numbers ≡ length h.nodes → (numbered h numbers).nodes ≡ h.nodes
 all_numbered h numbers long = ap (λ (k : ℕ). take k h.nodes) long ∙ first_is h.nodes h.nodes (λ n x e. e)
 
-module _ (g : Graph) (assumed : List ℕ) (table : List Axiom) (h i : Graph) (numbers : List ℕ) (ms : List (Match ℕ)) (owed : List Owed) (long : length numbers ≡ length h.nodes)
-    (all : AreAllAt (form_at g.nodes) assumed table h numbers ms) (adds : AddsAll (numbered h numbers) h i numbers assumed ms owed) where
+module _ (g : Graph) (assumed : List ℕ) (table : List Axiom) (h i : Graph) (numbers : List ℕ) (every ms : List (Match ℕ)) (owed : List Owed) (long : length numbers ≡ length h.nodes)
+    (all : AreAllAt (form_at g.nodes) assumed table h numbers every) (among : (m : Match ℕ) → In ms m → In every m) (rest : (m : Match ℕ) → In every m → StandsAt h numbers m ⊎ In ms m)
+    (adds : AddsAll (numbered h numbers) h i numbers assumed ms owed) where
   same : (numbered h numbers).nodes ≡ h.nodes
   same = all_numbered h numbers long
 
-  owed_here : (m : Match ℕ) (o : Owed) → IsOwed (numbered h numbers) i numbers assumed m o → IsInstanceOf (nodes i) (IsNode h) (OneClass numbers) (IsNode i) m o.left o.right
+  pub owed_here : (m : Match ℕ) (o : Owed) → IsOwed (numbered h numbers) i numbers assumed m o → IsInstanceOf (nodes i) (IsNode h) (OneClass numbers) (IsNode i) m o.left o.right
   owed_here m o w = subst (λ (ns : List Node). IsInstanceOf (nodes i) (λ n. n < length ns) (OneClass numbers) (IsNode i) m o.left o.right) same w.instance_
 
   part_here : (m : Match ℕ) (a : ℕ) → IsMadePart (nodes i) (IsNode (numbered h numbers)) (OneClass numbers) (IsNode i) m a → IsMadePart (nodes i) (IsNode h) (OneClass numbers) (IsNode i) m a
@@ -71,24 +73,28 @@ module _ (g : Graph) (assumed : List ℕ) (table : List Axiom) (h i : Graph) (nu
   old_or_new : (n k : ℕ) → (n < k) ⊎ (k ≤ n)
   old_or_new n k = grind arith
 
-  made : (a : ℕ) → IsNode i a → (a < length h.nodes) ⊎ (length h.nodes ≤ a) → IsNode h a ⊎ ((m : Match ℕ) × In ms m × IsMadePart (nodes i) (IsNode h) (OneClass numbers) (IsNode i) m a) ⊎ ((u : ℕ) × Copy (nodes i) (IsNode h) (OneClass numbers) (IsNode i) a u)
+  made : (a : ℕ) → IsNode i a → (a < length h.nodes) ⊎ (length h.nodes ≤ a) → IsNode h a ⊎ ((m : Match ℕ) × In every m × IsMadePart (nodes i) (IsNode h) (OneClass numbers) (IsNode i) m a) ⊎ ((u : ℕ) × Copy (nodes i) (IsNode h) (OneClass numbers) (IsNode i) a u)
   made a lt (inl old) = inl old
   made a lt (inr new) = elim (adds.grows.news a new lt) [
-    | inl p ↦ inr (inl (p.0, p.1, part_here p.0 a p.2))
+    | inl p ↦ inr (inl (p.0, among p.0 p.1, part_here p.0 a p.2))
     | inr c ↦ inr (inr (c.0, copy_here a c.0 c.1))
   ]
 
-  from : (a b : ℕ) → In (pairs_of owed) (a, b) → (m : Match ℕ) × In ms m × IsInstanceOf (nodes i) (IsNode h) (OneClass numbers) (IsNode i) m a b
+  from : (a b : ℕ) → In (pairs_of owed) (a, b) → (m : Match ℕ) × In every m × IsInstanceOf (nodes i) (IsNode h) (OneClass numbers) (IsNode i) m a b
   from a b j =
       let p = pair_from owed (a, b) j in
       let m = zip_second (IsOwed (numbered h numbers) i numbers assumed) ms owed adds.joins p.0 p.1 in
-      (m.0, m.1, subst (λ (q : ℕ × ℕ). IsInstanceOf (nodes i) (IsNode h) (OneClass numbers) (IsNode i) m.0 q.0 q.1) p.2 (owed_here m.0 p.0 m.2))
+      (m.0, among m.0 m.1, subst (λ (q : ℕ × ℕ). IsInstanceOf (nodes i) (IsNode h) (OneClass numbers) (IsNode i) m.0 q.0 q.1) p.2 (owed_here m.0 p.0 m.2))
+
+  served : (m : Match ℕ) → StandsAt h numbers m ⊎ In ms m → StandsAt h numbers m ⊎ ((a : ℕ) × (b : ℕ) × In (pairs_of owed) (a, b) × IsInstanceOf (nodes i) (IsNode h) (OneClass numbers) (IsNode i) m a b)
+  served m (inl s) = inl s
+  served m (inr j) = let o = zip_first (IsOwed (numbered h numbers) i numbers assumed) ms owed adds.joins m j in inr (o.0.left, o.0.right, pair_in owed o.0 o.1, owed_here m o.0 o.2)
 
   pub is_round : IsRound (form_at g.nodes) assumed table h i numbers (pairs_of owed)
   is_round = record {
-    list = ms;
+    list = every;
     are = all;
-    joins = λ m j. (let o = zip_first (IsOwed (numbered h numbers) i numbers assumed) ms owed adds.joins m j in (o.0.left, o.0.right, pair_in owed o.0 o.1, owed_here m o.0 o.2));
+    joins = λ m j. served m (rest m j);
     from = from;
     made = λ a lt. made a lt (old_or_new a (length h.nodes));
   }
@@ -142,11 +148,12 @@ module _ (h i : Graph) (old grown joins : Classes) (owed : List Owed) (few : len
 
 -- ---- how far the search is
 
-module _ (g : Graph) (assumed : List ℕ) (table : List Axiom) (binds : (e : Axiom) → In table e → BindsItsNames e) (k : ℕ) (h i : Graph) (old grown joins : Classes) (after : List ℕ) (ms : List (Match ℕ)) (owed : List Owed) (ig : IsGraph g) (ii : IsGraph i) (e : Extends h i)
+module _ (g : Graph) (assumed : List ℕ) (table : List Axiom) (binds : (e : Axiom) → In table e → BindsItsNames e) (k : ℕ) (h i : Graph) (old grown joins : Classes) (after : List ℕ) (every ms : List (Match ℕ)) (owed : List Owed) (ig : IsGraph g) (ii : IsGraph i) (e : Extends h i)
     (long : length old.numbers ≡ length h.nodes) (few : length old.numbers ≤ length i.nodes) (low : (n : ℕ) → n < length old.numbers → at old.numbers n ≤ n)
-    (all : AreAllAt (form_at g.nodes) assumed table h old.numbers ms) (adds : AddsAll (numbered h old.numbers) h i old.numbers assumed ms owed) (grows : Grows i.nodes old grown) (joined : JoinsAll grown joins owed)
+    (all : AreAllAt (form_at g.nodes) assumed table h old.numbers every) (among : (m : Match ℕ) → In ms m → In every m) (rest : (m : Match ℕ) → In every m → StandsAt h old.numbers m ⊎ In ms m)
+    (adds : AddsAll (numbered h old.numbers) h i old.numbers assumed ms owed) (grows : Grows i.nodes old grown) (joined : JoinsAll grown joins owed)
     (closed : AreJoined i (OneClass joins.numbers) after) where
   pub next_reached : Reached g assumed table k h old.numbers → Reached g assumed table (suc k) i after
   next_reached r =
-      round_reached g (graph_whole g ig) assumed table binds k h i old.numbers joins.numbers after (pairs_of owed) e (graph_whole i ii) r (is_round g assumed table h i old.numbers ms owed long all adds)
+      round_reached g (graph_whole g ig) assumed table binds k h i old.numbers joins.numbers after (pairs_of owed) e (graph_whole i ii) r (is_round g assumed table h i old.numbers every ms owed long all among rest adds)
       (joined_there h i old grown joins owed few low grows joined) (joined_follows h i old grown joins owed few low grows joined) closed

@@ -1,7 +1,7 @@
 -- What is known of a search that has made some rounds.
-use Rattle.std.specs.Prelude.{◌≡◌, ◌↔◌, ℕ, zero, suc, ◌<◌, ◌≤◌, Bool, false, List, [], map, length, take, Option, Some, None, IfSome, slice_get, refl}
+use Rattle.std.specs.Prelude.{◌≡◌, ◌⊎◌, ◌↔◌, ℕ, zero, suc, ◌<◌, ◌≤◌, Bool, false, List, [], map, length, take, Option, Some, None, IfSome, slice_get, refl}
 use Rattle.std.specs.List.{AllZip}
-use Rattle.std.proofs.Common.{inl, sym, ap, ◌∙◌, subst, arith}
+use Rattle.std.proofs.Common.{inl, inr, sym, ap, ◌∙◌, subst, arith}
 use Rattle.pv_graph.specs.Forms.{form}
 use Rattle.pv_graph.specs.Walks.{In}
 use Rattle.pv_graph.specs.declared.node.Node.{Node}
@@ -19,7 +19,7 @@ use Rattle.pv_heights.specs.Matches.{IsMatch}
 use Rattle.pv_heights.specs.SameClasses.{IsCongruence}
 use Rattle.pv_heights.specs.Heights.{Nothing}
 use Rattle.pv_heights.specs.Searches.{IsWhole, IsMatchAt, nodes, IsNode, OneClass, base_view, AreJoined, AreAllAt, IsSaturatedAt, Reached, begin}
-use Rattle.pv_heights.proofs.Cited.{base_view_is, graph_whole, reached_exact, list_counts, saturated_where, place_of, zip_length}
+use Rattle.pv_heights.proofs.Cited.{base_view_is, graph_whole, reached_exact, list_counts, saturated_where, place_of, zip_left, zip_length}
 use Rattle.pv_classes.specs.Calls.{Classes, IsNew, Knows, KnowsFirst, Grows}
 use Rattle.pv_induct.specs.Inducts.{Inducts}
 use Rattle.pv_closings.proofs.Cited.{induct_joins, first_joins}
@@ -40,6 +40,7 @@ use Rattle.pv_touched.specs.Earlier.{WasSeen}
 use Rattle.pv_saturate.specs.declared.decoding.Decoded.{Decoded}
 use Rattle.pv_saturate.specs.Decoding.{IsDecoded, decoded_seen}
 use Rattle.pv_saturate.proofs.Cited.{each_shown, decoded_are_all}
+use Rattle.pv_saturate.proofs.Lists.{get_in, in_get}
 use Rattle.pv_rounds.specs.declared.search.Search.{Search}
 use Rattle.pv_rounds.specs.Decoded.{AreShown}
 use Rattle.pv_rounds.specs.Standing.{AllStand, AreOver}
@@ -49,9 +50,12 @@ use Rattle.pv_rounds.specs.Joining.{AreWithin, JoinsAll}
 use Rattle.pv_rounds.specs.declared.last.Last.{Last}
 use Rattle.pv_rounds.specs.Last.{look_in, Keeps}
 use Rattle.pv_rounds.specs.Searching.{IsLeastGraph, axioms_of, IsSearch, IsOver, IsSaturatedNow, WasLast}
+use Rattle.pv_rounds.specs.Known.{StandsAt, EachStands}
 use Rattle.pv_rounds.proofs.Keeping.{seen_later}
+use Rattle.pv_rounds.proofs.Leaving.{one_stands, StandOrAre}
+use Rattle.pv_rounds.proofs.Stood.{stands_still, joined_stands}
 use Rattle.pv_rounds.proofs.Numbers.{one_of}
-use Rattle.pv_rounds.proofs.Rounding.{zip_second, all_numbered, joined_there, sorts_after, next_reached}
+use Rattle.pv_rounds.proofs.Rounding.{zip_first, zip_second, pair_in, all_numbered, owed_here, joined_there, sorts_after, next_reached}
 
 -- ---- the axioms
 
@@ -168,8 +172,9 @@ module _ (g : Graph) (k : ℕ) (s : Search) (is : IsSearch g k s) where
   pub sorts_numbered : JoinedHaveOneSort (numbered h numbers) (OneClass numbers)
   sorts_numbered a b o = subst (λ (ss : List OpSort). slice_get ss a ≡ slice_get ss b) (sym same_sorts) (is.sorts a b o)
 
-  pub are_matches : (ms : List (Match ℕ)) → AreAllAt (base_view h) ends table h numbers ms → AreMatches (numbered h numbers) numbers ends ms
-  are_matches ms all = record {
+  -- some of all matches, for the round
+  pub are_matches : (every ms : List (Match ℕ)) → AreAllAt (base_view h) ends table h numbers every → ((m : Match ℕ) → In ms m → In every m) → AreMatches (numbered h numbers) numbers ends ms
+  are_matches every ms all among = record {
     least = g;
     graph = is.least.made.graph;
     extends_ = record {
@@ -177,10 +182,14 @@ module _ (g : Graph) (k : ℕ) (s : Search) (is : IsSearch g k s) where
       sorts = λ n o e. subst (λ (ss : List OpSort). slice_get ss n ≡ Some o) (sym same_sorts) (is.grown.sorts n o e);
     };
     few = (let z = longer g h is.grown in let y = is.knows.long in omega (arith, z, y));
-    each = λ m i. (let p = place_of ms m i in
+    each = λ m i. (let p = place_of every m (among m i) in
         let k : IsMatchAt (form_at g.nodes) ends axioms h numbers m = by_all (form_at g.nodes) ends table (nodes h) (IsNode h) (OneClass numbers) m is.table_.entries (subst (λ (v : View). IsMatchAt v ends table h numbers m) view_is (all.each p.0 m p.1)) in
         subst (λ (ns : List Node). IsMatch (form_at g.nodes) ends axioms (record { Thing = ℕ; Has = λ n o ks. form_at ns n ≡ Some (form o ks); node = λ n. n }) (λ n. n < length ns) (OneClass numbers) m) (sym same_nodes) k);
   }
+
+  -- both sides of each match of its last round stand in one class
+  pub known_stand : (l : Last) → s.last ≡ Some l → EachStands h numbers table l.list.items
+  known_stand l e = let w : WasLast s l = subst (λ (o : Option Last). IfSome o (WasLast s)) e is.last_ in w.2
 
 -- ---- at the beginning
 
@@ -235,9 +244,9 @@ module _ (g : Graph) (k : ℕ) (s : Search) (is : IsSearch g k s) (i : Graph) (m
       (omega (arith, l, long), omega (arith, r, long))
 
 module _ (g : Graph) (k : ℕ) (s t : Search) (is : IsSearch g k s) (ms : List (Match ℕ)) (owed : List Owed) (grown joins : Classes) (found_ : Bool) (ii : IsGraph t.graph)
-    (all : AreAllAt (base_view s.graph) s.endings.items (axioms_of s) s.graph s.classes.numbers ms) (adds : AddsAll (numbered s.graph s.classes.numbers) s.graph t.graph s.classes.numbers s.endings.items ms owed)
+    (adds : AddsAll (numbered s.graph s.classes.numbers) s.graph t.graph s.classes.numbers s.endings.items ms owed)
     (grows : Grows t.graph.nodes s.classes grown) (joined : JoinsAll grown joins owed) (inducts : Inducts t.graph.nodes joins t.classes found_)
-    (list : List found.Match) (listed : AreAllMatches s.graph s.classes.numbers s.endings.items (axioms_of s) list) (last : Last) (keeps : Keeps s.graph s.classes.numbers s.marks.items list last) (is_last : t.last ≡ Some last)
+    (list : List found.Match) (listed : AreAllMatches s.graph s.classes.numbers s.endings.items (axioms_of s) list) (known : StandOrAre s.graph s.classes.numbers (axioms_of s) list ms) (last : Last) (keeps : Keeps s.graph s.classes.numbers s.marks.items list last) (is_last : t.last ≡ Some last)
     (same_table : axioms_of t ≡ axioms_of s) (ends_same : t.endings.items ≡ s.endings.items) (marks_same : t.marks.items ≡ s.marks.items) where
   long : length s.classes.numbers ≡ length s.graph.nodes
   long = is.knows.long
@@ -248,8 +257,8 @@ module _ (g : Graph) (k : ℕ) (s t : Search) (is : IsSearch g k s) (ms : List (
   closed : AreJoined t.graph (OneClass joins.numbers) t.classes.numbers
   closed = induct_joins t.graph joins t.classes found_ inducts
 
-  all_here : AreAllAt (form_at g.nodes) s.endings.items (axioms_of s) s.graph s.classes.numbers ms
-  all_here = subst (λ (v : View). AreAllAt v s.endings.items (axioms_of s) s.graph s.classes.numbers ms) (view_is g k s is) all
+  all_here : AreAllAt (form_at g.nodes) s.endings.items (axioms_of s) s.graph s.classes.numbers known.all
+  all_here = subst (λ (v : View). AreAllAt v s.endings.items (axioms_of s) s.graph s.classes.numbers known.all) (view_is g k s is) (all_decoded g k s is list known.all listed known.decoded)
 
   sorts_of : (o : Owed) → In owed o → slice_get t.graph.sorts o.left ≡ slice_get t.graph.sorts o.right
   sorts_of o i = let m = zip_second (IsOwed (numbered s.graph s.classes.numbers) t.graph s.classes.numbers s.endings.items) ms owed adds.joins o i in m.2.one_sort
@@ -265,11 +274,37 @@ module _ (g : Graph) (k : ℕ) (s t : Search) (is : IsSearch g k s) (ms : List (
   seen_on = seen_later s.graph t.graph s.classes.numbers t.classes.numbers s.marks.items s.endings.items (axioms_of s) list last numbers_least adds.grows.extends_ adds.grows.base (marks_here g k s is)
       (all_known s.graph s.classes.numbers s.endings.items (axioms_of s) list numbers_least (congruence g k s is) (readable g k s is) listed) joined_on keeps
 
+  reached_on : Reached g s.endings.items (axioms_of s) (suc k) t.graph t.classes.numbers
+  reached_on = next_reached g s.endings.items (axioms_of s) (binds g k s is) k s.graph t.graph s.classes grown joins t.classes.numbers known.all ms owed is.least.made.graph ii adds.grows.extends_ long few is.classes_.low all_here
+      known.among known.rest adds grows joined closed is.reached
+
+  -- both sides of each match of the list stand in one class
+  pair_joined : (o : Owed) → In owed o → OneClass t.classes.numbers o.left o.right
+  pair_joined o i = closed.full o.left o.right (given [] o.left o.right (joined_there s.graph t.graph s.classes grown joins owed few is.classes_.low grows joined o.left o.right (inr (pair_in owed o i))))
+
+  stands_on : (m : Match ℕ) → In known.all m → StandsAt s.graph s.classes.numbers m ⊎ In ms m → StandsAt t.graph t.classes.numbers m
+  stands_on m i (inl d) = stands_still s.graph t.graph s.classes.numbers t.classes.numbers adds.grows.extends_ joined_on m d
+  stands_on m i (inr j) =
+      let o = zip_first (IsOwed (numbered s.graph s.classes.numbers) t.graph s.classes.numbers s.endings.items) ms owed adds.joins m j in
+      let p = place_of known.all m i in
+      joined_stands s.graph t.graph s.classes.numbers t.classes.numbers adds.grows.extends_ joined_on (form_at g.nodes) (reached_exact g (whole g k s is) s.endings.items (axioms_of s) (suc k) t.graph t.classes.numbers reached_on).congruence m
+      (binds g k s is m.entry (all_here.each p.0 m p.1).of_table) o.0.left o.0.right
+      (owed_here g s.endings.items (axioms_of s) s.graph t.graph s.classes.numbers known.all ms owed long all_here known.among known.rest adds m o.0 o.2) (pair_joined o.0 o.1)
+
+  each_stands : EachStands t.graph t.classes.numbers (axioms_of s) last.list.items
+  each_stands y i =
+      let r = keeps.list_.each y i in
+      let p = in_get list r.0 r.1 in
+      let d = zip_left (IsDecoded (axioms_of s)) list known.all known.decoded p.0 r.0 p.1 in
+      let j = get_in known.all p.0 d.0 d.1 in
+      one_stands t.graph t.classes.numbers (axioms_of s) r.0 y (sym r.2.0, sym r.2.1, sym r.2.2) (d.0, d.2, stands_on d.0 j (known.rest d.0 j))
+
   was_last : WasLast t last
   was_last = (
     s.graph,
     subst (λ (es : List ℕ). WasSeen s.graph t.graph t.classes.numbers es (axioms_of t) (look_in last)) (sym ends_same)
         (subst (λ (ts : List Axiom). WasSeen s.graph t.graph t.classes.numbers s.endings.items ts (look_in last)) (sym same_table) seen_on),
+    subst (λ (ts : List Axiom). EachStands t.graph t.classes.numbers ts last.list.items) (sym same_table) each_stands,
   )
 
   pub next_search : IsSearch g (suc k) t
@@ -286,7 +321,6 @@ module _ (g : Graph) (k : ℕ) (s t : Search) (is : IsSearch g k s) (ms : List (
     classes_ = inducts.classes;
     sorts = sorts_after s.graph t.graph s.classes grown joins owed few is.classes_.low grows joined is.graph_ long adds.grows.extends_ is.sorts sorts_of (λ a b o. (let x = one_of s.classes.numbers a b o in (x.0, x.1))) ii (adds.grows.sealed ∙ is.sealed) t.classes.numbers closed;
     reached = subst (λ (es : List ℕ). Reached g es (axioms_of t) (suc k) t.graph t.classes.numbers) (sym ends_same)
-        (subst (λ (ts : List Axiom). Reached g s.endings.items ts (suc k) t.graph t.classes.numbers) (sym same_table)
-        (next_reached g s.endings.items (axioms_of s) (binds g k s is) k s.graph t.graph s.classes grown joins t.classes.numbers ms owed is.least.made.graph ii adds.grows.extends_ long few is.classes_.low all_here adds grows joined closed is.reached));
+        (subst (λ (ts : List Axiom). Reached g s.endings.items ts (suc k) t.graph t.classes.numbers) (sym same_table) reached_on);
     last_ = subst (λ (o : Option Last). IfSome o (WasLast t)) (sym is_last) was_last;
   }

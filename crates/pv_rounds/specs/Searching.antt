@@ -15,6 +15,7 @@ use Rattle.pv_match.specs.AllMatches.{AreAllMatches}
 use Rattle.pv_touched.specs.Earlier.{WasSeen}
 use Rattle.pv_rounds.specs.declared.last.Last.{Last}
 use Rattle.pv_rounds.specs.Last.{look_in}
+use Rattle.pv_rounds.specs.Known.{EachStands}
 use Rattle.pv_rounds.specs.declared.owed.Owed.{Owed}
 use Rattle.pv_rounds.specs.Owed.{AddsAll}
 use Rattle.pv_rounds.specs.Joining.{JoinsAll}
@@ -33,9 +34,9 @@ pub record IsLeastGraph (g : Graph) : Type 0 where
 abbrev pub axioms_of : Search → List Axiom
 axioms_of s = map axiom_seen s.table.now
 
--- this was seen before its last round
+-- this was seen before its last round, which joined the sides of each match that was seen
 abbrev pub WasLast : Search → Last → Type 0
-WasLast s l = (earlier : Graph) × WasSeen earlier s.graph s.classes.numbers s.endings.items (axioms_of s) (look_in l)
+WasLast s l = (earlier : Graph) × WasSeen earlier s.graph s.classes.numbers s.endings.items (axioms_of s) (look_in l) × EachStands s.graph s.classes.numbers (axioms_of s) l.list.items
 
 -- the search began with the least graph g and has made k rounds, by its axioms
 pub record IsSearch (g : Graph) (k : ℕ) (s : Search) : Type 0 where

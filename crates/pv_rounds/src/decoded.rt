@@ -1,13 +1,12 @@
-//! Matches of a list, decoded.
+//! A match, decoded.
 
 ghost use Rattle.std.specs.Prelude.{◌≡◌, IfOk, map};
-ghost use Rattle.std.specs.List.{AllZip};
 ghost use Rattle.pv_axioms.specs.Entries.{NumbersOnce};
 ghost use Rattle.pv_instances.specs.Seen.{instance_seen};
 ghost use Rattle.pv_match.specs.Reading.{AreReadable};
 ghost use Rattle.pv_pattern.specs.Seen.{axiom_seen};
 ghost use Rattle.pv_saturate.specs.Decoding.{IsDecoded, ShowsMatch, decoded_seen};
-ghost use Rattle.pv_rounds.specs.Decoded.{AreReady, AreShown, IsReady};
+ghost use Rattle.pv_rounds.specs.Decoded.{IsReady};
 
 use pv_instances::Instance;
 use pv_match::Match;
@@ -31,8 +30,8 @@ pub(crate) fn instance_of<'a>(m: &'a Decoded) -> Instance<'a>
     }
 }
 
-// A match, decoded. One with more kids or variables than a graph has nodes is refused as out of memory.
-fn decode_one<'a>(
+/// A match, decoded. One with more kids or variables than a graph has nodes is refused as out of memory.
+pub(crate) fn decode_one<'a>(
     alloc: Global,
     table: &'a [Axiom],
     found: &'a Match,
@@ -48,24 +47,4 @@ fn decode_one<'a>(
         return Err(Memory);
     }
     Ok(decoded)
-}
-
-/// All matches of a list, decoded.
-pub(crate) fn decode_all<'a>(
-    alloc: Global,
-    table: &'a [Axiom],
-    list: &'a [Match],
-) -> Result<Vec<Decoded<'a>>, Memory>
-    requires readable { AreReadable (map axiom_seen table.now) }
-    requires once { NumbersOnce (map axiom_seen table.now) }
-    requires shown { AreShown (map axiom_seen table.now) list.now }
-    ensures ready { IfOk result (λ all. AreReady all.items) }
-    ensures same { IfOk result (λ all. AllZip (IsDecoded (map axiom_seen table.now)) list.now (map decoded_seen all.items)) }
-{
-    let mut all = Vec::new(alloc);
-    for found in list {
-        let one = decode_one(alloc, table, found)?;
-        all.push(one)?;
-    }
-    Ok(all)
 }

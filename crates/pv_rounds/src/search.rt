@@ -4,10 +4,11 @@ ghost use Rattle.std.specs.Prelude.{◌↔◌, IfOk, IsTrue, OnOk, map};
 ghost use Rattle.pv_axioms.specs.Entries.{AreAxioms};
 ghost use Rattle.pv_match.specs.AllMatches.{AreAllMatches, IsAnswer};
 ghost use Rattle.pv_pattern.specs.Seen.{axiom_seen};
+ghost use Rattle.pv_rounds.specs.Known.{EachStands};
 ghost use Rattle.pv_rounds.specs.Searching.{Begins, GoesOn, IsBegun, IsLeastGraph, IsSaturatedNow, Looks, MakesRound, WasLast, axioms_of};
 
-use crate::decoded::decode_all;
 use crate::joining::join_all;
+use crate::known::new_matches;
 use crate::last::{Last, keep};
 use crate::owed::add_all;
 use crate::standing::all_stand;
@@ -161,18 +162,29 @@ impl<'a> Search<'a> {
         }
     }
 
-    // Whether none of these, which are all matches, joins more.
+    // Whether none of these, which are all matches, joins more. Those that are known don't.
     fn is_saturated(&self, alloc: Global, list: &[Match]) -> Result<bool, Memory>
         requires begun { IsBegun self.now }
         requires all { AreAllMatches self.now.graph self.now.classes.numbers self.now.endings.items (axioms_of self.now) list.now }
         ensures { IfOk result (λ yes. IsTrue yes ↔ IsSaturatedNow self.now) }
     {
-        let all = decode_all(alloc, self.table, list)?;
-        all_stand(alloc, &self.graph, &self.classes, &all)
+        let new = new_matches(alloc, self.table, self.known(), list)?;
+        all_stand(alloc, &self.graph, &self.classes, &new)
     }
 
-    /// Makes a round by the list of all matches: an instance of each is added, and its sides are joined, and then all that
-    /// congruence and inductions join. After `Memory` the search is given up.
+    // The matches of the last round; before the first there are none. Both sides of each stand in one class.
+    fn known(&self) -> &[Match]
+        requires { IsBegun self.now }
+        ensures { EachStands self.now.graph self.now.classes.numbers (axioms_of self.now) result.now }
+    {
+        match &self.last {
+            Some(last) => &last.list,
+            None => &[],
+        }
+    }
+
+    /// Makes a round by the list of all matches: an instance of each that isn't known from the last round is added, and its sides are joined, and then
+    /// all that congruence and inductions join. After `Memory` the search is given up.
     pub fn grow(&mut self, alloc: Global, list: &[Match]) -> Result<(), Memory>
         requires begun { IsBegun self.old }
         requires all { AreAllMatches self.old.graph self.old.classes.numbers self.old.endings.items (axioms_of self.old) list.now }
@@ -180,10 +192,10 @@ impl<'a> Search<'a> {
         ensures made { OnOk result (MakesRound self.old.graph self.new.graph self.old.endings.items self.old.classes self.new.classes) }
     {
         let _count = self.graph.len();
-        let all = decode_all(alloc, self.table, list)?;
+        let new = new_matches(alloc, self.table, self.known(), list)?;
         let numbers = self.classes.numbers(alloc)?;
         let last = keep(alloc, &self.graph, &numbers, &self.marks, list)?;
-        let owed = add_all(alloc, &mut self.graph, &numbers, &self.endings, &all)?;
+        let owed = add_all(alloc, &mut self.graph, &numbers, &self.endings, &new)?;
         let _here = self.graph.len();
         self.classes.grow(alloc, &self.graph)?;
         join_all(alloc, &mut self.classes, &owed)?;

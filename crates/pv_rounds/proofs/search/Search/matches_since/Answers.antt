@@ -42,7 +42,7 @@ returns g c =
     let now_ : IsNow s.graph c.deref-5.result.now ends c.deref-6.result.now =
     subst (IsNow s.graph c.deref-5.result.now ends) (sym c.deref-6.ensures.value)
     (subst (λ (ns : List ℕ). IsNow s.graph ns ends c.in_ok-marks.marks.items) (sym numbers) (record { least = least_numbers least k s is; marks_ = marked })) in
-    let (earlier, was) = c.requires.last in
+    let (earlier, was, stand) = c.requires.last in
     let seen : WasSeen earlier s.graph c.deref-5.result.now ends (axioms_of s) (record { numbers = c.deref-3.result.now; marks_ = c.deref-4.result.now; known = c.deref-9.result.now }) =
     subst (λ (ns : List ℕ). WasSeen earlier s.graph ns ends (axioms_of s) (record { numbers = c.deref-3.result.now; marks_ = c.deref-4.result.now; known = c.deref-9.result.now })) (sym numbers)
     (subst (λ (xs : List ℕ). WasSeen earlier s.graph s.classes.numbers ends (axioms_of s) (record { numbers = xs; marks_ = c.deref-4.result.now; known = c.deref-9.result.now })) (sym c.deref-3.ensures.value)

@@ -8,12 +8,10 @@ mod Called
 mod Popped
 mod Reaching
 mod Nodes
-mod Types
-mod Asked
 mod Exits
-mod Ways
-mod Actions
+mod Lines
+mod Left
+mod ByRow
 mod Operands
 mod Casts
-mod Faults
 mod Whole

@@ -4,12 +4,10 @@ use Rattle.pv_graph.specs.declared.node.Op.{Op}
 use Rattle.pv_graph.specs.declared.node.OpSort.{OpSort}
 use Rattle.pv_graph.specs.Ops.{plain, shape, sort_over, HasSort}
 use Rattle.pv_graph.specs.Graphs.{Graph}
-use Rattle.pv_equations.specs.Flow.{Part, Of, NoPart, More}
+use Rattle.pv_equations.specs.Flow.{Of, NoPart}
 use Rattle.pv_terms.specs.Terms.{Grows, IsOfSort, ReadsOver}
-use Rattle.pv_runs.specs.Chains.{two_parts}
-use Rattle.pv_block.specs.Standing.{is_simple}
-use Rattle.pv_block.specs.Leaving.{Makes, Gives, GivesBoth}
-use Rattle.pv_block.proofs.Standing.{grown, stands_on, stands_over}
+use Rattle.pv_block.specs.Standing.{Entry, StandsFor, is_simple}
+use Rattle.pv_block.proofs.Standing.{stands_over}
 
 -- ---- sorts
 
@@ -27,30 +25,5 @@ sort_on old new n s g x = g.extends.sorts n s x
 
 -- ---- what they stand for
 
-pub makes : (old new : Graph) (o : Op) (n : ℕ) (q : shape o ≡ plain) → is_simple o ≡ true → ReadsOver old o [] new n → Makes new.nodes n (Of o q NoPart)
+pub makes : (old new : Graph) (o : Op) (n : ℕ) (q : shape o ≡ plain) → is_simple o ≡ true → ReadsOver old o [] new n → (at : Entry) → StandsFor at new.nodes n (Of o q NoPart)
 makes old new o n q e r at = stands_over old new o [] n e r at NoPart q tt
-
-pub gives : (old new : Graph) (o : Op) (a n : ℕ) (q : shape o ≡ plain) → is_simple o ≡ true → ReadsOver old o (a ∷ []) new n → Gives old.nodes a new.nodes n (λ x. Of o q (More x NoPart))
-gives old new o a n q e r at x h = stands_over old new o (a ∷ []) n e r at (More x NoPart) q (h, tt)
-
-pub gives_both : (old new : Graph) (o : Op) (a b n : ℕ) (q : shape o ≡ plain) → is_simple o ≡ true → ReadsOver old o (a ∷ b ∷ []) new n → GivesBoth old.nodes a b new.nodes n (λ x y. Of o q (two_parts x y))
-gives_both old new o a b n q e r at x y h i = stands_over old new o (a ∷ b ∷ []) n e r at (two_parts x y) q (h, (i, tt))
-
--- where the second is a constant
-pub gives_with : (old mid new : Graph) (a b n : ℕ) (f : Part → Part → Part) (y : Part) → Grows old mid → Makes mid.nodes b y → GivesBoth mid.nodes a b new.nodes n f → Gives old.nodes a new.nodes n (λ x. f x y)
-gives_with old mid new a b n f y g m both at x h = both at x y (stands_on at old.nodes mid.nodes a x (grown old mid g) h) (m at)
-
-pub makes_on : (old new : Graph) (n : ℕ) (p : Part) → Grows old new → Makes old.nodes n p → Makes new.nodes n p
-makes_on old new n p g m at = stands_on at old.nodes new.nodes n p (grown old new g) (m at)
-
-pub gives_after : (old mid new : Graph) (a n : ℕ) (f : Part → Part) → Grows old mid → Gives mid.nodes a new.nodes n f → Gives old.nodes a new.nodes n f
-gives_after old mid new a n f g x at p h = x at p (stands_on at old.nodes mid.nodes a p (grown old mid g) h)
-
-pub gives_before : (old mid new : Graph) (a n : ℕ) (f : Part → Part) → Grows mid new → Gives old.nodes a mid.nodes n f → Gives old.nodes a new.nodes n f
-gives_before old mid new a n f g x at p h = stands_on at mid.nodes new.nodes n (f p) (grown mid new g) (x at p h)
-
-pub both_after : (old mid new : Graph) (a b n : ℕ) (f : Part → Part → Part) → Grows old mid → GivesBoth mid.nodes a b new.nodes n f → GivesBoth old.nodes a b new.nodes n f
-both_after old mid new a b n f g x at p q h i = x at p q (stands_on at old.nodes mid.nodes a p (grown old mid g) h) (stands_on at old.nodes mid.nodes b q (grown old mid g) i)
-
-pub both_before : (old mid new : Graph) (a b n : ℕ) (f : Part → Part → Part) → Grows mid new → GivesBoth old.nodes a b mid.nodes n f → GivesBoth old.nodes a b new.nodes n f
-both_before old mid new a b n f g x at p q h i = stands_on at mid.nodes new.nodes n (f p q) (grown mid new g) (x at p q h i)

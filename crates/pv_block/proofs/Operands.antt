@@ -1,6 +1,6 @@
 -- Operands that are popped are known, and what a block does with them is what it does.
 use Rattle.std.proofs.Common.{◌≡◌, ℕ, suc, Vec, Global, Bool, true, false, List, [], ◌∷◌, ◌++◌, Option, Some, None, refl, ap, sym, subst, ◌∙◌, reverse}
-use Rattle.std.specs.Prelude.{option_map, if◌then◌else◌, map, IfSome}
+use Rattle.std.specs.Prelude.{option_map, if◌then◌else◌, map}
 use Rattle.std.specs.List.{AllZip, AllByRecursion}
 use Rattle.std.proofs.lemmas.List.{reverse-append}
 use Rattle.pv_frame.proofs.Cited.{map_reverse, some_of, no_some}
@@ -14,26 +14,34 @@ use Rattle.pv_frame.specs.Stacks.{Taken, fits, with_first, taken, turned, popped
 use Rattle.pv_frame.specs.Effects.{takes}
 use Rattle.pv_graph.specs.declared.node.Node.{Node}
 use Rattle.pv_graph.specs.Ops.{HaveSorts}
-use Rattle.pv_graph.specs.Graphs.{Graph, IsGraph}
+use Rattle.pv_graph.specs.declared.node.OpSort.TheVariants.{H}
+use Rattle.pv_graph.specs.Graphs.{Graph}
 use Rattle.pv_equations.specs.Flow.{Chain}
-use Rattle.pv_terms.specs.Terms.{Grows}
-use Rattle.pv_terms.proofs.Cited.{grows_same}
+use Rattle.pv_terms.specs.Terms.{Grows, IsOfSort}
 use Rattle.pv_runs.specs.Held.{parts_of, cell_sort, acted_on, acted}
 use Rattle.pv_runs.specs.Held as parts
 use Rattle.pv_runs.specs.Chains.{to, chain_with, last_chain, ends_method}
 use Rattle.pv_runs.proofs.Cited.{bound}
 use Rattle.pv_block.specs.declared.held.Cell.{Cell}
 use Rattle.pv_block.specs.declared.held.Held.{Held}
+use Rattle.pv_block.specs.declared.row.Row.{Row}
+use Rattle.pv_block.specs.declared.ran.Ending.{Ending}
 use Rattle.pv_block.specs.declared.ran.Ran.{Ran}
+use Rattle.pv_block.specs.Ran.{result_sort}
 use Rattle.pv_block.specs.Cells.{sort_in}
-use Rattle.pv_block.specs.Standing.{Entry, AllStand, CellStands, HoldsFor}
-use Rattle.pv_block.specs.Sorted.{op_sort, AreSorted}
-use Rattle.pv_block.specs.Acting.{popped_in, node_in, ActsOn}
-use Rattle.pv_block.specs.Leaving.{AreKnown, ended, LeavesBy, AreSortedExits, Returning, Throwing, LeavesOn, GoesOnAs, LeavesAs}
+use Rattle.pv_block.specs.Standing.{Entry, StandsFor, CellStands, HoldsFor}
+use Rattle.pv_block.specs.Sorted.{op_sort, AreSorted, IsSorted}
+use Rattle.pv_block.specs.Plain.{IsPlain}
+use Rattle.pv_block.specs.Acting.{popped_in, node_in, kids_of, ActsOn}
+use Rattle.pv_block.specs.Lines.{Stands, Fit}
+use Rattle.pv_block.specs.Rows.{row_for, cell_part, given_parts, LeavesByRow, RowFits, KeepsSorts}
+use Rattle.pv_block.specs.Leaving.{AreKnown, ended, LeavesBy, AreSortedExits, chain_from, LeavesFrom, LeavesAs, GivesResult}
 use Rattle.pv_block.proofs.Standing.{grown, stands_on, known_stands}
-use Rattle.pv_block.proofs.Single.{IsKnown}
+use Rattle.pv_block.proofs.Single.{IsKnown, sorted_kids}
 use Rattle.pv_block.proofs.Exits.{ends_on, ended_for}
+use Rattle.pv_block.proofs.Lines.{zip_grown}
 use Rattle.pv_block.proofs.Popped.{pops}
+use Rattle.pv_block.proofs.ByRow.{goes_by_row, ends_by_row, row_fits}
 
 -- ---- known sorts
 
@@ -77,17 +85,10 @@ pops_known a c rest cells e = go (popped sort_in (takes a) c.stack) refl e
 
 -- ---- what is left of a block
 
--- the chain of an action, from what is held without its operands
-abbrev pub chain_from : Option JType → ℕ → Action → parts.Held → List parts.Cell → Option Chain
-chain_from r k a h cells = if ends_method a then last_chain r a h cells else acted_on a h cells >>= λ after. chain_with r a h cells (to (suc k) after)
-
-abbrev pub LeavesFrom : Option JType → ℕ → Action → List Node → Held → List Cell → List Node → Option Ran → Type 0
-LeavesFrom r k a old rest cells new o = (at : Entry) (h : parts.Held) (ds : List parts.Cell) (x : Chain) → HoldsFor at old rest h → AllZip (CellStands at old) cells ds → chain_from r k a h ds ≡ Some x → (ran : Ran) × (o ≡ Some ran) × LeavesBy at new (acted_on a h ds) ran x
-
 module _ (r : Option JType) (k : ℕ) (a : Action) (old new : List Node) (c : Held) where
-  pub leaves_popped : (rest : Held) (cells : List Cell) (o : Option Ran) → popped_in a c ≡ Some (cells, rest) → LeavesFrom r k a old rest cells new o → LeavesAs r k a old c new o
+  pub leaves_popped : (rest : Held) (cells : List Cell) (o : Option Ran) → popped_in a c ≡ Some (cells, rest) → LeavesFrom r (suc k) a old rest cells new o → LeavesAs r k a old c new o
   leaves_popped rest cells o is leaves at h x hold e =
-      let b = bound (popped cell_sort (takes a) h.stack) (λ (q : List parts.Cell × List parts.Cell). chain_from r k a (record h { stack = q.1 }) q.0) x e in
+      let b = bound (popped cell_sort (takes a) h.stack) (λ (q : List parts.Cell × List parts.Cell). chain_from r (suc k) a (record h { stack = q.1 }) q.0) x e in
       let p = pops at old a c h b.0 hold b.1 in
       let same = some_of _ _ (sym p.popped_ ∙ is) in
       let l = leaves at (record h { stack = b.0.1 }) b.0.0 x (subst (λ (z : List Cell × Held). HoldsFor at old z.1 (record h { stack = b.0.1 })) same p.holds) (subst (λ (z : List Cell × Held). AllZip (CellStands at old) z.0 b.0.0) same p.operands) b.2 in
@@ -96,61 +97,83 @@ module _ (r : Option JType) (k : ℕ) (a : Action) (old new : List Node) (c : He
 
   pub leaves_none : popped_in a c ≡ None → LeavesAs r k a old c new None
   leaves_none is at h x hold e =
-      let b = bound (popped cell_sort (takes a) h.stack) (λ (q : List parts.Cell × List parts.Cell). chain_from r k a (record h { stack = q.1 }) q.0) x e in
+      let b = bound (popped cell_sort (takes a) h.stack) (λ (q : List parts.Cell × List parts.Cell). chain_from r (suc k) a (record h { stack = q.1 }) q.0) x e in
       let p = pops at old a c h b.0 hold b.1 in
       no_some _ (sym is ∙ p.popped_)
 
-  -- an action that doesn't end the method
-  pub leaves_on : (rest : Held) (cells : List Cell) (o : Option Ran) → ends_method a ≡ false → GoesOnAs (suc k) a old rest cells new o → LeavesFrom r k a old rest cells new o
-  leaves_on rest cells o not_end goes at h ds x hold z e =
-      let e' = ap (λ (b : Bool). if b then last_chain r a h ds else acted_on a h ds >>= λ after. chain_with r a h ds (to (suc k) after)) (sym not_end) ∙ e in
-      let b = bound (acted_on a h ds) (λ after. chain_with r a h ds (to (suc k) after)) x e' in
-      let l = goes r at h b.0 ds x hold z b.1 b.2 in
-      (l.0, l.1, subst (λ (after : Option parts.Held). LeavesBy at new after l.0 x) (sym b.1) l.2)
-
 -- ---- operands as nodes
 
-pub kids_sorted : (old new : Graph) (cells : List Cell) (kids : List ℕ) (a : Action) → Grows old new → kids ≡ map node_in cells → AreSorted old cells → map sort_in cells ≡ takes a → HaveSorts new.sorts kids (map op_sort (takes a))
-kids_sorted old new cells kids a g e x t = subst (λ (ks : List ℕ). HaveSorts new.sorts ks (map op_sort (takes a))) (sym e) (subst (λ (ss : List Sort). HaveSorts new.sorts (map node_in cells) (map op_sort ss)) t (nodes_sorted cells x))
+pub given_stand : (at : Entry) (nodes : List Node) (held : Held) (h : parts.Held) (cells : List Cell) (ds : List parts.Cell) → AreKnown cells → HoldsFor at nodes held h → AllZip (CellStands at nodes) cells ds → Stands at nodes (kids_of true held.heap cells) (given_parts h ds)
+given_stand at nodes held h cells ds k x z = (x.heap, nodes_stand cells ds k z)
   where
-    nodes_sorted : (cells : List Cell) → AreSorted old cells → HaveSorts new.sorts (map node_in cells) (map op_sort (map sort_in cells))
-    nodes_sorted [] x = tt
-    nodes_sorted (c ∷ cells) x = (g.extends.sorts c.node (op_sort c.sort) x.0, nodes_sorted cells x.1)
+    nodes_stand : (cells : List Cell) (ds : List parts.Cell) → AreKnown cells → AllZip (CellStands at nodes) cells ds → Stands at nodes (map node_in cells) (map cell_part ds)
+    nodes_stand [] [] k z = tt
+    nodes_stand [] (d ∷ ds) k z = absurd z
+    nodes_stand (c ∷ cells) [] k z = absurd z
+    nodes_stand (c ∷ cells) (d ∷ ds) k z = (known_stands at nodes c d k.0 z.0, nodes_stand cells ds k.1 z.1)
 
-pub kids_stand : (at : Entry) (old new : Graph) (cells : List Cell) (ds : List parts.Cell) (kids : List ℕ) → Grows old new → kids ≡ map node_in cells → AreKnown cells → AllZip (CellStands at old.nodes) cells ds → AllStand at new.nodes kids (parts_of ds)
-kids_stand at old new cells ds kids g e k z = subst (λ (ks : List ℕ). AllStand at new.nodes ks (parts_of ds)) (sym e) (all_stand cells ds k z)
-  where
-    all_stand : (cells : List Cell) (ds : List parts.Cell) → AreKnown cells → AllZip (CellStands at old.nodes) cells ds → AllStand at new.nodes (map node_in cells) (parts_of ds)
-    all_stand [] [] k z = tt
-    all_stand [] (d ∷ ds) k z = absurd z
-    all_stand (c ∷ cells) [] k z = absurd z
-    all_stand (c ∷ cells) (d ∷ ds) k z = (stands_on at old.nodes new.nodes c.node d.part (grown old new g) (known_stands at old.nodes c d k.0 z.0), all_stand cells ds k.1 z.1)
+pub given_sorted : (old new : Graph) (a : Action) (held : Held) (cells : List Cell) → Grows old new → IsSorted old held → AreSorted old cells → map sort_in cells ≡ takes a → HaveSorts new.sorts (kids_of true held.heap cells) (H ∷ map op_sort (takes a))
+given_sorted old new a held cells g s t m = zip_grown (IsOfSort old) (IsOfSort new) (λ n x i. g.extends.sorts n x i) (kids_of true held.heap cells) (H ∷ map op_sort (takes a)) (sorted_kids old true held.heap cells (takes a) s.heap t m)
 
--- where nothing is held after the action, it doesn't go on
-pub goes_none : (next : ℕ) (a : Action) (old new : Graph) (held : Held) (cells : List Cell) → ActsOn a old.nodes held cells new.nodes None → GoesOnAs next a old.nodes held cells new.nodes None
-goes_none next a old new held cells acts result at h g ds x hold z is chain = let d = acts at h g ds hold z is in no_some _ d.1
+-- ---- an action with its operands
 
-pub goes_some : (next : ℕ) (a : Action) (old mid new : Graph) (held after : Held) (cells : List Cell) (kids : List ℕ) (ran : Ran) → Grows old mid → kids ≡ map node_in cells → AreKnown cells → ActsOn a old.nodes held cells mid.nodes (Some after)
-    → LeavesOn next a mid.nodes (ended held) kids after new.nodes ran → GoesOnAs next a old.nodes held cells new.nodes (Some ran)
-goes_some next a old mid new held after cells kids ran grows e known acts leaves result at h g ds x hold z is chain =
-    let d = acts at h g ds hold z is in
-    let holds : HoldsFor at mid.nodes after g = subst (λ (c : Held). HoldsFor at mid.nodes c g) (sym (some_of _ _ d.1)) d.2 in
-    (ran, refl, leaves result at h g ds x (ends_on at old mid (ended held) h grows (ended_for at old.nodes held h hold)) (kids_stand at old mid cells ds kids grows e known z) holds is chain)
+module _ (r : Option JType) (next : ℕ) (a : Action) (old new : Graph) (rest : Held) (cells : List Cell) (known : AreKnown cells) (ran : Ran) where
+  abbrev Left : Graph → Held → Type 0
+  Left mid after = LeavesByRow (row_for r next a) mid.nodes (kids_of true rest.heap cells) (ended rest) after new.nodes ran
 
--- ---- actions that end the method
+  -- one that ends the method
+  pub ends_from : ends_method a ≡ true → Left old rest → LeavesFrom r next a old.nodes rest cells new.nodes (Some ran)
+  ends_from ends left at h ds x hold z e =
+      let last = ap (λ (b : Bool). if b then last_chain r a h ds else acted_on a h ds >>= λ after. chain_with r a h ds (to next after)) (sym ends) ∙ e in
+      (ran, refl, left at (given_parts h ds) h (acted_on a h ds) x (given_stand at old.nodes rest h cells ds known hold z) (ended_for at old.nodes rest h hold) (λ g acts. no_after a h g ds (HoldsFor at old.nodes rest g) ends acts) (ends_by_row r next a h (acted_on a h ds) ds x ends last))
+    where
+      no_after : (a : Action) (h g : parts.Held) (ds : List parts.Cell) (G : Type 0) → ends_method a ≡ true → acted_on a h ds ≡ Some g → G
+      no_after (act.Give s) h g ds G ends e = no_some g e
+      no_after act.Throw h g ds G ends e = no_some g e
+      no_after a h g ds G ends e = absurd (cc)
 
-pub gives_from : (r : Option JType) (k : ℕ) (s : _) (old new : Graph) (rest : Held) (cells : List Cell) (kids : List ℕ) (ran : Ran) → IsGraph old → kids ≡ map node_in cells → AreKnown cells → Returning r old.nodes kids (ended rest) new.nodes ran → LeavesFrom r k (act.Give s) old.nodes rest cells new.nodes (Some ran)
-gives_from r k s old new rest cells kids ran is e known returns at h ds x hold z chain =
-    (ran, refl, returns at ds h (acted_on (act.Give s) h ds) x (kids_stand at old old cells ds kids (grows_same old is) e known z) (ended_for at old.nodes rest h hold) chain)
+  -- one that goes on
+  module _ (mid : Graph) (grows : Grows old mid) (goes : ends_method a ≡ false) where
+    next_chain : (h : parts.Held) (ds : List parts.Cell) (x : Chain) → chain_from r next a h ds ≡ Some x → (acted_on a h ds >>= λ after. chain_with r a h ds (to next after)) ≡ Some x
+    next_chain h ds x e = ap (λ (b : Bool). if b then last_chain r a h ds else acted_on a h ds >>= λ after. chain_with r a h ds (to next after)) (sym goes) ∙ e
 
-pub throws_from : (r : Option JType) (k : ℕ) (old new : Graph) (rest : Held) (cells : List Cell) (kids : List ℕ) (ran : Ran) → IsGraph old → kids ≡ map node_in cells → AreKnown cells → Throwing old.nodes kids (ended rest) new.nodes ran → LeavesFrom r k act.Throw old.nodes rest cells new.nodes (Some ran)
-throws_from r k old new rest cells kids ran is e known throws at h ds x hold z chain =
-    (ran, refl, throws r at ds h (acted_on act.Throw h ds) x (kids_stand at old old cells ds kids (grows_same old is) e known z) (ended_for at old.nodes rest h hold) chain)
+    pub goes_from : (after : Held) → ActsOn a old.nodes rest cells mid.nodes (Some after) → Left mid after → LeavesFrom r next a old.nodes rest cells new.nodes (Some ran)
+    goes_from after acts left at h ds x hold z e =
+        let b = bound (acted_on a h ds) (λ after. chain_with r a h ds (to next after)) x (next_chain h ds x e) in
+        let d = acts at h b.0 ds hold z b.1 in
+        let there : HoldsFor at mid.nodes after b.0 = subst (λ (c : Held). HoldsFor at mid.nodes c b.0) (sym (some_of _ _ d.1)) d.2 in
+        let given = zip_grown (StandsFor at old.nodes) (StandsFor at mid.nodes) (λ n p s. stands_on at old.nodes mid.nodes n p (grown old mid grows) s) (kids_of true rest.heap cells) (given_parts h ds) (given_stand at old.nodes rest h cells ds known hold z) in (
+          ran,
+          refl,
+          subst (λ (o : Option parts.Held). LeavesBy at new.nodes o ran x) (sym b.1)
+              (left at (given_parts h ds) h (Some b.0) x given (ends_on at old mid (ended rest) h grows (ended_for at old.nodes rest h hold)) (λ g same. subst (HoldsFor at mid.nodes after) (some_of _ _ same) there)
+              (goes_by_row r next a h b.0 ds x b.1 b.2)),
+        )
 
-pub ends_none : (a : Action) → ((s : _) → a ≡ act.Give s → ⊥) → (a ≡ act.Throw → ⊥) → ends_method a ≡ false
-ends_none (act.Give s) g t = absurd (g s refl)
-ends_none act.Throw g t = absurd (t refl)
-ends_none a g t = refl
+pub goes_none : (r : Option JType) (next : ℕ) (a : Action) (old mid new : Graph) (rest : Held) (cells : List Cell) → ends_method a ≡ false → ActsOn a old.nodes rest cells mid.nodes None → LeavesFrom r next a old.nodes rest cells new.nodes None
+goes_none r next a old mid new rest cells goes acts at h ds x hold z e =
+    let last = ap (λ (b : Bool). if b then last_chain r a h ds else acted_on a h ds >>= λ after. chain_with r a h ds (to next after)) (sym goes) ∙ e in
+    let b = bound (acted_on a h ds) (λ after. chain_with r a h ds (to next after)) x last in
+    let d = acts at h b.0 ds hold z b.1 in
+    no_some _ d.1
+
+-- ---- sorts
+
+pub row_fit : (old new : Graph) (r : Option JType) (next : ℕ) (a : Action) (held : Held) (cells : List Cell) (row : Row) (given : List ℕ) → row ≡ row_for r next a → given ≡ kids_of true held.heap cells → Grows old new → IsPlain a → GivesResult r a → IsSorted old held → AreSorted old cells → map sort_in cells ≡ takes a → Fit new given row.lines
+row_fit old new r next a held cells row given e f g p v s t m =
+    let fits = row_fits r next a p v in
+    let fit : Fit new (kids_of true held.heap cells) (row_for r next a).lines = record { sorts = H ∷ map op_sort (takes a); given_have = given_sorted old new a held cells g s t m; made = fits.made; are = fits.are } in
+    subst (λ (r : Row). Fit new given r.lines) (sym e) (subst (λ (ks : List ℕ). Fit new ks (row_for r next a).lines) (sym f) fit)
+
+pub same_left : (row row' : Row) (given given' : List ℕ) (ends ends' : Ending) (old new : List Node) (c : Held) (ran : Ran) → row ≡ row' → given ≡ given' → ends ≡ ends' → LeavesByRow row old given ends c new ran → LeavesByRow row' old given' ends' c new ran
+same_left row row' given given' ends ends' old new c ran e f g left =
+    subst (λ (r : Row). LeavesByRow r old given' ends' c new ran) e (subst (λ (ks : List ℕ). LeavesByRow row old ks ends' c new ran) f (subst (λ (e : Ending). LeavesByRow row old given e c new ran) g left))
+
+pub left_sorted : (old new mid : Graph) (r : Option JType) (next : ℕ) (a : Action) (held : Held) (cells : List Cell) (row : Row) (given : List ℕ) (ran : Ran) → Grows old mid → IsPlain a → GivesResult r a → IsSorted old held → AreSorted old cells → map sort_in cells ≡ takes a
+    → row ≡ row_for r next a → given ≡ kids_of true held.heap cells → KeepsSorts row mid given new ran → AreSortedExits new (result_sort r) ran
+left_sorted old new mid r next a held cells row given ran g p v s t m e f keeps =
+    let ss = H ∷ map op_sort (takes a) in
+    keeps ss (result_sort r) (subst (λ (ks : List ℕ). HaveSorts mid.sorts ks ss) (sym f) (given_sorted old mid a held cells g s t m)) (subst (RowFits ss (result_sort r)) (sym e) (row_fits r next a p v))
 
 -- what is popped, as pairs
 pub popped_none : (a : Action) (c : Held) (o : Option (Vec Cell Global × Held)) → option_map (λ q. (q.0.items, q.1)) o ≡ popped_in a c → o ≡ None → popped_in a c ≡ None
@@ -158,7 +181,3 @@ popped_none a c o e is = sym e ∙ ap (option_map (λ q. (q.0.items, q.1))) is
 
 pub popped_some : (a : Action) (c : Held) (o : Option (Vec Cell Global × Held)) (v : Vec Cell Global) (rest : Held) → option_map (λ q. (q.0.items, q.1)) o ≡ popped_in a c → o ≡ Some (v, rest) → popped_in a c ≡ Some (v.items, rest)
 popped_some a c o v rest e is = sym e ∙ ap (option_map (λ q. (q.0.items, q.1))) is
-
-pub each_sorted : (g : Graph) (s : Sort) (o : Option Ran) → IfSome o (λ ran. (s : Sort) → AreSortedExits g s ran) → IfSome o (λ ran. AreSortedExits g s ran)
-each_sorted g s None h = tt
-each_sorted g s (Some ran) h = h s

@@ -7,3 +7,5 @@ pub mod Ran
 pub mod Cells
 pub mod Acting
 pub mod Leaving
+pub mod Lines
+pub mod Rows

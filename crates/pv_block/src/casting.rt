@@ -8,9 +8,9 @@ ghost use Rattle.pv_block.specs.Acting.{push_in, cast_in, PushesInt};
 
 use crate::held::{Cell, Held};
 use crate::stack::pushed;
-use crate::testing::int;
 use pv_frame::Sort;
-use pv_graph::Graph;
+use pv_graph::{Graph, Op};
+use pv_terms::over;
 use pv_value::Memory;
 use std::alloc::Global;
 
@@ -56,7 +56,7 @@ pub(crate) fn with_int(alloc: Global, g: &mut Graph, held: &Held, n: i32) -> Res
     ensures sorted { IfOk result (λ after. IsSorted g.new after) }
     ensures grows { Grows g.old g.new }
 {
-    let node = int(alloc, g, n)?;
+    let node = over(alloc, g, Op::Int(n), &[])?;
     with(
         alloc,
         held,

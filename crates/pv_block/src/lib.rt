@@ -9,9 +9,14 @@
 //!
 //! `stack`, `locals` and `takes` are the text of `pv_frame` on cells. `acting` does what an action does
 //! (`ActsOn` in `specs/Acting`): it is one operation, or moves values alone, or an increase of a local
-//! (`increasing`), a call (`calling`), or a cast or a type test, which choose by tests what they leave (`casting`). `along` does one action after the other (`ActsAlong`). `leaving`
-//! has the tests and exits of the last action (`specs/Leaving`), with the tests of `testing` and, of what the world tells of types,
-//! of `typing`.
+//! (`increasing`), a call (`calling`), or a cast or a type test, which choose by tests what they leave
+//! (`casting`). `along` does one action after the other (`ActsAlong`).
+//!
+//! The tests and exits of the last action are data: `rows` gives for each action a row (`row`), which has
+//! lines, operations over the operands and over earlier lines (`line`), says which lines are tests, and how
+//! each exit leaves the block. `specs/Rows` has the same rows, and `row_chain` says which chain a row is over
+//! the parts of the operands; that this is the chain which `pv_runs` defines is computed, an equation an
+//! action (`proofs/ByRow`). `emit` makes the nodes of all lines, and `leaving` makes tests and exits of them.
 //!
 //! The layer above uses `run`, for a whole block: its tests, and the slots at its exits as far as their
 //! sorts are known, stand for those of the block's chain, whatever the slots stand for where it begins
@@ -27,13 +32,14 @@ mod held;
 mod increasing;
 mod kids;
 mod leaving;
+mod line;
 mod locals;
 mod ran;
+mod row;
+mod rows;
 mod running;
 mod stack;
 mod takes;
-mod testing;
-mod typing;
 
 pub use held::Cell;
 pub use ran::{Ending, Leaving, Ran, State};

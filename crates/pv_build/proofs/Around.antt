@@ -1,8 +1,8 @@
 -- The loops around blocks, and the regions of loops.
-use Rattle.std.proofs.Common.{◌≡◌, ◌≢◌, ℕ, zero, suc, ◌<◌, ◌≤◌, List, [], ◌∷◌, ◌++◌, length, map, get_or, Option, Some, None, slice_get, inl, inr, ⊎_elim, refl, sym, ap, ◌∙◌, subst, arith}
+use Rattle.std.proofs.Common.{◌≡◌, ◌≢◌, ℕ, zero, suc, ◌<◌, ◌≤◌, List, [], ◌∷◌, ◌++◌, length, map, get_or, drop, Option, Some, None, slice_get, inl, inr, ⊎_elim, refl, sym, ap, ◌∙◌, subst, arith}
 use Rattle.std.specs.List.{Contains}
 use Rattle.std.proofs.lemmas.List.{length-map}
-use Rattle.std.proofs.lemmas.Option.{slice_get_within, slice_get_read, same_Some}
+use Rattle.std.proofs.lemmas.Option.{slice_get_read, same_Some}
 use Rattle.pv_frame.proofs.Cited.{contains_first, contains_more, contains_cases, contains_none}
 use Rattle.pv_flow.specs.declared.block.Block.{Block}
 use Rattle.pv_flow.specs.Edges.{targets_of, edges_of}
@@ -15,7 +15,6 @@ use Rattle.pv_equations.proofs.Cited.{solvable}
 use Rattle.pv_decide.specs.declared.aim.Scope.TheVariants as scope
 use Rattle.pv_decide.specs.declared.tree.Target.TheVariants as target
 use Rattle.pv_decide.specs.Sites.{loops_of}
-use Rattle.pv_decide.proofs.Cited.{listed}
 use Rattle.pv_terms.specs.Laws.{depths}
 use Rattle.pv_runs.specs.Laws.{IsRanked}
 use Rattle.pv_build.specs.declared.method.Method.{Method}
@@ -42,7 +41,7 @@ split_in [] x i = absurd i
 split_in (y ∷ xs) x (inl e) = ([], xs, ap (λ (z : ℕ). z ∷ xs) e)
 split_in (y ∷ xs) x (inr i) = let r = split_in xs x i in (y ∷ r.0, r.1, ap (λ (zs : List ℕ). y ∷ zs) r.2)
 
-in_right : (G A : List ℕ) (x : ℕ) → In A x → In (G ++ A) x
+pub in_right : (G A : List ℕ) (x : ℕ) → In A x → In (G ++ A) x
 in_right [] A x i = i
 in_right (g ∷ G) A x i = inr (in_right G A x i)
 
@@ -50,10 +49,10 @@ tail_short : (G : List ℕ) (x : ℕ) (B : List ℕ) → length (x ∷ B) ≤ le
 tail_short [] x B = omega arith
 tail_short (g ∷ G) x B = let z = tail_short G x B in omega (arith, z)
 
-header_at : (loops : List Loop) (i : ℕ) (l : Loop) → slice_get loops i ≡ Some l → get_or (map (λ (l : Loop). l.header) loops) i 0 ≡ l.header
-header_at [] i l e = absurd (cc)
-header_at (k ∷ loops) zero l e = ap (λ (l : Loop). l.header) (same_Some k l e)
-header_at (k ∷ loops) (suc i) l e = header_at loops i l e
+pub header_is : (loops : List Loop) (i : ℕ) (l : Loop) → slice_get loops i ≡ Some l → get_or (map (λ (l : Loop). l.header) loops) i 0 ≡ l.header
+header_is [] i l e = absurd (cc)
+header_is (k ∷ loops) zero l e = ap (λ (l : Loop). l.header) (same_Some k l e)
+header_is (k ∷ loops) (suc i) l e = header_is loops i l e
 
 module _ (m : Method) (is : IsMethod m) where
   pub ranks : IsRanked (flow_in m) (length m.flow.now.blocks)
@@ -71,26 +70,9 @@ module _ (m : Method) (is : IsMethod m) where
   pub home_low : (b : ℕ) → b < length m.flow.now.blocks → b < length m.forest.now.home.items
   home_low b low = let z = is.routine.shaped.loops.homes in let e = edges_long in omega (arith, low, z, e)
 
-  -- as they are read
-  pub home_read : (b : ℕ) → b < length m.flow.now.blocks → (x : Option ℕ) → x ≡ get_or m.forest.now.home.items b x → slice_get m.forest.now.home.items b ≡ Some x
-  home_read b low x e = slice_get_read m.forest.now.home.items (length m.forest.now.home.items) b x refl (home_low b low) e
-
+  -- a loop as it is read
   pub loop_read : (i : ℕ) → i < length m.forest.now.loops.items → (l : Loop) → l ≡ get_or m.forest.now.loops.items i l → slice_get m.forest.now.loops.items i ≡ Some l
   loop_read i low l e = slice_get_read m.forest.now.loops.items (length m.forest.now.loops.items) i l refl low e
-
-  pub home_around : (b : ℕ) (at : Option ℕ) → slice_get m.forest.now.home.items b ≡ Some at → loops_around m b ≡ loops_at m at
-  home_around b at e = headers.around_home m.typed.now.program m.typed.now.frames m.flow.now.blocks m.forest.now is.routine b at e
-
-  pub home_at : (b : ℕ) (at : Option ℕ) → slice_get m.forest.now.home.items b ≡ Some at → IsLoopAt m at
-  home_at b None e = tt
-  home_at b (Some i) e = let h = is.routine.shaped.loops.home b (Some i) e in slice_get_within m.forest.now.loops.items i h.0 h.1
-
-  pub parent_at : (i : ℕ) (l : Loop) → slice_get m.forest.now.loops.items i ≡ Some l → IsLoopAt m l.parent
-  parent_at i l there = go l.parent refl
-    where
-      go : (at : Option ℕ) → l.parent ≡ at → IsLoopAt m at
-      go None e = tt
-      go (Some p) e = (listed (edges_of m.flow.now.blocks) m.forest.now is.routine.shaped.loops).parents i p l there e
 
   pub no_loops : loops_at m None ≡ []
   no_loops = headers.up_none m.typed.now.program m.typed.now.frames m.flow.now.blocks m.forest.now is.routine
@@ -147,7 +129,7 @@ module _ (m : Method) (is : IsMethod m) where
     header_around = header_own ∙ sym loops_own
 
     pub scope_is : scope_at m (Some i) ≡ scope.Loop l.header
-    scope_is = ap scope.Loop (header_at m.forest.now.loops.items i l there)
+    scope_is = ap scope.Loop (header_is m.forest.now.loops.items i l there)
 
   -- the loops of a region are those around a header, or none
   region_in : (at : Option ℕ) → IsLoopAt m at → (k : ℕ) → In (loops_at m at) k → (h : ℕ) × (loops_around m h ≡ loops_at m at)
@@ -185,19 +167,19 @@ module _ (m : Method) (is : IsMethod m) where
 
   -- ---- a block's own loop
 
-  pub own_none : (b : ℕ) → slice_get m.forest.now.home.items b ≡ Some None → IsOwnLoop m b None
-  own_none b e heads = absurd (let z : [] ≡ b ∷ heads.0 = sym no_loops ∙ sym (home_around b None e) ∙ heads.1 in cc)
-
-  pub own_other : (b i : ℕ) (l : Loop) → slice_get m.forest.now.home.items b ≡ Some (Some i) → slice_get m.forest.now.loops.items i ≡ Some l → l.header ≢ b → IsOwnLoop m b None
-  own_other b i l e there other heads =
-      let z : l.header ∷ loops_at m l.parent ≡ b ∷ heads.0 = sym (loops_own i l there) ∙ sym (home_around b (Some i) e) ∙ heads.1 in
+  pub own_other : (b i : ℕ) (l : Loop) → slice_get m.forest.now.loops.items i ≡ Some l → loops_at m (Some i) ≡ loops_around m b → l.header ≢ b → IsOwnLoop m b None
+  own_other b i l there whole other heads =
+      let z : l.header ∷ loops_at m l.parent ≡ b ∷ heads.0 = sym (loops_own i l there) ∙ whole ∙ heads.1 in
       other (let q : l.header ≡ b = cc in q)
 
-  pub outer_home : (b : ℕ) (at : Option ℕ) → slice_get m.forest.now.home.items b ≡ Some at → IsOwnLoop m b None → IsOuter m b at
-  outer_home b at e none = inl (home_around b at e, none)
+  pub own_none : (b : ℕ) → loops_at m None ≡ loops_around m b → IsOwnLoop m b None
+  own_none b whole heads = absurd (let z : [] ≡ b ∷ heads.0 = sym no_loops ∙ whole ∙ heads.1 in cc)
 
-  pub outer_parent : (b i : ℕ) (l : Loop) → slice_get m.forest.now.loops.items i ≡ Some l → l.header ≡ b → IsOuter m b l.parent
-  outer_parent b i l there same = inr (subst (λ (k : ℕ). loops_around m k ≡ k ∷ loops_at m l.parent) same (header_own i l there))
+  -- the loops outside its own
+  pub outer_header : (b i : ℕ) (at : Option ℕ) → IsOwnLoop m b (Some i) → loops_at m at ≡ drop 1 (loops_around m b) → IsOuter m b at
+  outer_header b i at (l, there, same) rest =
+      let own : loops_around m b ≡ b ∷ loops_at m l.parent = subst (λ (k : ℕ). loops_around m k ≡ k ∷ loops_at m l.parent) same (header_own i l there) in
+      inr (own ∙ ap (λ (A : List ℕ). b ∷ A) (sym (rest ∙ ap (drop 1) own)))
 
   -- the loops that are open where a header is entered
   pub outer_own : (b i : ℕ) (l : Loop) (at : Option ℕ) → slice_get m.forest.now.loops.items i ≡ Some l → l.header ≡ b → IsOuter m b at → loops_at m at ≡ loops_at m l.parent

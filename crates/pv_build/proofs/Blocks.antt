@@ -80,5 +80,5 @@ module _ (m : Method) (is : IsMethod m) (g new : Graph) (made more : Made) (b : 
     pub left_stage : IsStage m new more (loops_around m b)
     left_stage = stage_ran m new made more b ran low items same (loops_around m b) stage_grows (is_done m is g new made.names b block c ran here begun.stage.names begun.reads stands sorted) (λ h i. i)
 
-    pub left_done : (k : ℕ) → AreDone m made k → slice_get m.order.items k ≡ Some b → AreDone m more (k + 1)
+    pub left_done : (k : ℕ) → AreDone m made k → slice_get m.forest.now.order.items k ≡ Some b → AreDone m more (k + 1)
     left_done k done at = done_ran m new made more b ran low items same k at done

@@ -1,34 +1,33 @@
 -- From a block that is done outwards, loop by loop, to the region: all of these loops are closed.
-use Rattle.std.proofs.Common.{◌≡◌, ◌≢◌, true, false, nat_eq, true≢false, eqb-true, eq-eqb, ℕ, ◌+◌, ◌<◌, ◌≤◌, List, [], ◌∷◌, ◌++◌, length, length-append, append_assoc, get_or, Option, Some, None, slice_get, ⊎_elim, refl, sym, ap, ◌∙◌, subst, arith}
-use Rattle.std.specs.List.{AllZip, Contains}
+use Rattle.std.proofs.Common.{◌≡◌, ◌≢◌, true, false, nat_eq, true≢false, eqb-true, eq-eqb, ℕ, suc, ◌+◌, ◌<◌, ◌≤◌, List, [], ◌∷◌, ◌++◌, length, length-append, append_assoc, get_or, take, drop, map, Option, Some, None, slice_get, ⊎_elim, sym, ap, ◌∙◌, subst, arith}
+use Rattle.std.specs.List.{All, AllZip, Contains}
 use Rattle.std.specs.Option.{option_eq}
-use Rattle.std.proofs.lemmas.List.{length-map}
-use Rattle.std.proofs.lemmas.Option.{slice_get_within, slice_get-get_or, same_Some}
+use Rattle.std.proofs.lemmas.Bool.{cases_lt}
+use Rattle.std.proofs.lemmas.List.{length-map, length-drop, take-append-drop, take_all, take_more, get_or_append_left}
+use Rattle.std.proofs.lemmas.Option.{slice_get_within, same_Some}
+use Rattle.std.proofs.Math.Seq.{drop-cons, drop-append_seam}
 use Rattle.pv_flow.specs.declared.block.Block.{Block}
-use Rattle.pv_flow.specs.Edges.{targets_of, edges_of}
-use Rattle.pv_loops.specs.declared.forest.Loop.{Loop}
-use Rattle.pv_loops.specs.declared.forest.TheConstants.{MAX_DEPTH}
+use Rattle.pv_flow.specs.Edges.{targets_of}
+use Rattle.pv_loops.specs.Outwards.{header_at}
+use Rattle.pv_graph.proofs.Cited.{found}
 use Rattle.pv_graph.specs.Graphs.{Graph}
 use Rattle.pv_decide.specs.Sites.{Inside}
-use Rattle.pv_decide.proofs.Cited.{listed, inner_is}
+use Rattle.pv_decide.proofs.Cited.{inner_is}
 use Rattle.pv_build.specs.declared.method.Method.{Method}
 use Rattle.pv_build.specs.declared.method.Made.{Made}
 use Rattle.pv_build.specs.declared.method.Closed.{Closed}
 use Rattle.pv_build.specs.declared.method.Stage.TheVariants as stage
 use Rattle.pv_build.specs.Stages.{IsMethod, loops_at, loops_around, IsLoopAt, HasRun, IsClosed, IsStage}
 use Rattle.pv_build.specs.Giving.{scope_at, AreClosedFrom}
-use Rattle.pv_build.proofs.Headers.{around_home}
-use Rattle.pv_build.proofs.Regions.{ranks, region_split, none_at, own_at, same_loop, not_outer, contains_mid}
+use Rattle.pv_build.proofs.Outwards.{row_long, IsIn, loop_in}
+use Rattle.pv_build.proofs.Regions.{region_split, none_at, own_at, same_loop, not_outer, contains_mid}
 
--- after k loops: their headers, and those of the loops still between the next loop and the region
-pub record Climbed (m : Method) (made : Made) (at : Option ℕ) (b k : ℕ) (next : Option ℕ) (left : List Closed) : Type 0 where
-  pub seen : List ℕ
-  pub ahead : List ℕ
-  pub around_ : loops_around m b ≡ seen ++ (ahead ++ loops_at m at)
-  pub next_is : loops_at m next ≡ ahead ++ loops_at m at
-  pub count : length seen ≡ k
-  pub valid : (i : ℕ) → next ≡ Some i → i < length m.forest.now.loops.items
-  pub closed : (g : Graph) → IsStage m g made (loops_at m at) → AllZip (λ (h : ℕ) (c : Closed). IsClosed m g made.names h c) seen left
+-- the loops around the block up to the region, of which the first k are closed
+pub record Climbed (m : Method) (made : Made) (at : Option ℕ) (b k : ℕ) (left : List Closed) : Type 0 where
+  pub inside : List ℕ
+  pub split : loops_around m b ≡ inside ++ loops_at m at
+  pub few : k ≤ length inside
+  pub closed : (g : Graph) → IsStage m g made (loops_at m at) → AllZip (λ (h : ℕ) (c : Closed). IsClosed m g made.names h c) (take k inside) left
 
 -- ---- tests of places
 
@@ -42,14 +41,6 @@ other_at (Some j) i e q = true≢false (sym (eq-eqb j i (same_Some j i q)) ∙ e
 
 -- ---- lists
 
-no_list : (xs ys : List ℕ) → xs ++ ys ≡ [] → xs ≡ []
-no_list [] ys e = refl
-no_list (x ∷ xs) ys e = absurd (cc)
-
-short : (xs ys : List ℕ) → length (xs ++ ys) ≤ length ys → xs ≡ []
-short [] ys le = refl
-short (x ∷ xs) ys le = absurd (let e : length (xs ++ ys) ≡ length xs + length ys = length-append xs ys in omega (arith, le, e))
-
 zip_last : {A B : Type 0} → (Q : A → B → Type 0) (xs : List A) (ys : List B) (x : A) (y : B) → AllZip Q xs ys → Q x y → AllZip Q (xs ++ x ∷ []) (ys ++ y ∷ [])
 zip_last Q [] [] x y all one = (one, tt)
 zip_last Q [] (b ∷ ys) x y all one = absurd all
@@ -61,95 +52,84 @@ module _ (m : Method) (is : IsMethod m) (made : Made) (at : Option ℕ) (low : I
   home_size = is.routine.shaped.loops.homes ∙ length-map m.flow.now.blocks (λ (k : Block). targets_of k.exits)
 
   -- a block that is done has a home
-  pub home_low : (g : Graph) → IsStage m g made (loops_at m at) → HasRun made b → b < length m.forest.now.home.items
-  home_low g stage (ran, there) =
+  pub home_done : (g : Graph) → IsStage m g made (loops_at m at) → HasRun made b → b < length m.forest.now.home.items
+  home_done g stage (ran, there) =
       let z = slice_get_within made.blocks.items b (Some ran) there in
       let y = stage.blocks_size in
       let x = home_size in
       omega (arith, x, y, z)
 
-  pub begins : (next : Option ℕ) → Inside m.trees.sites.items (scope_at m at) b → slice_get m.forest.now.home.items b ≡ Some next → Climbed m made at b 0 next []
-  begins next inside home =
-      let s = region_split m is at low b inside in
-      record {
-        seen = [];
-        ahead = s.0;
-        around_ = s.1;
-        next_is = sym (around_home m.typed.now.program m.typed.now.frames m.flow.now.blocks m.forest.now is.routine b next home) ∙ s.1;
-        count = refl;
-        valid = λ i is_some. (listed (edges_of m.flow.now.blocks) m.forest.now is.routine.shaped.loops).homes b i (home ∙ ap (λ (h : Option ℕ). Some h) is_some);
-        closed = λ g stage. tt;
-      }
+  pub begins : Inside m.trees.sites.items (scope_at m at) b → Climbed m made at b 0 []
+  begins inside = let s = region_split m is at low b inside in record { inside = s.0; split = s.1; few = omega arith; closed = λ g stage. tt }
 
-  module _ (k : ℕ) (next : Option ℕ) (left : List Closed) (c : Climbed m made at b k next left) where
-    whole : c.ahead ≡ [] → (g : Graph) → IsStage m g made (loops_at m at) → AreClosedFrom m g made at b left
-    whole none g stage =
-        let split : loops_around m b ≡ c.seen ++ loops_at m at = c.around_ ∙ ap (λ (X : List ℕ). c.seen ++ (X ++ loops_at m at)) none in
-        subst (λ (X : List ℕ). AllZip (λ (h : ℕ) (c : Closed). IsClosed m g made.names h c) X left) (sym (inner_is (loops_at m at) c.seen (loops_around m b) split)) (c.closed g stage)
+  module _ (row : List ℕ) (heads : map (header_at m.forest.now.loops.items) row ≡ loops_around m b) (within : All (λ i. i < length m.forest.now.loops.items) row) (k : ℕ) (left : List Closed) (c : Climbed m made at b k left) where
+    long : length row ≡ length c.inside + length (loops_at m at)
+    long = row_long m is b row heads within ∙ ap length c.split ∙ length-append c.inside (loops_at m at)
 
-    -- no loop is around it
-    pub at_top : next ≡ None → (g : Graph) → IsStage m g made (loops_at m at) → AreClosedFrom m g made at b left
-    at_top none = whole (no_list c.ahead (loops_at m at) (sym c.next_is ∙ ap (loops_at m) none ∙ none_at m is))
+    whole : length c.inside ≤ k → (g : Graph) → IsStage m g made (loops_at m at) → AreClosedFrom m g made at b left
+    whole all g stage =
+        let e : take k c.inside ≡ c.inside = take_all k c.inside all in
+        subst (λ (X : List ℕ). AllZip (λ (h : ℕ) (c : Closed). IsClosed m g made.names h c) X left) (e ∙ sym (inner_is (loops_at m at) c.inside (loops_around m b) c.split)) (c.closed g stage)
 
-    -- the next loop is the region's
-    pub at_region : next ≡ at → (g : Graph) → IsStage m g made (loops_at m at) → AreClosedFrom m g made at b left
-    at_region same = whole (short c.ahead (loops_at m at) (let e : length (c.ahead ++ loops_at m at) ≡ length (loops_at m at) = ap length (sym c.next_is ∙ ap (loops_at m) same) in omega (arith, e)))
+    -- no more loops are around the block
+    pub at_end : length row ≤ k → (g : Graph) → IsStage m g made (loops_at m at) → AreClosedFrom m g made at b left
+    at_end all = whole (let l = long in omega (arith, all, l))
 
-    -- no block has more loops around it
-    pub at_most : MAX_DEPTH ≤ k → (g : Graph) → IsStage m g made (loops_at m at) → AreClosedFrom m g made at b left
-    at_most all =
-        let long : length (loops_around m b) ≡ length c.seen + length (c.ahead ++ loops_at m at) = ap length c.around_ ∙ length-append c.seen (c.ahead ++ loops_at m at) in
-        let deep : length (loops_around m b) ≤ MAX_DEPTH = (ranks m is).deep b in
-        let count : length c.seen ≡ k = c.count in
-        whole (short c.ahead (loops_at m at) (omega (arith, all, long, deep, count)))
+    module _ (i : ℕ) (at_k : slice_get row k ≡ Some i) where
+      q : IsIn m is b row heads within k i
+      q = loop_in m is b row heads within k i at_k
 
-    module _ (i : ℕ) (l : Loop) (next_at : next ≡ Some i) (other : at ≢ Some i) (there : slice_get m.forest.now.loops.items i ≡ Some l) where
-      -- the next loop is inside the region
-      pub record Further : Type 0 where
-        pub rest : List ℕ
-        pub is_more : c.ahead ≡ l.header ∷ rest
-        pub parent_is : loops_at m l.parent ≡ rest ++ loops_at m at
+      less : k < length row
+      less = slice_get_within row k i at_k
 
-      own : loops_at m next ≡ l.header ∷ loops_at m l.parent
-      own = ap (loops_at m) next_at ∙ own_at m is i l there
+      -- the next loop is the region's
+      pub at_region : at ≡ Some i → (g : Graph) → IsStage m g made (loops_at m at) → AreClosedFrom m g made at b left
+      at_region same = whole
+          (let e : length (loops_at m at) ≡ length (drop k (loops_around m b)) = ap length (ap (loops_at m) same ∙ q.rest) in
+          let d = length-drop k (loops_around m b) in
+          let l = long in
+          let r = row_long m is b row heads within in
+          let lt = less in
+          omega (arith, e, d, l, r, lt))
 
-      not_region : (a : Option ℕ) → a ≢ Some i → IsLoopAt m a → loops_at m a ≡ l.header ∷ loops_at m l.parent → ⊥
-      not_region None ne low e = absurd (let z : l.header ∷ loops_at m l.parent ≡ [] = sym e ∙ none_at m is in cc)
+      not_region : (a : Option ℕ) → a ≢ Some i → IsLoopAt m a → loops_at m a ≡ loops_at m (Some i) → ⊥
+      not_region None ne low e = absurd (let z : q.listed.header ∷ loops_at m q.listed.parent ≡ [] = sym (own_at m is i q.listed q.there) ∙ sym e ∙ none_at m is in cc)
       not_region (Some j) ne low e =
-          let k : Loop = get_or m.forest.now.loops.items j l in
-          let at_k : slice_get m.forest.now.loops.items j ≡ Some k = slice_get-get_or m.forest.now.loops.items j l low in
-          let same : k.header ≡ l.header = (let z : k.header ∷ loops_at m k.parent ≡ l.header ∷ loops_at m l.parent = sym (own_at m is j k at_k) ∙ e in cc) in
-          ne (ap (λ (n : ℕ). Some n) (same_loop m is j i k l at_k there same))
+          let l = found m.forest.now.loops.items j low in
+          let same : l.0.header ≡ q.listed.header = (let z : l.0.header ∷ loops_at m l.0.parent ≡ q.listed.header ∷ loops_at m q.listed.parent = sym (own_at m is j l.0 l.1) ∙ e ∙ own_at m is i q.listed q.there in cc) in
+          ne (ap (λ (n : ℕ). Some n) (same_loop m is j i l.0 q.listed l.1 q.there same))
 
-      further : (ahead : List ℕ) → c.ahead ≡ ahead → Further
-      further [] e = absurd (not_region at other low (sym (c.next_is ∙ ap (λ (X : List ℕ). X ++ loops_at m at) e) ∙ own))
-      further (x ∷ rest) e =
-          let z : x ∷ (rest ++ loops_at m at) ≡ l.header ∷ loops_at m l.parent = sym (c.next_is ∙ ap (λ (X : List ℕ). X ++ loops_at m at) e) ∙ own in
-          let head : x ≡ l.header = cc in
-          let tail : rest ++ loops_at m at ≡ loops_at m l.parent = cc in
-          record { rest = rest; is_more = e ∙ ap (λ (x : ℕ). x ∷ rest) head; parent_is = sym tail }
+      module _ (other : at ≢ Some i) where
+        -- it is inside the region
+        further : k < length c.inside
+        further = ⊎_elim
+            (λ (lt : k < length c.inside). lt)
+            (λ (ge : length c.inside ≤ k).
+            let e : k ≡ length c.inside = (let few = c.few in omega (arith, few, ge)) in
+            absurd (not_region at other low (sym (drop-append_seam c.inside (loops_at m at)) ∙ ap (drop (length c.inside)) (sym c.split) ∙ ap (λ (n : ℕ). drop n (loops_around m b)) (sym e) ∙ sym q.rest)))
+            (cases_lt k (length c.inside))
 
-      onward : Further
-      onward = further c.ahead refl
+        here : get_or c.inside k 0 ≡ q.listed.header
+        here = sym (get_or_append_left c.inside (loops_at m at) 0 k further) ∙ ap (λ (X : List ℕ). get_or X k 0) (sym c.split) ∙ q.header
 
-      split : loops_around m b ≡ c.seen ++ (l.header ∷ (onward.rest ++ loops_at m at))
-      split = c.around_ ∙ ap (λ (X : List ℕ). c.seen ++ (X ++ loops_at m at)) onward.is_more
+        around_it : loops_around m b ≡ take k c.inside ++ (q.listed.header ∷ (drop (suc k) c.inside ++ loops_at m at))
+        around_it = c.split ∙ ap (λ (X : List ℕ). X ++ loops_at m at) (sym (take-append-drop k c.inside) ∙ ap (λ (X : List ℕ). take k c.inside ++ X) (drop-cons c.inside k 0 further ∙ ap (λ (h : ℕ). h ∷ drop (suc k) c.inside) here))
+            ∙ append_assoc (take k c.inside) (q.listed.header ∷ drop (suc k) c.inside) (loops_at m at)
 
-      -- it is closed
-      pub closed_there : (g : Graph) → IsStage m g made (loops_at m at) → HasRun made b → (x : Closed) × (slice_get made.loops.items i ≡ Some (stage.Closed x))
-      closed_there g st run = ⊎_elim
-          (λ open_. absurd (not_outer m is b l.header c.seen onward.rest (loops_at m at) split open_))
-          (λ closed. closed)
-          (st.passed b i l run there (subst (λ (A : List ℕ). Contains A l.header) (sym split) (contains_mid c.seen l.header (onward.rest ++ loops_at m at))))
+        -- it is closed
+        pub closed_there : (g : Graph) → IsStage m g made (loops_at m at) → HasRun made b → (x : Closed) × (slice_get made.loops.items i ≡ Some (stage.Closed x))
+        closed_there g st run = ⊎_elim
+            (λ open_. absurd (not_outer m is b q.listed.header (take k c.inside) (drop (suc k) c.inside) (loops_at m at) around_it open_))
+            (λ closed. closed)
+            (st.passed b i q.listed run q.there (subst (λ (A : List ℕ). Contains A q.listed.header) (sym around_it) (contains_mid (take k c.inside) q.listed.header (drop (suc k) c.inside ++ loops_at m at))))
 
-      -- one more loop
-      pub climbs : (x : Closed) → slice_get made.loops.items i ≡ Some (stage.Closed x) → Climbed m made at b (k + 1) l.parent (left ++ x ∷ [])
-      climbs x at_x = record {
-        seen = c.seen ++ l.header ∷ [];
-        ahead = onward.rest;
-        around_ = split ∙ sym (append_assoc c.seen (l.header ∷ []) (onward.rest ++ loops_at m at));
-        next_is = onward.parent_is;
-        count = length-append c.seen (l.header ∷ []) ∙ ap (λ (n : ℕ). n + 1) c.count;
-        valid = λ p e. (listed (edges_of m.flow.now.blocks) m.forest.now is.routine.shaped.loops).parents i p l there e;
-        closed = λ g st. zip_last (λ (h : ℕ) (c : Closed). IsClosed m g made.names h c) c.seen left l.header x (c.closed g st) (st.loops i l (stage.Closed x) there at_x).0;
-      }
+        -- one more loop
+        pub climbs : (x : Closed) → slice_get made.loops.items i ≡ Some (stage.Closed x) → Climbed m made at b (k + 1) (left ++ x ∷ [])
+        climbs x at_x = record {
+          inside = c.inside;
+          split = c.split;
+          few = (let lt = further in omega (arith, lt));
+          closed = λ g st.
+              subst (λ (X : List ℕ). AllZip (λ (h : ℕ) (c : Closed). IsClosed m g made.names h c) X (left ++ x ∷ [])) (sym (take_more c.inside k 0 further ∙ ap (λ (h : ℕ). take k c.inside ++ h ∷ []) here))
+              (zip_last (λ (h : ℕ) (c : Closed). IsClosed m g made.names h c) (take k c.inside) left q.listed.header x (c.closed g st) (st.loops i q.listed (stage.Closed x) q.there at_x).0);
+        }

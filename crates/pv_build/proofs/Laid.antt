@@ -32,7 +32,7 @@ module _ (file : ClassFile) (m : Method) (p : Program) (frames : List (Option Fr
   shaped = record { program = accepted.of_method; well_typed = needed_agree p frames needed; flow = laid.flow; loops = laid.loops; reducible = laid.reducible; shallow = laid.shallow }
 
   pub is_routine : IsRoutine p frames blocks forest
-  is_routine = record { file = file; method = m; shaped = shaped; few = laid.few; ordered = laid.ordered }
+  is_routine = record { file = file; method = m; shaped = shaped; few = laid.few; ordered = laid.ordered; arranged = laid.arranged }
 
   pub is_root : (g : Graph) (r : ℕ) → IsBuilt g p frames blocks forest r → IsRootOf g r file m
   is_root g r built = record { form = record { program = p; frames = frames; blocks = blocks; forest = forest; accepted = accepted; needed = needed; shaped = shaped; few = laid.few }; built = built }

@@ -18,7 +18,6 @@ pub mod Frames
 pub mod Trees
 pub mod Headers
 pub mod Flowing
-pub mod Nested
 pub mod Turns
 pub mod Restaged
 pub mod Outwards
@@ -30,10 +29,6 @@ pub mod Storing
 pub mod Writing
 pub mod Uniting
 pub mod Looped
-pub mod Inserted
-pub mod Gathered
-pub mod Surroundings
-pub mod Routines
 pub mod Outgoing
 pub mod Cycles
 pub mod Ties

@@ -132,11 +132,11 @@ module _ (m : Method) (g : Graph) (made more : Made) (b : ℕ) (ran : Ran) (low 
         (ran_cases x run);
   }
 
-  done_next : (k : ℕ) → slice_get m.order.items k ≡ Some b → AreDone m made k → AreDone m next (k + 1)
+  done_next : (k : ℕ) → slice_get m.forest.now.order.items k ≡ Some b → AreDone m made k → AreDone m next (k + 1)
   done_next k at d = record {
     first = λ j x less to. ⊎_elim
         (λ (same : j ≡ k).
-        let one : b ≡ x = same_Some b x (sym at ∙ ap (slice_get m.order.items) (sym same) ∙ to) in
+        let one : b ≡ x = same_Some b x (sym at ∙ ap (slice_get m.forest.now.order.items) (sym same) ∙ to) in
         (ran, ap (λ (n : ℕ). slice_get more.blocks.items n) (sym one) ∙ here))
         (λ (lower : j < k). ran_still x (d.first j x lower to))
         (let z : (j ≡ k) ⊎ (j < k) = grind (arith, less) in z);
@@ -150,7 +150,7 @@ module _ (m : Method) (g : Graph) (made more : Made) (b : ℕ) (ran : Ran) (low 
     pub stage_ran : (R : List ℕ) → IsStage m g made R → IsDone m g made.names b ran → ((h : ℕ) → In (loops_around m b) h → In R h) → IsStage m g more R
     stage_ran R is done open_ = subst (λ (x : Made). IsStage m g x R) (sym same) (stage_next R is done open_)
 
-    pub done_ran : (k : ℕ) → slice_get m.order.items k ≡ Some b → AreDone m made k → AreDone m more (k + 1)
+    pub done_ran : (k : ℕ) → slice_get m.forest.now.order.items k ≡ Some b → AreDone m made k → AreDone m more (k + 1)
     done_ran k at d = subst (λ (x : Made). AreDone m x (k + 1)) (sym same) (done_next k at d)
 
 -- ---- from a block to the next one
@@ -184,7 +184,7 @@ module _ (m : Method) (is : IsMethod m) (g : Graph) (made : Made) (b n : ℕ) (l
   no_head : (h : ℕ) → In R h → h ≢ n
   no_head h i same =
       let among : Contains (loops_around m b) n = subst (λ (k : ℕ). Contains (loops_around m b) k) same (of_in (loops_around m b) h (both h i).0) in
-      let le : last.place + 1 ≤ last.place = is.arranged.headers (last.place + 1) last.place n b last.after last.at among in
+      let le : last.place + 1 ≤ last.place = is.routine.arranged.headers (last.place + 1) last.place n b last.after last.at among in
       absurd (omega (arith, le))
 
   -- a loop around the next block that isn't its own is open
@@ -193,8 +193,8 @@ module _ (m : Method) (is : IsMethod m) (g : Graph) (made : Made) (b n : ℕ) (l
       let q = loop_of m is n h i in
       let low : h < length m.flow.now.blocks = subst (λ (k : ℕ). k < length m.flow.now.blocks) q.3 (trees_low q.0 q.1 q.2) in
       let p = placed m is h low in
-      let le : p.0 ≤ last.place + 1 = is.arranged.headers p.0 (last.place + 1) h n p.1 last.after (of_in (loops_around m n) h i) in
-      let away : p.0 ≢ last.place + 1 = λ e. other (same_Some h n (sym p.1 ∙ ap (slice_get m.order.items) e ∙ last.after)) in
+      let le : p.0 ≤ last.place + 1 = is.routine.arranged.headers p.0 (last.place + 1) h n p.1 last.after (of_in (loops_around m n) h i) in
+      let away : p.0 ≢ last.place + 1 = λ e. other (same_Some h n (sym p.1 ∙ ap (slice_get m.forest.now.order.items) e ∙ last.after)) in
       let run : HasRun made h = last.done.first p.0 h (omega (arith, le, away)) p.1 in
       let own : Contains (loops_around m h) q.1.header = subst (λ (k : ℕ). Contains (loops_around m h) k) (sym q.3) (of_in (loops_around m h) h (own_in m is n h i)) in
       elim (at_stage.passed h q.0 q.1 run q.2 own) [
@@ -209,7 +209,7 @@ module _ (m : Method) (is : IsMethod m) (g : Graph) (made : Made) (b n : ℕ) (l
       not_done k all same =
           let run = all n n_low (subst (λ (k : ℕ). Contains (loops_around m n) k) (sym same) (of_in (loops_around m n) h i)) in
           let z = last.done.only n run in
-          let one : z.0 ≡ last.place + 1 = is.arranged.once z.0 (last.place + 1) n z.2 last.after in
+          let one : z.0 ≡ last.place + 1 = is.routine.ordered.once z.0 (last.place + 1) n z.2 last.after in
           absurd (let less = z.1 in omega (arith, less, one))
 
   -- THE LOOPS THAT ARE LEFT OPEN ARE THOSE AROUND THE NEXT BLOCK
@@ -271,16 +271,16 @@ module _ (m : Method) (g : Graph) (made : Made) (well : IsWellMade g) (open_ : g
   first_done = record { first = λ j b less at. absurd (omega arith); only = λ b run. absurd (no_run b run) }
 
 -- no loop is open where the first block of the order is next
-first_none : (m : Method) (is : IsMethod m) (n : ℕ) → slice_get m.order.items 0 ≡ Some n → (o : Option ℕ) → IsOuter m n o → (h : ℕ) → In (loops_at m o) h → ⊥
+first_none : (m : Method) (is : IsMethod m) (n : ℕ) → slice_get m.forest.now.order.items 0 ≡ Some n → (o : Option ℕ) → IsOuter m n o → (h : ℕ) → In (loops_at m o) h → ⊥
 first_none m is n at o outer h i =
     let q = outer_in m is n o outer h i in
     let l = loop_of m is n h q.0 in
     let p = placed m is h (subst (λ (k : ℕ). k < length m.flow.now.blocks) l.3 (headers.header_low m.typed.now.program m.typed.now.frames m.flow.now.blocks m.forest.now is.routine l.0 l.1 l.2)) in
-    let le : p.0 ≤ 0 = is.arranged.headers p.0 0 h n p.1 at (of_in (loops_around m n) h q.0) in
+    let le : p.0 ≤ 0 = is.routine.arranged.headers p.0 0 h n p.1 at (of_in (loops_around m n) h q.0) in
     let first : p.0 ≡ 0 = omega (arith, le) in
-    q.1 (same_Some h n (sym p.1 ∙ ap (slice_get m.order.items) first ∙ at))
+    q.1 (same_Some h n (sym p.1 ∙ ap (slice_get m.forest.now.order.items) first ∙ at))
 
-pub first_for : (m : Method) (is : IsMethod m) (g : Graph) (made : Made) → IsStage m g made [] → (next : Option ℕ) → slice_get m.order.items 0 ≡ next → IsStageFor m g made next
+pub first_for : (m : Method) (is : IsMethod m) (g : Graph) (made : Made) → IsStage m g made [] → (next : Option ℕ) → slice_get m.forest.now.order.items 0 ≡ next → IsStageFor m g made next
 first_for m is g made at_stage None at = at_stage
 first_for m is g made at_stage (Some n) at = λ o outer. stage_same m g made [] (loops_at m o) (λ h i. absurd i) (λ h i. absurd (first_none m is n at o outer h i)) at_stage
 

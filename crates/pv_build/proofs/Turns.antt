@@ -3,18 +3,14 @@ use Rattle.std.proofs.Common.{◌≡◌, ℕ, ◌+◌, ◌<◌, List, length, ge
 use Rattle.std.specs.List.{Contains}
 use Rattle.std.proofs.lemmas.Bool.{cases_lt}
 use Rattle.std.proofs.lemmas.Option.{slice_get_within, slice_get_read, same_Some}
-use Rattle.pv_flow.specs.declared.block.Exit.{Exit}
-use Rattle.pv_flow.specs.declared.block.Exit.TheVariants as exit
 use Rattle.pv_flow.specs.declared.block.Block.{Block}
 use Rattle.pv_flow.specs.Edges.{edges_of}
 use Rattle.pv_loops.specs.declared.forest.Loop.{Loop}
-use Rattle.pv_loops.specs.Shapes.{Edge}
 use Rattle.pv_graph.proofs.Cited.{found}
-use Rattle.pv_decide.specs.declared.site.Site.{Site}
 use Rattle.pv_decide.specs.declared.tree.Target.{Target}
 use Rattle.pv_decide.specs.declared.tree.Target.TheVariants as target
-use Rattle.pv_decide.specs.Sites.{IsAround, GoesTo, AreOrdered, place_of}
-use Rattle.pv_decide.proofs.Cited.{edge_of, under, at_place, place_is, place_low}
+use Rattle.pv_decide.specs.Sites.{AreOrdered, place_of}
+use Rattle.pv_decide.proofs.Cited.{at_place, place_is, place_low}
 use Rattle.pv_build.specs.declared.method.Method.{Method}
 use Rattle.pv_build.specs.declared.method.Made.{Made}
 use Rattle.pv_build.specs.Stages.{IsMethod, HasRun, AreDone, loops_around}
@@ -33,8 +29,8 @@ done_same m made more k same d = record {
 }
 
 module _ (m : Method) (is : IsMethod m) where
-  pub block_low : (k b : ℕ) → slice_get m.order.items k ≡ Some b → b < length m.flow.now.blocks
-  block_low k b at = subst (λ (n : ℕ). b < n) (edges_long m is) (is.arranged.nodes k b at)
+  pub block_low : (k b : ℕ) → slice_get m.forest.now.order.items k ≡ Some b → b < length m.flow.now.blocks
+  block_low k b at = subst (λ (n : ℕ). b < n) (edges_long m is) (is.routine.ordered.nodes k b at)
 
   -- a block as it is read
   pub block_at : (b : ℕ) → b < length m.flow.now.blocks → (now : List Block) (x : Block) → now ≡ m.flow.now.blocks → x ≡ get_or now b x → slice_get m.flow.now.blocks b ≡ Some x
@@ -45,68 +41,52 @@ module _ (m : Method) (is : IsMethod m) where
   pub next_block : (made : Made) (b : ℕ) → IsNext m made b → (now : List Block) (x : Block) → now ≡ m.flow.now.blocks → x ≡ get_or now b x → slice_get m.flow.now.blocks b ≡ Some x
   next_block made b next now x same e = block_at b (block_low next.place b next.at) now x same e
 
-  pub placed : (b : ℕ) → b < length m.flow.now.blocks → (k : ℕ) × (slice_get m.order.items k ≡ Some b)
-  placed b low = is.arranged.each b (subst (λ (n : ℕ). b < n) (sym (edges_long m is)) low)
+  pub placed : (b : ℕ) → b < length m.flow.now.blocks → (k : ℕ) × (slice_get m.forest.now.order.items k ≡ Some b)
+  placed b low = is.routine.ordered.each b (subst (λ (n : ℕ). b < n) (sym (edges_long m is)) low)
 
   sites_long : length (edges_of m.flow.now.blocks) ≡ length m.trees.sites.items
   sites_long = edges_long m is ∙ sym is.trees.sites.size
 
-  edge_from : (b k : ℕ) (site : Site) → slice_get m.trees.sites.items b ≡ Some site → Contains site.exits.items (exit.To k) → Edge (edges_of m.flow.now.blocks) b k
-  edge_from b k site e has =
-      let u = under m.flow.now m.forest.now m.trees.sites.items is.trees.sites b site e in
-      edge_of m.flow.now.blocks b k u.0 u.1 (subst (λ (xs : List Exit). Contains xs (exit.To k)) u.2.exits has)
-
-  goes_forward : (i j b k : ℕ) → slice_get m.order.items i ≡ Some b → slice_get m.order.items j ≡ Some k → GoesTo m.trees.sites.items b k → (i < j) ⊎ IsAround m.trees.sites.items b k
-  goes_forward i j b k p q (site, e, has) = ⊎_elim
-      (λ less. inl less)
-      (λ among. inr (site, e, (let u = under m.flow.now m.forest.now m.trees.sites.items is.trees.sites b site e in subst (λ (xs : List ℕ). Contains xs k) (sym u.2.around) among)))
-      (is.arranged.forward i j b k p q (edge_from b k site e has))
-
   -- walks may follow the order
-  ordered : AreOrdered m.trees.sites.items m.order.items
-  ordered = record {
-    blocks = λ k b at. subst (λ (n : ℕ). b < n) sites_long (is.arranged.nodes k b at);
-    each = λ b low. is.arranged.each b (subst (λ (n : ℕ). b < n) (sym sites_long) low);
-    once = λ j k b p q. is.arranged.once j k b p q;
-    forward = goes_forward;
-  }
+  ordered : AreOrdered m.trees.sites.items m.forest.now.order.items
+  ordered = subst (AreOrdered m.trees.sites.items) is.trees.follows is.trees.ready.ordered
 
   -- what comes before the next block in every order is done
   pub next_ready : (made : Made) (b : ℕ) (next : IsNext m made b) (at : Option ℕ) → AreReadyFor m made at (target.Node b)
   next_ready made b next at x less inside early =
-      let low : b < length m.trees.sites.items = subst (λ (n : ℕ). b < n) sites_long (is.arranged.nodes next.place b next.at) in
-      let before : place_of m.order.items x < place_of m.order.items b = early b m.order.items refl low ordered in
-      let place : place_of m.order.items b ≡ next.place = place_is m.trees.sites.items m.order.items ordered next.place b next.at in
-      next.done.first (place_of m.order.items x) x (omega (arith, before, place)) (at_place m.trees.sites.items m.order.items ordered x less)
+      let low : b < length m.trees.sites.items = subst (λ (n : ℕ). b < n) sites_long (is.routine.ordered.nodes next.place b next.at) in
+      let before : place_of m.forest.now.order.items x < place_of m.forest.now.order.items b = early b m.forest.now.order.items refl low ordered in
+      let place : place_of m.forest.now.order.items b ≡ next.place = place_is m.trees.sites.items m.forest.now.order.items ordered next.place b next.at in
+      next.done.first (place_of m.forest.now.order.items x) x (omega (arith, before, place)) (at_place m.trees.sites.items m.forest.now.order.items ordered x less)
 
-  pub all_ready : (made : Made) → AreDone m made (length m.order.items) → (at : Option ℕ) (t : Target) → AreReadyFor m made at t
+  pub all_ready : (made : Made) → AreDone m made (length m.forest.now.order.items) → (at : Option ℕ) (t : Target) → AreReadyFor m made at t
   all_ready made done at t x less inside early =
-      done.first (place_of m.order.items x) x (place_low m.trees.sites.items m.order.items ordered x less) (at_place m.trees.sites.items m.order.items ordered x less)
+      done.first (place_of m.forest.now.order.items x) x (place_low m.trees.sites.items m.forest.now.order.items ordered x less) (at_place m.trees.sites.items m.forest.now.order.items ordered x less)
 
   -- the next block hasn't run
-  pub next_ahead : (made : Made) (b k : ℕ) → slice_get m.order.items k ≡ Some b → AreDone m made k → HasRun made b → ⊥
+  pub next_ahead : (made : Made) (b k : ℕ) → slice_get m.forest.now.order.items k ≡ Some b → AreDone m made k → HasRun made b → ⊥
   next_ahead made b k at done run =
       let q = done.only b run in
-      let same : q.0 ≡ k = is.arranged.once q.0 k b q.2 at in
+      let same : q.0 ≡ k = is.routine.ordered.once q.0 k b q.2 at in
       absurd (let less = q.1 in omega (arith, same, less))
 
   -- ---- a loop that the next block isn't in
 
   module _ (made : Made) (b : ℕ) (next : Option ℕ) (last : IsLast m made b next) (i : ℕ) (l : Loop) (there : slice_get m.forest.now.loops.items i ≡ Some l) (among : Contains (loops_around m b) l.header) where
     -- has no block after b
-    none_after : (HasBlock m i next → ⊥) → (x k : ℕ) → slice_get m.order.items k ≡ Some x → Contains (loops_around m x) l.header → last.place < k → ⊥
+    none_after : (HasBlock m i next → ⊥) → (x k : ℕ) → slice_get m.forest.now.order.items k ≡ Some x → Contains (loops_around m x) l.header → last.place < k → ⊥
     none_after out x k at has after = from next last.after out
       where
-        from : (o : Option ℕ) → slice_get m.order.items (last.place + 1) ≡ o → (HasBlock m i o → ⊥) → ⊥
+        from : (o : Option ℕ) → slice_get m.forest.now.order.items (last.place + 1) ≡ o → (HasBlock m i o → ⊥) → ⊥
         from None e out =
-            let low : k < length m.order.items = slice_get_within m.order.items k x at in
-            let y = found m.order.items (last.place + 1) (omega (arith, after, low)) in
+            let low : k < length m.forest.now.order.items = slice_get_within m.forest.now.order.items k x at in
+            let y = found m.forest.now.order.items (last.place + 1) (omega (arith, after, low)) in
             absurd (let z : None ≡ Some y.0 = sym e ∙ y.1 in cc)
         from (Some n) e out = ⊎_elim
             (λ (same : last.place + 1 ≡ k).
-            let one : n ≡ x = same_Some n x (sym e ∙ ap (slice_get m.order.items) same ∙ at) in
+            let one : n ≡ x = same_Some n x (sym e ∙ ap (slice_get m.forest.now.order.items) same ∙ at) in
             out (l, there, subst (λ (y : ℕ). Contains (loops_around m y) l.header) (sym one) has))
-            (λ (less : last.place + 1 < k). out (l, there, is.arranged.together last.place (last.place + 1) k b n x l.header last.at e at (omega arith) less among has))
+            (λ (less : last.place + 1 < k). out (l, there, is.routine.arranged.together last.place (last.place + 1) k b n x l.header last.at e at (omega arith) less among has))
             (let z : (last.place + 1 ≡ k) ⊎ (last.place + 1 < k) = grind (arith, after) in z)
 
     -- so all of its blocks are done

@@ -26,14 +26,14 @@ HasBlock m i (Some b) = (l : Loop) × (slice_get m.forest.now.loops.items i ≡ 
 -- block b is next in the order
 pub record IsNext (m : Method) (made : Made) (b : ℕ) : Type 0 where
   pub place : ℕ
-  pub at : slice_get m.order.items place ≡ Some b
+  pub at : slice_get m.forest.now.order.items place ≡ Some b
   pub done : AreDone m made place
 
 -- the blocks of the order up to b are done, and `next` is after it
 pub record IsLast (m : Method) (made : Made) (b : ℕ) (next : Option ℕ) : Type 0 where
   pub place : ℕ
-  pub at : slice_get m.order.items place ≡ Some b
-  pub after : slice_get m.order.items (place + 1) ≡ next
+  pub at : slice_get m.forest.now.order.items place ≡ Some b
+  pub after : slice_get m.forest.now.order.items (place + 1) ≡ next
   pub done : AreDone m made (place + 1)
 
 -- what is made where block b comes next: the loops around it are open, but for its own

@@ -5,7 +5,6 @@ pub mod Conversion
 pub mod Reasons
 -- the vocabulary of private functions
 pub mod Routine
-pub mod Arranged
 pub mod Carried
 pub mod Homes
 pub mod Slots
@@ -21,4 +20,3 @@ pub mod Opening
 pub mod Openings
 pub mod Building
 pub mod Closings
-pub mod Spots

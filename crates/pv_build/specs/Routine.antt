@@ -8,13 +8,14 @@ use Rattle.pv_flow.specs.declared.block.Block.{Block}
 use Rattle.pv_flow.specs.declared.flow.TheConstants.{MOST_BLOCKS}
 use Rattle.pv_flow.specs.Edges.{edges_of}
 use Rattle.pv_loops.specs.declared.forest.Forest.{Forest}
-use Rattle.pv_loops.specs.Ranks.{IsOrdered}
+use Rattle.pv_loops.specs.Ranks.{IsOrdered, IsArranged}
 use Rattle.pv_runs.specs.Methods.{IsShaped}
 
--- a method with its frames, its blocks in an order that edges follow, and the forest of their loops
+-- a method with its frames, its blocks in an order that edges follow and in which those of a loop stand together, and the forest of their loops
 pub record IsRoutine (p : Program) (frames : List (Option Frame)) (blocks : List Block) (forest : Forest) : Type 0 where
   pub file : ClassFile
   pub method : Method
   pub shaped : IsShaped file method p frames blocks forest
   pub few : length blocks ≤ MOST_BLOCKS
   pub ordered : IsOrdered (edges_of blocks) forest
+  pub arranged : IsArranged forest

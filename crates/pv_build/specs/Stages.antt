@@ -8,7 +8,6 @@ use Rattle.std.specs.List.{Contains}
 use Rattle.pv_frame.specs.declared.frame.Frame.{Frame}
 use Rattle.pv_frame.specs.Frames.{IsFrameAt}
 use Rattle.pv_flow.specs.declared.block.Block.{Block}
-use Rattle.pv_flow.specs.Edges.{edges_of}
 use Rattle.pv_loops.specs.declared.forest.Loop.{Loop}
 use Rattle.pv_loops.specs.Ranks.{around}
 use Rattle.pv_graph.specs.declared.node.Op.{Op}
@@ -43,7 +42,6 @@ use Rattle.pv_build.specs.declared.method.Stage.{Stage}
 use Rattle.pv_build.specs.declared.method.Stage.TheVariants as stage
 use Rattle.pv_build.specs.declared.method.Made.{Made}
 use Rattle.pv_build.specs.Routine.{IsRoutine}
-use Rattle.pv_build.specs.Arranged.{IsArranged}
 use Rattle.pv_build.specs.Carried.{AreCarried}
 use Rattle.pv_build.specs.Homes.{up}
 use Rattle.pv_build.specs.Slots.{number}
@@ -59,7 +57,6 @@ HasFrameAt frames place = (f : Frame) × IsFrameAt frames place f
 pub record IsMethod (m : Method) : Type 0 where
   pub routine : IsRoutine m.typed.now.program m.typed.now.frames m.flow.now.blocks m.forest.now
   pub trees : AreOf m.flow.now m.forest.now m.trees
-  pub arranged : IsArranged (edges_of m.flow.now.blocks) m.forest.now m.order.items
   pub carries : AreCarried m.typed.now.program m.typed.now.frames m.flow.now.blocks m.forest.now m.carried.items
 
 -- its flow
@@ -109,8 +106,8 @@ HasRun made b = (ran : Ran) × (slice_get made.blocks.items b ≡ Some (Some ran
 
 -- the first k blocks of the order are done, and no others
 pub record AreDone (m : Method) (made : Made) (k : ℕ) : Type 0 where
-  pub first : (j b : ℕ) → j < k → slice_get m.order.items j ≡ Some b → HasRun made b
-  pub only : (b : ℕ) → HasRun made b → (j : ℕ) × (j < k) × (slice_get m.order.items j ≡ Some b)
+  pub first : (j b : ℕ) → j < k → slice_get m.forest.now.order.items j ≡ Some b → HasRun made b
+  pub only : (b : ℕ) → HasRun made b → (j : ℕ) × (j < k) × (slice_get m.forest.now.order.items j ≡ Some b)
 
 -- ---- loops
 

@@ -14,7 +14,7 @@ use Rattle.pv_loops.specs.declared.forest.TheConstants.{MAX_DEPTH}
 use Rattle.pv_loops.specs.Steps.{Stuck, IsReducible}
 use Rattle.pv_loops.specs.declared.forest.Forest.{Forest}
 use Rattle.pv_loops.specs.Forests.{IsForest, NestsUpTo, HasDepth}
-use Rattle.pv_loops.specs.Ranks.{IsOrdered}
+use Rattle.pv_loops.specs.Ranks.{IsOrdered, IsArranged}
 
 -- the edges between the blocks that are reached, of which there are at most MOST_BLOCKS
 pub record HasEdges (p : Program) (edges : List (List ℕ)) : Type 0 where
@@ -37,11 +37,12 @@ pub data MeetsShape (p : Program) : Cause → Type 0 where
   irreducible : (edges : List (List ℕ)) (steps : List TStep) → HasEdges p edges → Stuck edges steps → MeetsShape p (cause kind.Irreducible 0)
   depth : (edges : List (List ℕ)) → HasEdges p edges → IsReducible edges → HasDepth edges (MAX_DEPTH + 1) → MeetsShape p (cause kind.Depth 0)
 
--- the blocks of a structured program, with the forest of their loops and an order of them that edges follow
+-- the blocks of a structured program, with the forest of their loops and an order of them that edges follow and in which those of a loop stand together
 pub record IsLaidOut (p : Program) (blocks : List Block) (forest : Forest) : Type 0 where
   pub flow : IsFlow p blocks
   pub few : length blocks ≤ MOST_BLOCKS
   pub loops : IsForest (edges_of blocks) forest
   pub ordered : IsOrdered (edges_of blocks) forest
+  pub arranged : IsArranged forest
   pub reducible : IsReducible (edges_of blocks)
   pub shallow : NestsUpTo (edges_of blocks) MAX_DEPTH

@@ -1,6 +1,6 @@
 //! The graph of a method.
 
-ghost use Rattle.std.specs.Prelude.{◌≡◌, ◌+◌, ◌<◌, ◌↔◌, true, ℕ, [], length, None, Some, replicate, slice_get, IfOk, OnOk, IsTrue};
+ghost use Rattle.std.specs.Prelude.{◌≡◌, ◌+◌, ◌<◌, ◌↔◌, true, ℕ, [], drop, length, None, Some, replicate, slice_get, IfOk, OnOk, IsTrue};
 ghost use Rattle.pv_graph.specs.Graphs.{IsWellMade};
 ghost use Rattle.pv_graph.specs.declared.node.OpSort.TheVariants.{R};
 ghost use Rattle.pv_frame.specs.Frames.{IsFrameAt};
@@ -12,7 +12,6 @@ ghost use Rattle.pv_build.specs.Stages.{loops_at, loops_around, IsLoopAt, IsMeth
 ghost use Rattle.pv_build.specs.Opening.{BeginsBlock, IsEnteredBy, IsOuter};
 ghost use Rattle.pv_build.specs.Building.{IsOwnLoop, HasBlock, IsNext, IsLast, Begun, IsStageBefore, IsStageFor, IsNothing, IsBuiltOf};
 
-use crate::arranging::arranged;
 use crate::carrying::carried;
 use crate::closing::close;
 use crate::ending::root;
@@ -26,7 +25,7 @@ use pv_decide::{Target, Trees};
 use pv_flow::{Block, Flow};
 use pv_frame::{Frame, Typed};
 use pv_graph::{Graph, NodeId, Op};
-use pv_loops::{Forest, MAX_DEPTH};
+use pv_loops::Forest;
 use pv_terms::{Names, over};
 use pv_value::Memory;
 use std::alloc::Global;
@@ -42,21 +41,29 @@ fn first_frame<'a>(typed: &'a Typed, block: &Block) -> &'a Frame
     }
 }
 
+// The loop around a block with k of the others inside it, if there is one.
+fn loop_around(method: &Method, b: u32, k: usize) -> Option<u32>
+    requires method { IsMethod method.now }
+    requires block { b < length method.now.flow.now.blocks }
+    ensures loops { loops_at method.now result ≡ drop k (loops_around method.now b) }
+    ensures region { IsLoopAt method.now result }
+{
+    number_at(method.forest.around(b), k)
+}
+
 // The loop of which a block is the header, if it is one.
 fn own_loop(method: &Method, b: u32) -> Option<u32>
     requires method { IsMethod method.now }
     requires block { b < length method.now.flow.now.blocks }
     ensures { IsOwnLoop method.now b result }
 {
-    match method.forest.home[b as usize] {
-        Some(i) => {
-            if method.forest.loops[i as usize].header == b {
-                Some(i)
-            } else {
-                None
-            }
-        }
-        None => None,
+    let Some(i) = loop_around(method, b, 0) else {
+        return None;
+    };
+    if method.forest.loops[i as usize].header == b {
+        Some(i)
+    } else {
+        None
     }
 }
 
@@ -68,8 +75,8 @@ fn outer_loop(method: &Method, b: u32) -> Option<u32>
     ensures region { IsLoopAt method.now result }
 {
     match own_loop(method, b) {
-        Some(i) => method.forest.loops[i as usize].parent,
-        None => method.forest.home[b as usize],
+        Some(_) => loop_around(method, b, 1),
+        None => loop_around(method, b, 0),
     }
 }
 
@@ -137,7 +144,7 @@ fn leave(
     requires next { IsNext method.now made.old b }
     requires stage { IsStageBefore method.now g.old made.old b }
     ensures stage { OnOk result (IsStage method.now g.new made.new (loops_around method.now b)) }
-    ensures done { OnOk result ((k : ℕ) → AreDone method.now made.old k → slice_get method.now.order.items k ≡ Some b → AreDone method.now made.new (k + 1)) }
+    ensures done { OnOk result ((k : ℕ) → AreDone method.now made.old k → slice_get method.now.forest.now.order.items k ≡ Some b → AreDone method.now made.new (k + 1)) }
     ensures start { made.new.start ≡ made.old.start }
     ensures keeps { KeepsFirst made.old.start g.old g.new }
 {
@@ -155,17 +162,7 @@ fn has_block(method: &Method, i: u32, b: u32) -> bool
     requires block { b < length method.now.flow.now.blocks }
     ensures { IsTrue result ↔ HasBlock method.now i (Some b) }
 {
-    let mut at = method.forest.home[b as usize];
-    for _ in 0..MAX_DEPTH {
-        let Some(j) = at else {
-            return false;
-        };
-        if j == i {
-            return true;
-        }
-        at = method.forest.loops[j as usize].parent;
-    }
-    false
+    method.forest.around(b).contains(&i)
 }
 
 // .. if there is one.
@@ -198,25 +195,21 @@ fn close_all(
     ensures start { made.new.start ≡ made.old.start }
     ensures keeps { KeepsFirst made.old.start g.old g.new }
 {
-    let mut at = method.forest.home[b as usize];
-    for _ in 0..MAX_DEPTH {
-        let Some(i) = at else {
-            return Ok(());
-        };
-        if has_next(method, i, next) {
+    let row = method.forest.around(b);
+    for i in row {
+        if has_next(method, *i, next) {
             return Ok(());
         }
-        close(alloc, g, method, made, i)?;
-        at = method.forest.loops[i as usize].parent;
+        close(alloc, g, method, made, *i)?;
     }
     Ok(())
 }
 
-// The block at this place of the order, if there is one.
-fn block_at(order: &[u32], k: usize) -> Option<u32>
-    ensures { result ≡ slice_get order.now k }
+// The number at this place, if there is one.
+fn number_at(numbers: &[u32], k: usize) -> Option<u32>
+    ensures { result ≡ slice_get numbers.now k }
 {
-    order.get(k).copied()
+    numbers.get(k).copied()
 }
 
 // Makes all blocks and closes all loops.
@@ -225,14 +218,14 @@ fn blocks(alloc: Global, g: &mut Graph, method: &Method, made: &mut Made) -> Res
     requires stage { IsStage method.now g.old made.old [] }
     requires none { AreDone method.now made.old 0 }
     ensures stage { OnOk result (IsStage method.now g.new made.new []) }
-    ensures done { OnOk result (AreDone method.now made.new (length method.now.order.items)) }
+    ensures done { OnOk result (AreDone method.now made.new (length method.now.forest.now.order.items)) }
     ensures start { made.new.start ≡ made.old.start }
     ensures keeps { KeepsFirst made.old.start g.old g.new }
 {
-    for k in 0..method.order.len() {
-        let b = method.order[k];
+    for k in 0..method.forest.order.len() {
+        let b = method.forest.order[k];
         leave(alloc, g, method, made, b)?;
-        let next = block_at(&method.order, k + 1);
+        let next = number_at(&method.forest.order, k + 1);
         close_all(alloc, g, method, made, b, next)?;
     }
     Ok(())
@@ -242,7 +235,7 @@ fn blocks(alloc: Global, g: &mut Graph, method: &Method, made: &mut Made) -> Res
 fn finish(alloc: Global, g: &mut Graph, method: &Method, made: &Made) -> Result<NodeId, Memory>
     requires method { IsMethod method.now }
     requires stage { IsStage method.now g.old made.now [] }
-    requires done { AreDone method.now made.now (length method.now.order.items) }
+    requires done { AreDone method.now made.now (length method.now.forest.now.order.items) }
     ensures root { IfOk result (λ r. IsBuiltOf method.now g.new r) }
     ensures sort { IfOk result (λ r. IsOfSort g.new r R) }
     ensures grows { GrowsIn 0 g.old g.new }
@@ -309,7 +302,6 @@ pub(crate) fn build(
         flow,
         forest,
         trees: Trees::new(alloc, flow, forest)?,
-        order: arranged(alloc, typed, flow, forest)?,
         carried: carried(alloc, typed, flow, forest)?,
     };
     let count = flow.blocks.as_slice().len();

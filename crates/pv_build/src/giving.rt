@@ -20,7 +20,6 @@ use pv_block::{Leaving, Ran};
 use pv_decide::{Region, Target, TreeNode};
 use pv_flow::{Exit, Flow};
 use pv_graph::{Graph, NodeId, Op};
-use pv_loops::MAX_DEPTH;
 use pv_terms::over;
 use pv_value::Memory;
 use std::alloc::Global;
@@ -62,16 +61,12 @@ fn closed_from(
     ensures { IfOk result (λ left. (g : Graph) → IsStage method.now g made.now (loops_at method.now at) → AreClosedFrom method.now g made.now at b left.items) }
 {
     let mut left = Vec::new(alloc);
-    let mut next = method.forest.home[b as usize];
-    for _ in 0..MAX_DEPTH {
-        let Some(i) = next else {
-            return Ok(left);
-        };
-        if at == Some(i) {
+    let row = method.forest.around(b);
+    for i in row {
+        if at == Some(*i) {
             return Ok(left);
         }
-        left.push(closed_at(made, i))?;
-        next = method.forest.loops[i as usize].parent;
+        left.push(closed_at(made, *i))?;
     }
     Ok(left)
 }

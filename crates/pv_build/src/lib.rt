@@ -5,7 +5,7 @@
 //! method's blocks and loops; `specs/Structure` says which programs are structured, and for which cause
 //! others aren't.
 //!
-//! The blocks are taken in an order in which those of a loop stand together (`arranging`, `specs/Arranged`), one
+//! The blocks are taken in the order of the forest, in which those of a loop stand together, one
 //! after another (`building`). What is held where a block is entered is what the method is given (`starting`), or
 //! slot by slot the fold (`entering`) of the tree of the region that the block is in, over what holds at the exits
 //! of earlier blocks (`giving`), taken out of the loops that they leave (`taking`). At the header of a loop each slot
@@ -20,7 +20,6 @@
 //! method; or it gives the cause why the method has no root, those of `pv_frame` before those of its blocks.
 #![tactic(auto)]
 
-mod arranging;
 mod building;
 mod carrying;
 mod closing;

@@ -17,8 +17,6 @@ pub(crate) struct Method<'a> {
     pub(crate) flow: &'a Flow,
     pub(crate) forest: &'a Forest,
     pub(crate) trees: Trees,
-    /// The blocks in an order in which those of a loop stand together.
-    pub(crate) order: Vec<u32>,
     /// What each loop carries.
     pub(crate) carried: Vec<Writes>,
 }

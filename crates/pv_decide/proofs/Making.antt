@@ -1,5 +1,5 @@
 -- What walks need is made of a flow and its forest.
-use Rattle.std.proofs.Common.{◌≡◌, ℕ, zero, suc, ◌+◌, ◌-◌, ◌<◌, ◌^◌, List, [], ◌∷◌, ◌++◌, length, map, get_or, Option, Some, None, slice_get, ◌⊎◌, inl, inr, ⊎_elim, refl, sym, ap, ◌∙◌, subst, arith, append_assoc}
+use Rattle.std.proofs.Common.{◌≡◌, ℕ, zero, suc, ◌<◌, ◌^◌, List, [], ◌∷◌, length, map, get_or, Option, Some, None, slice_get, ◌⊎◌, inl, inr, ⊎_elim, refl, sym, ap, ◌∙◌, subst, arith}
 use Rattle.std.specs.List.{All, Contains}
 use Rattle.std.proofs.lemmas.Option.{slice_get_within, slice_get-get_or, slice_get-map, get_or_from_slice_get}
 use Rattle.std.proofs.lemmas.List.{length-map}
@@ -13,49 +13,13 @@ use Rattle.pv_loops.specs.declared.forest.Loop.{Loop}
 use Rattle.pv_loops.specs.declared.forest.Forest.{Forest}
 use Rattle.pv_loops.specs.Shapes.{Edge}
 use Rattle.pv_loops.specs.Loops.{Region, Whole, Inside, Way, edge, more, IsLargest, IsLoop, outermost, inner}
-use Rattle.pv_loops.specs.Forests.{AreAround, IsListed, IsHome, IsForest}
-use Rattle.pv_loops.specs.Forests as forests
-use Rattle.pv_loops.specs.Ranks.{around, headers_from}
+use Rattle.pv_loops.specs.Forests.{IsForest}
+use Rattle.pv_loops.specs.Ranks.{around}
 use Rattle.pv_decide.specs.declared.site.Site.{Site}
-use Rattle.pv_decide.specs.Around.{AreListed}
 use Rattle.pv_decide.specs.Sites.{IsInRange, IsAround, GoesTo, AreInRange, AreOrdered}
 use Rattle.pv_decide.specs.Trees.{AreForWalks, IsSite, AreSites}
-use Rattle.pv_decide.proofs.Chains.{found}
-
--- ---- the headers around a block
-
-pub headers_none : (n : ℕ) (loops : List Loop) → headers_from n loops None ≡ []
-unfolding headers_from
-headers_none zero loops = refl
-headers_none (suc n) loops = refl
-
-pub headers_zero : (loops : List Loop) (at : Option ℕ) → headers_from 0 loops at ≡ []
-unfolding headers_from
-headers_zero loops at = refl
-
-headers_some : (n : ℕ) (loops : List Loop) (i : ℕ) (l : Loop) → slice_get loops i ≡ Some l → headers_from (suc n) loops (Some i) ≡ l.header ∷ headers_from n loops l.parent
-unfolding headers_from
-headers_some n loops i l e = rw e refl
-
--- one more header is found
-pub headers_more : (most n i : ℕ) (loops : List Loop) (at : Option ℕ) (l : Loop) (found all : List ℕ) → n < most → at ≡ Some i → slice_get loops i ≡ Some l → found ++ headers_from (most - n) loops at ≡ all → (found ++ l.header ∷ []) ++ headers_from (most - (n + 1)) loops l.parent ≡ all
-headers_more most n i loops at l found all less is here e =
-    let one : most - n ≡ suc (most - (n + 1)) = omega arith in
-    append_assoc found (l.header ∷ []) (headers_from (most - (n + 1)) loops l.parent)
-    ∙ ap (λ (x : List ℕ). found ++ x) (sym (headers_some (most - (n + 1)) loops i l here) ∙ ap (λ (m : ℕ). headers_from m loops (Some i)) (sym one) ∙ ap (λ (a : Option ℕ). headers_from (most - n) loops a) (sym is))
-    ∙ e
 
 module _ (s : List (List ℕ)) (forest : Forest) (is : IsForest s forest) where
-  parent_within : (p : ℕ) (l : Loop) (A : List ℕ) → AreAround forest.loops.items l A → l.parent ≡ Some p → p < length forest.loops.items
-  parent_within p _ _ (forests.outermost l e) q = absurd (cc)
-  parent_within p _ _ (forests.inner l o r a e at A) q = let same : r ≡ p = (let z : Some r ≡ Some p = sym e ∙ q in cc) in slice_get_within forest.loops.items p o (subst (λ (p : ℕ). slice_get forest.loops.items p ≡ Some o) same at)
-
-  pub listed : AreListed forest
-  listed = record {
-    homes = λ b i e. (let h = is.home b (Some i) e in slice_get_within forest.loops.items i h.0 h.1);
-    parents = λ i p l at e. (let x = is.loops i l at in parent_within p l x.around x.outer e);
-  }
-
   -- a header is a node
   way_out : (r : Region) (set : List ℕ) (a b : ℕ) → Way s r set a b → (x : ℕ) × Edge s a x
   way_out Whole set a _ (edge x b e p q) = (b, e)

@@ -1,5 +1,4 @@
 -- what public contracts and laws say
-pub mod Around
 pub mod Sites
 pub mod Folds
 pub mod Walks

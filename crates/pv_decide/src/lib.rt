@@ -24,12 +24,10 @@
 //! sweeps over the blocks from which no end of the method is known to be ahead, until nothing changes. A walk
 //! takes time in proportion to the blocks of the method and the exits of the region, each of which is looked up
 //! among at most 16 headers, and for each sweep to the exits of blocks from which no end is ahead.
-//! `specs/Placing`, `specs/Landings`, `specs/Reaching` and `specs/Around` say what these find, and are private to
-//! this crate.
+//! `specs/Placing`, `specs/Landings` and `specs/Reaching` say what these find, and are private to this crate.
 #![tactic(auto)]
 
 mod aim;
-mod around;
 mod landing;
 mod reaching;
 mod site;

@@ -1,11 +1,10 @@
 //! The trees of a method's flow.
 
 ghost use Rattle.std.specs.Prelude.{◌≡◌, ◌<◌, ◌↔◌, length, map, IfOk, IsTrue};
-ghost use Rattle.pv_decide.specs.Around.{AreListed};
+ghost use Rattle.pv_loops.specs.Ranks.{around};
 ghost use Rattle.pv_decide.specs.Trees.{AreForWalks, AreReady, AreOf, IsRegion, scope_of, IsTreeOf, IsSound, IsSite, AreSites};
 
 use crate::aim::{Aim, Scope};
-use crate::around::headers_around;
 use crate::reaching::ahead;
 use crate::site::Site;
 use crate::tree::{Region, Target, Tree};
@@ -90,10 +89,22 @@ impl Trees {
     }
 }
 
+// The headers of the loops around a block, the innermost first.
+fn headers_around(alloc: Global, forest: &Forest, b: u32) -> Result<Vec<u32>, Memory>
+    requires { b < length forest.now.home.items }
+    ensures { IfOk result (λ headers. headers.items ≡ around forest.now b) }
+{
+    let mut headers = Vec::new(alloc);
+    let row = forest.around(b);
+    for i in row {
+        headers.push(forest.loops[*i as usize].header)?;
+    }
+    Ok(headers)
+}
+
 // The block as walks see it.
-fn site(alloc: Global, block: &Block, forest: &Forest, b: usize) -> Result<Site, Memory>
-    requires listed { AreListed forest.now }
-    requires block { b < length forest.now.home.items }
+fn site(alloc: Global, block: &Block, forest: &Forest, b: u32) -> Result<Site, Memory>
+    requires { b < length forest.now.home.items }
     ensures { IfOk result (λ site. IsSite block.now forest.now b site) }
 {
     let exits = Vec::from_slice(alloc, block.exits.as_slice())?;
@@ -111,7 +122,7 @@ fn sites(alloc: Global, flow: &Flow, forest: &Forest) -> Result<Vec<Site>, Memor
 {
     let mut sites = Vec::new(alloc);
     for (b, block) in flow.blocks.as_slice().iter().enumerate() {
-        sites.push(site(alloc, block, forest, b)?)?;
+        sites.push(site(alloc, block, forest, b as u32)?)?;
     }
     Ok(sites)
 }

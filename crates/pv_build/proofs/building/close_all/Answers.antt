@@ -1,82 +1,71 @@
-use Rattle.std.proofs.Common.{◌≡◌, ℕ, ◌+◌, true, false, [], Option, refl, ap, ◌∙◌, subst, arith}
-use Rattle.pv_loops.specs.declared.forest.TheConstants.{MAX_DEPTH}
-use Rattle.pv_build.specs.Stages.{IsStage, loops_at}
-use Rattle.pv_build.proofs.Around.{home_read, home_around, loop_read, no_loops}
+use Rattle.std.proofs.Common.{◌≡◌, ◌+◌, true, false, get_or, refl, sym, ◌∙◌, subst}
+use Rattle.std.proofs.lemmas.Option.{slice_get_within, slice_get-get_or}
+use Rattle.pv_build.specs.Stages.{IsStage}
+use Rattle.pv_build.proofs.Around.{home_low}
 use Rattle.pv_build.proofs.Turns.{block_low}
 use Rattle.pv_build.proofs.Restaged.{first_same, first_on}
-use Rattle.pv_build.proofs.Outwards.{IsOutward, outward_home, outward_parent, outward_end, closed_none, closed_here, closed_done, last_same}
+use Rattle.pv_build.proofs.Outwards.{loop_in, closed_none, closed_here, closed_done, closed_one, last_same}
 use Rattle.pv_build.proofs.building.close_all.Goals as goal
 
-pub loop-init : goal.loop-init
-loop-init c =
-    let m = c.args.method.now in
-    let low = block_low m c.requires.method c.requires.last.place c.args.b c.requires.last.at in
-    let home = home_read m c.requires.method c.args.b low c.index-at.result.now c.index-at.ensures in
-    record {
-      outward = outward_home m c.requires.method c.args.b c.index-at.result.now home;
-      last = c.requires.last;
-      stage = subst (IsStage m c.args.g.now c.args.made.now) (home_around m c.requires.method c.args.b c.index-at.result.now home) c.requires.stage;
-      blocks = refl;
-      start = refl;
-      keeps = first_same c.args.made.now.start c.args.g.now c.requires.stage.well.graph;
-    }
+pub around-row-requires : goal.around-row-requires
+around-row-requires c = home_low c.args.method.now c.requires.method c.args.b (block_low c.args.method.now c.requires.method c.requires.last.place c.args.b c.requires.last.at)
 
-pub returns-in_default-clause-stage : goal.returns-in_default-clause-stage
-returns-in_default-clause-stage c =
-    let m = c.args.method.now in
-    let none : loops_at m c.loop.at ≡ [] = ap (loops_at m) c.in_default.is ∙ no_loops m c.requires.method in
-    closed_none m c.requires.method c.loop.g c.loop.made c.args.b c.args.next c.loop.at c.loop.invariant.last none c.loop.invariant.stage
+pub loop-i-init : goal.loop-i-init
+loop-i-init c = record {
+  last = c.requires.last;
+  stage = c.requires.stage;
+  blocks = refl;
+  start = refl;
+  keeps = first_same c.args.made.now.start c.args.g.now c.requires.stage.well.graph;
+}
 
 pub has_next-requires-clause-loop_ : goal.has_next-requires-clause-loop_
 has_next-requires-clause-loop_ c =
-    let outward = subst (λ (o : Option ℕ). IsOutward c.args.method.now c.args.b o c.loop.counter) c.in-Some.is c.loop.invariant.outward in
-    outward.region
+    let q = loop_in c.args.method.now c.requires.method c.args.b c.around-row.result.now c.around-row.ensures.headers c.around-row.ensures.within c.loop-i.i-index (get_or c.around-row.result.now c.loop-i.i-index 0) (slice_get-get_or c.around-row.result.now c.loop-i.i-index 0 c.loop-i-test.true) in
+    slice_get_within c.args.method.now.forest.now.loops.items (get_or c.around-row.result.now c.loop-i.i-index 0) q.listed q.there
 
 pub has_next-requires-clause-next : goal.has_next-requires-clause-next
-has_next-requires-clause-next c n is = block_low c.args.method.now c.requires.method (c.loop.invariant.last.place + 1) n (c.loop.invariant.last.after ∙ is)
+has_next-requires-clause-next c n is = block_low c.args.method.now c.requires.method (c.loop-i.invariant.last.place + 1) n (c.loop-i.invariant.last.after ∙ is)
 
 pub returns-then-has_next-clause-stage : goal.returns-then-has_next-clause-stage
 returns-then-has_next-clause-stage c =
-    let m = c.args.method.now in
-    let outward = subst (λ (o : Option ℕ). IsOutward m c.args.b o c.loop.counter) c.in-Some.is c.loop.invariant.outward in
-    let at_stage = subst (λ (o : Option ℕ). IsStage m c.loop.g c.loop.made (loops_at m o)) c.in-Some.is c.loop.invariant.stage in
-    closed_here m c.requires.method c.loop.g c.loop.made c.args.b c.in-Some.i c.loop.counter c.args.next c.loop.invariant.last outward (c.has_next.ensures.0 c.if-has_next.true) at_stage
+    let q = loop_in c.args.method.now c.requires.method c.args.b c.around-row.result.now c.around-row.ensures.headers c.around-row.ensures.within c.loop-i.i-index (get_or c.around-row.result.now c.loop-i.i-index 0) (slice_get-get_or c.around-row.result.now c.loop-i.i-index 0 c.loop-i-test.true) in
+    closed_here c.args.method.now c.requires.method c.args.b c.around-row.result.now c.around-row.ensures.headers c.around-row.ensures.within
+    c.loop-i.g c.loop-i.made c.loop-i.i-index (get_or c.around-row.result.now c.loop-i.i-index 0) c.args.next c.loop-i.invariant.last q (c.has_next.ensures.0 c.if-has_next.true) c.loop-i.invariant.stage
 
 pub close-requires-clause-loop_ : goal.close-requires-clause-loop_
 close-requires-clause-loop_ c =
-    let outward = subst (λ (o : Option ℕ). IsOutward c.args.method.now c.args.b o c.loop.counter) c.in-Some.is c.loop.invariant.outward in
-    outward.region
+    let q = loop_in c.args.method.now c.requires.method c.args.b c.around-row.result.now c.around-row.ensures.headers c.around-row.ensures.within c.loop-i.i-index (get_or c.around-row.result.now c.loop-i.i-index 0) (slice_get-get_or c.around-row.result.now c.loop-i.i-index 0 c.loop-i-test.true) in
+    slice_get_within c.args.method.now.forest.now.loops.items (get_or c.around-row.result.now c.loop-i.i-index 0) q.listed q.there
 
 pub close-requires-clause-stage : goal.close-requires-clause-stage
-close-requires-clause-stage c = subst (λ (o : Option ℕ). IsStage c.args.method.now c.loop.g c.loop.made (loops_at c.args.method.now o)) c.in-Some.is c.loop.invariant.stage
+close-requires-clause-stage c =
+    let q = loop_in c.args.method.now c.requires.method c.args.b c.around-row.result.now c.around-row.ensures.headers c.around-row.ensures.within c.loop-i.i-index (get_or c.around-row.result.now c.loop-i.i-index 0) (slice_get-get_or c.around-row.result.now c.loop-i.i-index 0 c.loop-i-test.true) in
+    subst (IsStage c.args.method.now c.loop-i.g c.loop-i.made) (sym q.rest) c.loop-i.invariant.stage
 
 pub close-requires-clause-done : goal.close-requires-clause-done
 close-requires-clause-done c =
-    let m = c.args.method.now in
-    let outward = subst (λ (o : Option ℕ). IsOutward m c.args.b o c.loop.counter) c.in-Some.is c.loop.invariant.outward in
-    closed_done m c.requires.method c.loop.made c.args.b c.in-Some.i c.loop.counter c.args.next c.loop.invariant.last outward
+    let q = loop_in c.args.method.now c.requires.method c.args.b c.around-row.result.now c.around-row.ensures.headers c.around-row.ensures.within c.loop-i.i-index (get_or c.around-row.result.now c.loop-i.i-index 0) (slice_get-get_or c.around-row.result.now c.loop-i.i-index 0 c.loop-i-test.true) in
+    closed_done c.args.method.now c.requires.method c.args.b c.around-row.result.now c.around-row.ensures.headers c.around-row.ensures.within
+    c.loop-i.made c.loop-i.i-index (get_or c.around-row.result.now c.loop-i.i-index 0) c.args.next c.loop-i.invariant.last q
     (λ has. absurd (let t : c.has_next.result ≡ true = c.has_next.ensures.1 has in let f : c.has_next.result ≡ false = c.if-has_next.false in cc))
 
 pub returns-in_err-close-clause-keeps : goal.returns-in_err-close-clause-keeps
-returns-in_err-close-clause-keeps c = first_on c.args.made.now.start c.loop.made.start c.args.g.now c.loop.g c.close.new.g c.loop.invariant.start c.loop.invariant.keeps c.close.ensures.keeps
+returns-in_err-close-clause-keeps c = first_on c.args.made.now.start c.loop-i.made.start c.args.g.now c.loop-i.g c.close.new.g c.loop-i.invariant.start c.loop-i.invariant.keeps c.close.ensures.keeps
 
-pub loop-preserved : goal.loop-preserved
-loop-preserved c =
+pub loop-i-preserved : goal.loop-i-preserved
+loop-i-preserved c =
     let m = c.args.method.now in
-    let outward = subst (λ (o : Option ℕ). IsOutward m c.args.b o c.loop.counter) c.in-Some.is c.loop.invariant.outward in
-    let there = loop_read m c.requires.method c.in-Some.i outward.region c.index.result.now c.index.ensures in
+    let q = loop_in c.args.method.now c.requires.method c.args.b c.around-row.result.now c.around-row.ensures.headers c.around-row.ensures.within c.loop-i.i-index (get_or c.around-row.result.now c.loop-i.i-index 0) (slice_get-get_or c.around-row.result.now c.loop-i.i-index 0 c.loop-i-test.true) in
     record {
-      outward = outward_parent m c.requires.method c.args.b c.in-Some.i c.loop.counter c.index.result.now there outward;
-      last = last_same m c.requires.method c.loop.made c.close.new.made c.args.b c.args.next c.close.ensures.blocks c.loop.invariant.last;
-      stage = c.in_ok-close.ensures.stage c.index.result.now there;
-      blocks = c.close.ensures.blocks ∙ c.loop.invariant.blocks;
-      start = c.close.ensures.start ∙ c.loop.invariant.start;
-      keeps = first_on c.args.made.now.start c.loop.made.start c.args.g.now c.loop.g c.close.new.g c.loop.invariant.start c.loop.invariant.keeps c.close.ensures.keeps;
+      last = last_same m c.requires.method c.loop-i.made c.close.new.made c.args.b c.args.next c.close.ensures.blocks c.loop-i.invariant.last;
+      stage = closed_one c.args.method.now c.requires.method c.args.b c.around-row.result.now c.around-row.ensures.headers c.around-row.ensures.within c.close.new.g c.close.new.made c.loop-i.i-index (get_or c.around-row.result.now c.loop-i.i-index 0) q c.in_ok-close.ensures.stage c.loop-i-test.true;
+      blocks = c.close.ensures.blocks ∙ c.loop-i.invariant.blocks;
+      start = c.close.ensures.start ∙ c.loop-i.invariant.start;
+      keeps = first_on c.args.made.now.start c.loop-i.made.start c.args.g.now c.loop-i.g c.close.new.g c.loop-i.invariant.start c.loop-i.invariant.keeps c.close.ensures.keeps;
     }
 
 pub returns-clause-stage : goal.returns-clause-stage
 returns-clause-stage c =
-    let m = c.args.method.now in
-    let all : c.loop.counter ≡ MAX_DEPTH = omega (arith, c.loop-test.false, c.loop.auto.counter-end) in
-    let none = outward_end m c.requires.method c.args.b c.loop.counter c.loop.at all c.loop.invariant.outward in
-    closed_none m c.requires.method c.loop.g c.loop.made c.args.b c.args.next c.loop.at c.loop.invariant.last none c.loop.invariant.stage
+    closed_none c.args.method.now c.requires.method c.args.b c.around-row.result.now c.around-row.ensures.headers c.around-row.ensures.within
+    c.loop-i.g c.loop-i.made c.args.next c.loop-i.i-index c.loop-i.invariant.last c.loop-i-test.false c.loop-i.invariant.stage

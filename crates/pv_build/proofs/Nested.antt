@@ -1,15 +1,6 @@
 -- The headers of the loops around nodes: loops nest, are entered at their headers, and have them first in the order of the forest.
 use Rattle.std.proofs.Common.{◌≡◌, ◌≢◌, ℕ, ◌<◌, ◌≤◌, Bool, true, false, List, [], ◌∷◌, ◌++◌, length, Some, slice_get, ◌⊎◌, inl, inr, ⊎_elim, refl, sym, ap, ◌∙◌, subst, append_assoc, arith}
-use Rattle.std.specs.Prelude.{◌==◌, if◌then◌else◌}
-use Rattle.std.specs.List.{Contains}
-use Rattle.std.proofs.lemmas.Bool.{eqb-true, eq-eqb}
-use Rattle.std.proofs.lemmas.List.Elements.{Contains-append_right, Contains-append_cases}
-use Rattle.pv_frame.proofs.Cited.{contains_none, contains_first, contains_more, contains_cases}
-use Rattle.pv_flow.specs.Edges.{FromEntry, entry, along}
-use Rattle.pv_loops.specs.declared.forest.Forest.{Forest}
-use Rattle.pv_loops.specs.Shapes.{Edge, IsShape}
-use Rattle.pv_loops.specs.Ranks.{around, Heads, IsRanking, IsOrdered}
-use Rattle.pv_build.specs.Spots.{outside}
+use Rattle.pv_build.proofs.Words.{◌==◌, if◌then◌else◌, Contains, eqb-true, eq-eqb, Contains-append_right, Contains-append_cases, contains_none, contains_first, contains_more, contains_cases, FromEntry, entry, along, Forest, Edge, IsShape, around, Heads, IsRanking, IsOrdered, outside}
 
 abbrev rest : List ℕ → List ℕ
 rest [] = []

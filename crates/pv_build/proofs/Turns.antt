@@ -1,25 +1,9 @@
 -- The order of a method's blocks: which of them are done.
 use Rattle.std.proofs.Common.{◌≡◌, ℕ, ◌+◌, ◌<◌, List, length, get_or, Option, Some, None, slice_get, ◌⊎◌, inl, inr, ⊎_elim, refl, sym, ap, ◌∙◌, subst, arith}
-use Rattle.std.specs.List.{Contains}
-use Rattle.std.proofs.lemmas.Bool.{cases_lt}
-use Rattle.std.proofs.lemmas.Option.{slice_get_within, slice_get_read, same_Some}
+use Rattle.pv_build.proofs.Words.{Contains, cases_lt, slice_get_within, slice_get_read, same_Some, Block, edges_of, Loop, Edge, found, Site, Target, IsAround, GoesTo, AreOrdered, place_of, edge_of, under, at_place, place_is, place_low, Method, Made, IsMethod, HasRun, AreDone, loops_around, AreReadyFor, IsNext, HasBlock, IsLast}
 use Rattle.pv_flow.specs.declared.block.Exit.{Exit}
 use Rattle.pv_flow.specs.declared.block.Exit.TheVariants as exit
-use Rattle.pv_flow.specs.declared.block.Block.{Block}
-use Rattle.pv_flow.specs.Edges.{edges_of}
-use Rattle.pv_loops.specs.declared.forest.Loop.{Loop}
-use Rattle.pv_loops.specs.Shapes.{Edge}
-use Rattle.pv_graph.proofs.Cited.{found}
-use Rattle.pv_decide.specs.declared.site.Site.{Site}
-use Rattle.pv_decide.specs.declared.tree.Target.{Target}
 use Rattle.pv_decide.specs.declared.tree.Target.TheVariants as target
-use Rattle.pv_decide.specs.Sites.{IsAround, GoesTo, AreOrdered, place_of}
-use Rattle.pv_decide.proofs.Cited.{edge_of, under, at_place, place_is, place_low}
-use Rattle.pv_build.specs.declared.method.Method.{Method}
-use Rattle.pv_build.specs.declared.method.Made.{Made}
-use Rattle.pv_build.specs.Stages.{IsMethod, HasRun, AreDone, loops_around}
-use Rattle.pv_build.specs.Giving.{AreReadyFor}
-use Rattle.pv_build.specs.Building.{IsNext, HasBlock, IsLast}
 use Rattle.pv_build.proofs.Around.{edges_long}
 
 -- what has run is told by the blocks alone

@@ -1,7 +1,5 @@
 use Rattle.std.proofs.Common.{◌≡◌, ℕ, List, length, refl, sym, ap, ◌∙◌, subst, arith}
-use Rattle.std.proofs.lemmas.Result.{IfOk-weaker}
-use Rattle.pv_flow.specs.declared.block.Block.{Block}
-use Rattle.pv_build.specs.Stages.{KeepsFirst}
+use Rattle.pv_build.proofs.Words.{IfOk-weaker, Block, KeepsFirst}
 use Rattle.pv_build.proofs.Flowing.{for_walks}
 use Rattle.pv_build.proofs.Restaged.{nothing_same, first_stage, first_done}
 use Rattle.pv_build.proofs.Finished.{built_keeps, built_enlarges, kept}

@@ -1,13 +1,7 @@
 use Rattle.std.proofs.Common.{◌≡◌, ℕ, length, slice_get, refl, sym, ap, ◌∙◌, subst}
-use Rattle.std.proofs.lemmas.Result.{IfOk-weaker}
-use Rattle.pv_frame.specs.Frames.{IsFrameAt}
+use Rattle.pv_build.proofs.Words.{IfOk-weaker, IsFrameAt, T, IsFlat, grows_by_then, grows_then, IsBeyond, loops_at, IsEnteredBy}
 use Rattle.pv_graph.specs.declared.node.Op.TheVariants as op
-use Rattle.pv_graph.specs.declared.node.OpSort.TheVariants.{T}
 use Rattle.pv_decide.specs.declared.tree.Target.TheVariants as target
-use Rattle.pv_terms.specs.Terms.{IsFlat}
-use Rattle.pv_terms.proofs.Cited.{grows_by_then, grows_then}
-use Rattle.pv_build.specs.Stages.{IsBeyond, loops_at}
-use Rattle.pv_build.specs.Opening.{IsEnteredBy}
 use Rattle.pv_build.proofs.Kept.{has_no_kids, read_no_kids}
 use Rattle.pv_build.proofs.Staged.{flat_beyond}
 use Rattle.pv_build.proofs.Beginning.{first_stack, first_ops, first_block, block_frame, begins_block}

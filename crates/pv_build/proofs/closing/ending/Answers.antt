@@ -1,10 +1,6 @@
 use Rattle.std.proofs.Common.{ℕ, length, Some}
-use Rattle.std.proofs.lemmas.Result.{IfOk-weaker}
-use Rattle.pv_graph.proofs.Cited.{found}
-use Rattle.pv_graph.specs.declared.node.OpSort.TheVariants.{I}
-use Rattle.pv_terms.proofs.Cited.{grows_by_then}
+use Rattle.pv_build.proofs.Words.{IfOk-weaker, found, I, grows_by_then, loops_at, IsBeyond}
 use Rattle.pv_decide.specs.declared.tree.Target.TheVariants as target
-use Rattle.pv_build.specs.Stages.{loops_at, IsBeyond}
 use Rattle.pv_build.proofs.GivenFor.{gives_left}
 use Rattle.pv_build.proofs.Leaving.{ending_folds, ending_some, names_grown}
 use Rattle.pv_build.proofs.Looped.{asked_leave, all_ready}

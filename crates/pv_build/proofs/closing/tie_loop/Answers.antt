@@ -1,9 +1,7 @@
 use Rattle.std.proofs.Common.{length, Some, refl}
-use Rattle.pv_graph.proofs.Cited.{found}
+use Rattle.pv_build.proofs.Words.{found, T, loops_at, IsBeyond}
 use Rattle.pv_graph.specs.declared.node.Op.TheVariants as op
-use Rattle.pv_graph.specs.declared.node.OpSort.TheVariants.{T}
 use Rattle.pv_decide.specs.declared.tree.Target.TheVariants as target
-use Rattle.pv_build.specs.Stages.{loops_at, IsBeyond}
 use Rattle.pv_build.proofs.Kept.{has_no_kids}
 use Rattle.pv_build.proofs.Looped.{asked_back, all_ready}
 use Rattle.pv_build.proofs.Staged.{first_kept}

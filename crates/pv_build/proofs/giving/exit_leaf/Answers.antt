@@ -1,8 +1,5 @@
 use Rattle.std.proofs.Common.{List, length, sym, subst}
-use Rattle.pv_build.specs.declared.method.Closed.{Closed}
-use Rattle.pv_build.specs.Stages.{loops_at}
-use Rattle.pv_build.specs.Giving.{AreClosedFrom}
-use Rattle.pv_build.specs.Taken.{AreSortedLoops, AreDeeper, ReadsOutOfAll}
+use Rattle.pv_build.proofs.Words.{Closed, loops_at, AreClosedFrom, AreSortedLoops, AreDeeper, ReadsOutOfAll}
 use Rattle.pv_build.proofs.Regions.{are_sorted, are_deeper}
 use Rattle.pv_build.proofs.Sourced.{has_left, left_for, leaf_for}
 use Rattle.pv_build.proofs.giving.exit_leaf.Goals as goal

@@ -1,12 +1,5 @@
 use Rattle.std.proofs.Common.{ℕ, List, [], Option, ap, subst, ◌∙◌}
-use Rattle.pv_graph.specs.declared.node.OpSort.TheVariants.{I}
-use Rattle.pv_graph.specs.Ops.{HasSort}
-use Rattle.pv_equations.specs.Exp.{Over, NoExp}
-use Rattle.pv_decide.specs.Sites.{dest_of}
-use Rattle.pv_decide.specs.Walks.{leaving}
-use Rattle.pv_terms.specs.declared.names.Named.{Named}
-use Rattle.pv_terms.specs.Reads.{Reads}
-use Rattle.pv_build.specs.Leaves.{header_list}
+use Rattle.pv_build.proofs.Words.{I, HasSort, Over, NoExp, dest_of, leaving, Named, Reads, header_list}
 use Rattle.pv_build.proofs.Sourced.{has_exit, leave_for}
 use Rattle.pv_build.proofs.giving.leave_leaf.Goals as goal
 

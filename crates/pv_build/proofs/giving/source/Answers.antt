@@ -1,6 +1,5 @@
 use Rattle.std.proofs.Common.{subst}
-use Rattle.pv_decide.specs.Folds.{NodeFits}
-use Rattle.pv_build.specs.Giving.{scope_at}
+use Rattle.pv_build.proofs.Words.{NodeFits, scope_at}
 use Rattle.pv_build.proofs.Sourced.{leaf_run, test_run}
 use Rattle.pv_build.proofs.giving.source.Goals as goal
 

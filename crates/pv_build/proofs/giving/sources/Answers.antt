@@ -1,10 +1,6 @@
 use Rattle.std.proofs.Common.{◌≡◌, ℕ, ◌+◌, List, [], ◌∷◌, length, length-append, Some, slice_get, sym, ap, ◌∙◌, subst}
-use Rattle.pv_decide.specs.declared.tree.TreeNode.{TreeNode}
+use Rattle.pv_build.proofs.Words.{TreeNode, grows_by_then, Source, loops_at, IsBeyond, IsSourceFor}
 use Rattle.pv_decide.specs.declared.tree.TreeNode.TheVariants as node
-use Rattle.pv_terms.proofs.Cited.{grows_by_then}
-use Rattle.pv_build.specs.declared.source.Source.{Source}
-use Rattle.pv_build.specs.Stages.{loops_at, IsBeyond}
-use Rattle.pv_build.specs.Giving.{IsSourceFor}
 use Rattle.pv_build.proofs.Staged.{stage_grown}
 use Rattle.pv_build.proofs.Regions.{region_deep}
 use Rattle.pv_build.proofs.Sourced.{sources_push}

@@ -1,8 +1,5 @@
 use Rattle.std.proofs.Common.{◌≡◌, ℕ, length, Some, slice_get}
-use Rattle.pv_decide.specs.declared.tree.TreeNode.{TreeNode}
-use Rattle.pv_build.specs.declared.source.Source.{Source}
-use Rattle.pv_build.specs.Stages.{loops_at, IsStage, GrowsIn}
-use Rattle.pv_build.specs.Giving.{IsSourceFor}
+use Rattle.pv_build.proofs.Words.{TreeNode, Source, loops_at, IsStage, GrowsIn, IsSourceFor}
 use Rattle.pv_build.proofs.giving.sources.Given as goal
 
 abbrev pub invariant-loop-node : goal.invariant-loop-node

@@ -283,7 +283,7 @@ fn sources(
 }
 
 /// The tree of the region of a loop, or of the whole method, for a target, with what is given for its nodes.
-pub(crate) fn given(
+pub(crate) fn tree_for(
     alloc: Global,
     g: &mut Graph,
     method: &Method,

@@ -9,7 +9,7 @@ pub new-requires : goal.new-requires
 new-requires c = for_walks c.args.typed.now.program c.args.typed.now.frames c.args.flow.now.blocks c.args.forest.now c.requires.routine c.args.flow.now refl
 
 pub blocks-requires-clause-method : goal.blocks-requires-clause-method
-blocks-requires-clause-method c = record { routine = c.requires.routine; trees = c.in_ok-new.ensures; arranged = c.in_ok-arranged.ensures; carries = c.in_ok-carried.ensures }
+blocks-requires-clause-method c = record { routine = c.requires.routine; trees = c.in_ok-new.ensures; arranged = c.in_ok-arranged.ensures; carries = c.in_ok-slots_carried.ensures }
 
 pub blocks-requires-clause-stage : goal.blocks-requires-clause-stage
 blocks-requires-clause-stage c =

@@ -1,7 +1,7 @@
 use Rattle.std.proofs.Common.{◌≡◌, ℕ, ◌+◌, List, [], ◌∷◌, length, length-append, ◌<◌, Some, slice_get, ap, sym, ◌∙◌, subst, arith}
 use Rattle.pv_build.proofs.Words.{Contains, Block, Loop, Writes, AllRunThrough, AreWritten, Unites, IsCarried}
 use Rattle.pv_build.proofs.Carries.{run_through, loop_at, members_low, are_of_size, is_carried, carried_more}
-use Rattle.pv_build.proofs.carrying.carried.Goals as goal
+use Rattle.pv_build.proofs.carrying.slots_carried.Goals as goal
 
 pub all_written-requires : goal.all_written-requires
 all_written-requires c =

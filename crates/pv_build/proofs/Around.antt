@@ -36,7 +36,7 @@ of_in [] x i = absurd i
 of_in (y ∷ xs) x (inl e) = subst (λ (z : ℕ). Contains (y ∷ xs) z) e (contains_first y xs)
 of_in (y ∷ xs) x (inr i) = contains_more y x xs (of_in xs x i)
 
-split_in : (xs : List ℕ) (x : ℕ) → In xs x → (G : List ℕ) × (B : List ℕ) × (xs ≡ G ++ x ∷ B)
+pub split_in : (xs : List ℕ) (x : ℕ) → In xs x → (G : List ℕ) × (B : List ℕ) × (xs ≡ G ++ x ∷ B)
 split_in [] x i = absurd i
 split_in (y ∷ xs) x (inl e) = ([], xs, ap (λ (z : ℕ). z ∷ xs) e)
 split_in (y ∷ xs) x (inr i) = let r = split_in xs x i in (y ∷ r.0, r.1, ap (λ (zs : List ℕ). y ∷ zs) r.2)
@@ -145,7 +145,7 @@ module _ (m : Method) (is : IsMethod m) where
   loops_same None low = sym no_loops
   loops_same (Some i) low = let q = found m.forest.now.loops.items i low in ap (loops_of (flow_in m)) (scope_is i q.0 q.1) ∙ header_around i q.0 q.1
 
-  heads_at : (at : Option ℕ) → IsLoopAt m at → (h : ℕ) → scope_at m at ≡ scope.Loop h → Heads (loops_around m h) h
+  pub heads_at : (at : Option ℕ) → IsLoopAt m at → (h : ℕ) → scope_at m at ≡ scope.Loop h → Heads (loops_around m h) h
   heads_at None low h e = absurd (let z : scope.Whole ≡ scope.Loop h = e in cc)
   heads_at (Some i) low h e =
       let q = found m.forest.now.loops.items i low in

@@ -1,33 +1,9 @@
 -- The frame with which a method begins, and what is held there.
 use Rattle.std.proofs.Common.{◌≡◌, ℕ, zero, suc, ◌-◌, Bool, true, false, List, [], ◌∷◌, ◌++◌, length, replicate, Some, slice_get, ◌⊎◌, inl, inr, refl, sym, ap, ◌∙◌, subst}
-use Rattle.std.specs.List.{AllZip, flat_map}
-use Rattle.pv_value.specs.declared.descriptor.JType.{JType}
+use Rattle.pv_build.proofs.Words.{AllZip, flat_map, JType, Sort, Frame, Program, sorts_of, this_sorts, passed_to, padded_sorts, IsFrameAt, LeadsTo, some_of, reached_frame, Block, entry_block, Node, Op, Graph, sort_over, Over, NoExp, Named, Reads, param_ops, passed_ops, op_at, start_op, Cell, State, op_sort, IsStateOf, Method, IsKnown, AreOpsOf, StartCellsRead, ReadsStart, IsMethod, BeginsBlock}
 use Rattle.pv_value.specs.declared.descriptor.JType.TheVariants as jtype
-use Rattle.pv_frame.specs.declared.sort.Sort.{Sort}
 use Rattle.pv_frame.specs.declared.sort.Sort.TheVariants as sort
-use Rattle.pv_frame.specs.declared.frame.Frame.{Frame}
-use Rattle.pv_frame.specs.declared.program.Program.{Program}
-use Rattle.pv_frame.specs.Frames.{sorts_of, this_sorts, passed_to, padded_sorts, IsFrameAt, LeadsTo}
-use Rattle.pv_frame.proofs.Cited.{some_of, reached_frame}
-use Rattle.pv_flow.specs.declared.block.Block.{Block}
-use Rattle.pv_flow.proofs.Cited.{entry_block}
-use Rattle.pv_graph.specs.declared.node.Node.{Node}
-use Rattle.pv_graph.specs.declared.node.Op.{Op}
 use Rattle.pv_graph.specs.declared.node.Op.TheVariants as op
-use Rattle.pv_graph.specs.Graphs.{Graph}
-use Rattle.pv_graph.specs.Ops.{sort_over}
-use Rattle.pv_equations.specs.Exp.{Over, NoExp}
-use Rattle.pv_terms.specs.declared.names.Named.{Named}
-use Rattle.pv_terms.specs.Reads.{Reads}
-use Rattle.pv_runs.specs.Entries.{param_ops, passed_ops, op_at, start_op}
-use Rattle.pv_block.specs.declared.held.Cell.{Cell}
-use Rattle.pv_block.specs.declared.ran.State.{State}
-use Rattle.pv_block.specs.Sorted.{op_sort}
-use Rattle.pv_block.specs.Ran.{IsStateOf}
-use Rattle.pv_build.specs.declared.method.Method.{Method}
-use Rattle.pv_build.specs.States.{IsKnown, AreOpsOf, StartCellsRead, ReadsStart}
-use Rattle.pv_build.specs.Stages.{IsMethod}
-use Rattle.pv_build.specs.Opening.{BeginsBlock}
 use Rattle.pv_build.proofs.Slotted.{turn_local}
 use Rattle.pv_build.proofs.Stating.{state_reads}
 

@@ -1,30 +1,10 @@
 -- A block is begun and run.
-use Rattle.std.proofs.Common.{◌≡◌, ℕ, ◌+◌, ◌<◌, ◌∷◌, length, set, Option, Some, None, slice_get, sym, ap, ◌∙◌, subst}
-use Rattle.std.specs.Prelude.{Result, Ok, Err, IfOk}
-use Rattle.std.proofs.lemmas.Option.{same_Some}
-use Rattle.pv_flow.specs.declared.block.Block.{Block}
-use Rattle.pv_loops.specs.declared.forest.Loop.{Loop}
-use Rattle.pv_graph.specs.Graphs.{Graph}
-use Rattle.pv_equations.specs.Flow.{Chain}
-use Rattle.pv_runs.specs.Blocks.{place_chain}
-use Rattle.pv_terms.specs.Terms.{Grows}
-use Rattle.pv_block.specs.declared.ran.State.{State}
-use Rattle.pv_block.specs.declared.ran.Ran.{Ran}
-use Rattle.pv_block.specs.Ran.{entry_of, RanFor, IsSortedRan}
-use Rattle.pv_build.specs.declared.method.Method.{Method}
-use Rattle.pv_build.specs.declared.method.Made.{Made}
-use Rattle.pv_build.specs.Stages.{IsMethod, IsLoopAt, HasRun, AreDone, IsStage, GrowsIn, loops_at, loops_around}
-use Rattle.pv_build.specs.Opening.{HeldAs, BeginsBlock, IsOuter, IsEnteredBy, IsNextLoop}
-use Rattle.pv_build.specs.Building.{IsOwnLoop, IsNext, IsStageBefore, Begun}
+use Rattle.std.proofs.Common.{◌≡◌, ℕ, ◌+◌, ◌<◌, ◌∷◌, length, set, Option, Some, None, slice_get, sym, subst}
+use Rattle.pv_build.proofs.Words.{Block, Graph, Chain, place_chain, Grows, State, Ran, entry_of, RanFor, IsSortedRan, Method, Made, IsMethod, IsLoopAt, HasRun, AreDone, IsStage, GrowsIn, loops_at, loops_around, HeldAs, BeginsBlock, IsOuter, IsEnteredBy, IsOwnLoop, IsNext, IsStageBefore, CanOpen, Begun}
 use Rattle.pv_build.proofs.Staged.{flat_beyond, stage_grown}
-use Rattle.pv_build.proofs.Around.{deep_at, deep_around, header_own, header_around, outer_own, outer_plain}
+use Rattle.pv_build.proofs.Around.{deep_at, deep_around, header_own, outer_own, outer_plain}
 use Rattle.pv_build.proofs.Turns.{next_ahead}
 use Rattle.pv_build.proofs.Restaged.{is_done, stage_ran, done_ran}
-
--- three things of one result
-pub three_ok : {A E : Type 0} → (r : Result A E) (P Q S W : A → Type 0) → ((x : A) → P x → Q x → S x → W x) → IfOk r P → IfOk r Q → IfOk r S → IfOk r W
-three_ok (Ok x) P Q S W f p q s = f x p q s
-three_ok (Err e) P Q S W f p q s = tt
 
 -- ---- a block is begun
 
@@ -40,34 +20,17 @@ module _ (m : Method) (is : IsMethod m) (made : Made) (b : ℕ) (at : Option ℕ
     reads = enters.other none;
   }
 
-  -- one that heads a loop, which is opened
-  module _ (i : ℕ) (own : IsOwnLoop m b (Some i)) where
-    header : (l : Loop) → slice_get m.forest.now.loops.items i ≡ Some l → l.header ≡ b
-    header l there = ap (λ (k : Loop). k.header) (same_Some l own.0 (sym there ∙ own.1)) ∙ own.2
-
-    pub opens_next : IsNext m made b → (l : Loop) × IsNextLoop m made i l
-    opens_next next = (own.0, record { there = own.1; ahead = λ run. next_ahead m is made b next.place next.at next.done (subst (HasRun made) own.2 run) })
-
-    pub opens_stage : (l : Loop) → IsNextLoop m made i l → IsStage m g made (loops_at m l.parent)
-    opens_stage l next = subst (IsStage m g made) (outer_own m is b i l at next.there (header l next.there) outer) stage_entered
-
-    pub opens_reads : (c : State) → IsEnteredBy m g made.names b c → (l : Loop) → IsNextLoop m made i l → HeldAs m g made.names c (λ v. v.entering l.header)
-    opens_reads c enters l next =
-        subst (λ (h : ℕ). HeldAs m g made.names c (λ v. v.entering h)) (sym (header l next.there))
-        (enters.header (loops_at m l.parent, subst (λ (h : ℕ). loops_around m h ≡ h ∷ loops_at m l.parent) (header l next.there) (header_own m is i l next.there)))
-
-    pub opens_sorts : (c : State) → BeginsBlock m g b c → (l : Loop) → IsNextLoop m made i l → BeginsBlock m g l.header c
-    opens_sorts c sorts l next = subst (λ (h : ℕ). BeginsBlock m g h c) (sym (header l next.there)) sorts
-
-    pub begun_open : (new : Graph) (more : Made) (c : State) → ((l : Loop) → slice_get m.forest.now.loops.items i ≡ Some l → HeldAs m new more.names c (λ v. v.value l.header)) → ((l : Loop) → slice_get m.forest.now.loops.items i ≡ Some l → BeginsBlock m new l.header c)
-        → IsStage m new more (loops_at m (Some i)) → Begun m new more b c
-    begun_open new more c reads sorts at_stage =
-        let same : loops_at m (Some i) ≡ loops_around m b = sym (subst (λ (h : ℕ). loops_around m h ≡ loops_at m (Some i)) own.2 (header_around m is i own.0 own.1)) in
-        record {
-          stage = subst (IsStage m new more) same at_stage;
-          sorts = subst (λ (h : ℕ). BeginsBlock m new h c) own.2 (sorts own.0 own.1);
-          reads = subst (λ (h : ℕ). HeldAs m new more.names c (λ v. v.value h)) own.2 (reads own.0 own.1);
-        }
+  -- one that heads a loop, which may be opened
+  pub can_open : (i : ℕ) → IsOwnLoop m b (Some i) → IsNext m made b → (c : State) → IsEnteredBy m g made.names b c → BeginsBlock m g b c → CanOpen m g made i c
+  can_open i own next c enters sorts = record {
+    loop_ = own.0;
+    there = own.1;
+    ahead = λ run. next_ahead m is made b next.place next.at next.done (subst (HasRun made) own.2 run);
+    stage = subst (IsStage m g made) (outer_own m is b i own.0 at own.1 own.2 outer) stage_entered;
+    sorts = subst (λ (h : ℕ). BeginsBlock m g h c) (sym own.2) sorts;
+    reads = subst (λ (h : ℕ). HeldAs m g made.names c (λ v. v.entering h)) (sym own.2)
+        (enters.header (loops_at m own.0.parent, subst (λ (h : ℕ). loops_around m h ≡ h ∷ loops_at m own.0.parent) own.2 (header_own m is i own.0 own.1)));
+  }
 
 -- ---- .. and run
 

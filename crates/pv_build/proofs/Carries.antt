@@ -1,32 +1,9 @@
 -- What the loops of a method carry, from what its blocks write.
 use Rattle.std.proofs.Common.{◌≡◌, ℕ, zero, suc, ◌+◌, ◌-◌, ◌<◌, ◌≤◌, Bool, true, false, List, [], ◌∷◌, ◌++◌, length, length-drop, length-take-le, get_or, get_or-drop, get_or-take, take, drop, replicate, Option, Some, slice_get, refl, sym, ap, ◌∙◌, subst, arith, if◌then◌else◌}
-use Rattle.std.specs.Prelude.{◌||◌, ◌==◌, not, nat_lt, option_map, unwrap_or}
-use Rattle.std.specs.List.{list_any}
-use Rattle.std.proofs.lemmas.Bool.{eqb-true, eq-eqb, lt-ltb}
-use Rattle.std.proofs.lemmas.Option.{slice_get_within, slice_get-get_or, get_or_from_slice_get}
+use Rattle.pv_build.proofs.Words.{◌||◌, ◌==◌, not, nat_lt, option_map, unwrap_or, list_any, eqb-true, eq-eqb, lt-ltb, slice_get_within, slice_get-get_or, get_or_from_slice_get, Action, Program, Frame, IsFrameAt, some_of, no_some, Block, edges_of, edges_within, Loop, Forest, Region, EdgeOf, Whole, Way, edge, more, IsLoop, Edge, ◌>>=◌, local_slot, held_at, acted_along, writes_heap, writes_along, block_writes, always_carried, members_of, writes_in, program_clean, frame_long, turns_local, chained, Writes, Walk, IsRoutine, Marks, Knows, Acts, Walked, RunsThrough, AllRunThrough, IsWritten, AreWritten, AreBelow, Unites, IsCarried}
 use Rattle.pv_list.proofs.Cited.{found}
-use Rattle.pv_frame.specs.declared.action.Action.{Action}
-use Rattle.pv_frame.specs.declared.program.Program.{Program}
-use Rattle.pv_frame.specs.declared.frame.Frame.{Frame}
-use Rattle.pv_frame.specs.Frames.{IsFrameAt}
-use Rattle.pv_frame.proofs.Cited.{some_of, no_some}
-use Rattle.pv_flow.specs.declared.block.Block.{Block}
-use Rattle.pv_flow.specs.Edges.{edges_of}
-use Rattle.pv_flow.proofs.Cited.{edges_within}
-use Rattle.pv_loops.specs.declared.forest.Loop.{Loop}
-use Rattle.pv_loops.specs.declared.forest.Forest.{Forest}
-use Rattle.pv_loops.specs.Loops.{Region, EdgeOf, Whole, Inside, Way, edge, more, IsLargest, IsLoop}
+use Rattle.pv_loops.specs.Loops.{Inside}
 use Rattle.pv_loops.specs.Loops as loops
-use Rattle.pv_loops.specs.Shapes.{Edge}
-use Rattle.pv_pool.specs.Readers.{◌>>=◌}
-use Rattle.pv_runs.specs.Held.{local_slot, held_at}
-use Rattle.pv_runs.specs.Blocks.{acted_along}
-use Rattle.pv_runs.specs.Carrying.{writes_heap, writes_along, block_writes, always_carried, members_of, writes_in}
-use Rattle.pv_runs.proofs.Cited.{program_clean, frame_long, turns_local, chained}
-use Rattle.pv_build.specs.declared.carrying.Writes.{Writes}
-use Rattle.pv_build.specs.declared.carrying.Walk.{Walk}
-use Rattle.pv_build.specs.Routine.{IsRoutine}
-use Rattle.pv_build.specs.Carried.{Marks, Knows, Acts, Walked, RunsThrough, AllRunThrough, IsWritten, AreWritten, AreBelow, Unites, IsCarried}
 use Rattle.pv_build.proofs.Lists.{each_push}
 use Rattle.pv_build.proofs.Uniting.{marks_as}
 use Rattle.pv_build.proofs.Writing.{along_before, walked_more, walked_none}

@@ -1,66 +1,10 @@
 -- Cells where a loop is opened.
-use Rattle.std.proofs.Common.{◌≡◌, ℕ, zero, suc, ◌+◌, ◌-◌, ◌<◌, Bool, List, [], ◌∷◌, length, Some, None, slice_get, slice_set, ◌⊎◌, inl, inr, ⊎_elim, refl, sym, ap, ◌∙◌, subst, arith, if◌then◌else◌}
-use Rattle.std.specs.List.{AllZip}
-use Rattle.std.proofs.lemmas.Bool.Decides.{eqb_tells}
-use Rattle.std.proofs.lemmas.Option.{slice_get_within}
-use Rattle.pv_frame.specs.declared.sort.Sort.{Sort}
+use Rattle.std.proofs.Common.{◌≡◌, ◌≢◌, ℕ, zero, suc, ◌+◌, ◌-◌, ◌<◌, Bool, List, [], ◌∷◌, length, Some, None, slice_get, ◌⊎◌, inl, inr, ⊎_elim, refl, sym, ap, ◌∙◌, subst, arith, if◌then◌else◌}
+use Rattle.pv_build.proofs.Words.{eqb_tells, slice_get_within, Sort, some_of, Frame, OpSort, R, T, H, Graph, IsOfSort, IsSortedCell, local_slot, stack_slot, Cell, State, known_by, node_of_cell, local_node, stack_node, slot_of, IsCellOf, IsStateOf, op_sort, number_in, IsKnown, AreCellsOf}
 use Rattle.pv_frame.specs.declared.sort.Sort.TheVariants as sort
-use Rattle.pv_frame.proofs.Cited.{some_of}
-use Rattle.pv_frame.specs.declared.frame.Frame.{Frame}
-use Rattle.pv_graph.specs.declared.node.OpSort.{OpSort}
-use Rattle.pv_graph.specs.declared.node.OpSort.TheVariants.{T, H}
-use Rattle.pv_graph.specs.Graphs.{Graph}
-use Rattle.pv_terms.specs.Terms.{IsOfSort}
-use Rattle.pv_runs.specs.Held.{local_slot, stack_slot}
-use Rattle.pv_block.specs.declared.held.Cell.{Cell}
-use Rattle.pv_block.specs.declared.ran.State.{State}
-use Rattle.pv_block.specs.Ran.{known_by, node_of_cell, local_node, stack_node, slot_of, IsCellOf, IsStateOf}
-use Rattle.pv_block.specs.Sorted.{op_sort}
-use Rattle.pv_build.specs.declared.slot.Part.{Part}
 use Rattle.pv_build.specs.declared.slot.Part.TheVariants as part
-use Rattle.pv_build.specs.Slots.{number_in}
-use Rattle.pv_build.specs.States.{IsKnown, AreCellsOf}
-use Rattle.pv_build.specs.Openings.{AreSortedCells, AreHeaderCells}
-use Rattle.pv_build.proofs.Lists.{zip_each}
+use Rattle.pv_build.proofs.Lists.{zip_first, zip_long}
 use Rattle.pv_build.proofs.Slotted.{turn_local, turn_stack, turns, local_some, stack_some}
-use Rattle.pv_terms.specs.declared.names.Named.{Named}
-
--- ---- lists
-
-pub zip_first : {A B : Type 0} → (R : A → B → Type 0) (xs : List A) (ys : List B) (i : ℕ) (x : A) → AllZip R xs ys → slice_get xs i ≡ Some x → (y : B) × (slice_get ys i ≡ Some y) × R x y
-zip_first R [] ys i x all e = absurd (cc)
-zip_first R (z ∷ xs) [] i x all e = absurd all
-zip_first {A} {B} R (z ∷ xs) (y ∷ ys) zero x all e = let Q : A → Type 0 = λ w. R w y in (y, refl, subst Q (some_of z x e) all.0)
-zip_first R (z ∷ xs) (y ∷ ys) (suc i) x all e = zip_first R xs ys i x all.1 e
-
-pub zip_long : {A B : Type 0} → (R : A → B → Type 0) (xs : List A) (ys : List B) → AllZip R xs ys → length xs ≡ length ys
-zip_long R [] [] all = refl
-zip_long R [] (y ∷ ys) all = absurd all
-zip_long R (x ∷ xs) [] all = absurd all
-zip_long R (x ∷ xs) (y ∷ ys) all = ap suc (zip_long R xs ys all.1)
-
-pub has_at : {A : Type 0} → (xs : List A) (i : ℕ) → i < length xs → (x : A) × (slice_get xs i ≡ Some x)
-has_at [] i less = absurd (omega arith)
-has_at (x ∷ xs) zero less = (x, refl)
-has_at (x ∷ xs) (suc i) less = has_at xs i (omega arith)
-
--- an element put in the place of one
-pub set_at : {A : Type 0} → (xs : List A) (n : ℕ) (x : A) → n < length xs → slice_get (slice_set xs n x) n ≡ Some x
-set_at [] n x less = absurd (omega arith)
-set_at (y ∷ xs) zero x less = refl
-set_at (y ∷ xs) (suc n) x less = set_at xs n x (omega arith)
-
-pub set_apart : {A : Type 0} → (xs : List A) (n m : ℕ) (x : A) → (n ≡ m → ⊥) → slice_get (slice_set xs n x) m ≡ slice_get xs m
-set_apart [] n m x ne = refl
-set_apart (y ∷ xs) zero zero x ne = absurd (ne refl)
-set_apart (y ∷ xs) zero (suc m) x ne = refl
-set_apart (y ∷ xs) (suc n) zero x ne = refl
-set_apart (y ∷ xs) (suc n) (suc m) x ne = set_apart xs n m x (λ e. ne (ap suc e))
-
-pub length_set : {A : Type 0} → (xs : List A) (n : ℕ) (x : A) → length (slice_set xs n x) ≡ length xs
-length_set [] n x = refl
-length_set (y ∷ xs) zero x = refl
-length_set (y ∷ xs) (suc n) x = ap suc (length_set xs n x)
 
 -- ---- sorts that are known
 
@@ -124,37 +68,31 @@ module _ (c : State) (Q : ℕ → ℕ → Type 0) (token : Q 0 c.token) (heap : 
   by_slot (suc (suc (suc zero))) n e = subst (Q 3) (some_of c.heap n e) heap
   by_slot (suc (suc (suc (suc s)))) n e = turns (λ s x. (n : ℕ) → x ≡ Some n → Q (suc (suc (suc (suc s)))) n) (local_node c.locals) (stack_node c.stack) by_local by_stack s n e
 
--- the node of a cell whose sort is known is that of its slot
-pub local_there : (c : State) (i : ℕ) (d : Cell) → slice_get c.locals i ≡ Some d → IsKnown d.sort → slot_of c (number_in part.Locals (length c.locals) i) ≡ Some d.node
-local_there c i d at known = turn_local (local_node c.locals) (stack_node c.stack) i ∙ local_some c.locals i d at ∙ node_known d known
+-- the node of a slot is that of its cell
+pub local_there : (c : State) (i : ℕ) (d : Cell) → slice_get c.locals i ≡ Some d → slot_of c (number_in part.Locals (length c.locals) i) ≡ node_of_cell d
+local_there c i d at = turn_local (local_node c.locals) (stack_node c.stack) i ∙ local_some c.locals i d at
 
-pub stack_there : (c : State) (i : ℕ) (d : Cell) → slice_get c.stack i ≡ Some d → IsKnown d.sort → slot_of c (number_in part.Stack (length c.stack) i) ≡ Some d.node
-stack_there c i d at known =
+pub stack_there : (c : State) (i : ℕ) (d : Cell) → slice_get c.stack i ≡ Some d → slot_of c (number_in part.Stack (length c.stack) i) ≡ node_of_cell d
+stack_there c i d at =
     let low : i < length c.stack = slice_get_within c.stack i d at in
     let j : ℕ = length c.stack - 1 - i in
-    turn_stack (local_node c.locals) (stack_node c.stack) j ∙ stack_some c.stack i j d (omega arith) at ∙ node_known d known
+    turn_stack (local_node c.locals) (stack_node c.stack) j ∙ stack_some c.stack i j d (omega arith) at
 
 -- ---- sorts
 
-pub are_sorted : (g : Graph) (cells : List Cell) (sorts : List Sort) → AreCellsOf g cells sorts → AreSortedCells g cells
+are_sorted : (g : Graph) (cells : List Cell) (sorts : List Sort) → AreCellsOf g cells sorts → (i : ℕ) (c : Cell) → slice_get cells i ≡ Some c → IsSortedCell g c
 are_sorted g cells sorts all i c at = let z = zip_first (IsCellOf g) cells sorts i c all at in z.2.1
-
--- cells at a header have the sorts of those with which its loop is entered
-pub header_sorts : (old g : Graph) (names : List Named) (h : ℕ) (which : Part) (carried : ℕ → Bool) (cells made : List Cell) (sorts : List Sort) → AreCellsOf old cells sorts → AreHeaderCells g names h which carried cells made → AreCellsOf g made sorts
-header_sorts old g names h which carried cells made sorts all are = zip_each (IsCellOf g) made sorts (are.size ∙ zip_long (IsCellOf old) cells sorts all) each
-  where
-    each : (i : ℕ) (d : Cell) → slice_get made i ≡ Some d → (t : Sort) × (slice_get sorts i ≡ Some t) × IsCellOf g d t
-    each i d at =
-        let within : i < length made = slice_get_within made i d at in
-        let x = has_at cells i (let z = are.size in omega (arith, within, z)) in
-        let y = zip_first (IsCellOf old) cells sorts i x.0 all x.1 in
-        let is = (are.each i x.0 d x.1 at).is in
-        (y.0, y.1, (is.0 ∙ y.2.0, is.1))
 
 -- ---- the sorts of slots
 
 known_as : (c : Cell) (t : Sort) → c.sort ≡ t → IsKnown c.sort → IsKnown t
 known_as c t e known un = known (e ∙ un)
+
+pub no_root : (t : Sort) → op_sort t ≢ R
+no_root sort.Int e = absurd (cc)
+no_root sort.Long e = absurd (cc)
+no_root sort.Ref e = absurd (cc)
+no_root sort.Unknown e = absurd (cc)
 
 module _ (g : Graph) (c : State) (f : Frame) (is : IsStateOf g c f) where
   -- the sort of a local whose node is known
@@ -175,8 +113,8 @@ module _ (g : Graph) (c : State) (f : Frame) (is : IsStateOf g c f) where
       let w = x.4 in
       (x.0, z.0, z.1, known_as x.1 z.0 z.2.0 y.0, omega (arith, w, long), subst (λ (t : Sort). IsOfSort g n (op_sort t)) z.2.0 (subst (λ (n : ℕ). IsOfSort g n (op_sort x.1.sort)) y.1 z.2.1))
 
-  -- the node of each slot has a sort
-  pub sorted_slot : (s n : ℕ) → slot_of c s ≡ Some n → (t : OpSort) × IsOfSort g n t
-  sorted_slot = by_slot c (λ s n. (t : OpSort) × IsOfSort g n t) (T, is.token) (H, is.heap)
-      (λ i d at known. (op_sort d.sort, are_sorted g c.locals f.locals is.locals i d at))
-      (λ i d at known. (op_sort d.sort, are_sorted g c.stack f.stack is.stack i d at))
+  -- the node of each slot has a sort, and is no root
+  pub sorted_slot : (s n : ℕ) → slot_of c s ≡ Some n → (t : OpSort) × IsOfSort g n t × (t ≢ R)
+  sorted_slot = by_slot c (λ s n. (t : OpSort) × IsOfSort g n t × (t ≢ R)) (T, is.token, λ e. absurd (cc)) (H, is.heap, λ e. absurd (cc))
+      (λ i d at known. (op_sort d.sort, are_sorted g c.locals f.locals is.locals i d at, no_root d.sort))
+      (λ i d at known. (op_sort d.sort, are_sorted g c.stack f.stack is.stack i d at, no_root d.sort))

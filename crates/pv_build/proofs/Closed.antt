@@ -1,39 +1,13 @@
 -- What is made of a method, where a loop is closed.
 use Rattle.std.proofs.Common.{◌≡◌, ◌≢◌, ℕ, ◌<◌, ◌≤◌, false, List, [], ◌∷◌, length, Some, slice_get, ◌⊎◌, inl, inr, ⊎_elim, refl, sym, ap, ◌∙◌, subst, arith}
-use Rattle.std.specs.Prelude.{Vec}
-use Rattle.std.specs.List.{Contains}
-use Rattle.std.specs.declared.alloc.Global.{Global}
-use Rattle.std.proofs.lemmas.Bool.{cases_lt, cases_eq}
-use Rattle.std.proofs.lemmas.Option.{slice_get_within, same_Some}
-use Rattle.pv_loops.specs.declared.forest.Loop.{Loop}
+use Rattle.pv_build.proofs.Words.{Vec, Contains, Global, cases_lt, cases_eq, slice_get_within, same_Some, Loop, T, Node, node_of, In, Graph, IsOpenTheta, Values, AreEquations, never_exp, named, Reads, has_depth, IsOfSort, depths, IsUnfinishedName, IsTiedName, same_kids, names_stand, Given, Method, Made, Theta, Opened, Closed, Stage, number, IsMethod, flow_in, loops_at, loops_around, IsThetaOf, IsOpened, IsClosed, IsAt, IsStage, HasRun, IsGivenFor, closing_of, MayTieAll, AreTied, AllHaveRun, IsOpenAt}
 use Rattle.pv_graph.specs.declared.node.Op.TheVariants as op
-use Rattle.pv_graph.specs.declared.node.OpSort.TheVariants.{T}
-use Rattle.pv_graph.specs.declared.node.Node.{Node}
-use Rattle.pv_graph.specs.Nodes.{node_of}
-use Rattle.pv_graph.specs.Walks.{In}
-use Rattle.pv_graph.specs.Graphs.{Graph}
-use Rattle.pv_graph.specs.Calls.{IsOpenTheta}
-use Rattle.pv_equations.specs.Equations.{Values, AreEquations, first_kid, never_exp}
 use Rattle.pv_decide.specs.declared.tree.Target.TheVariants as target
-use Rattle.pv_terms.specs.Reads.{named, Reads}
-use Rattle.pv_terms.specs.Terms.{has_depth, IsOfSort}
-use Rattle.pv_terms.specs.Laws.{depths, IsUnfinishedName, IsTiedName}
-use Rattle.pv_terms.proofs.Cited.{same_kids, names_stand, reads_stand}
-use Rattle.pv_build.specs.declared.source.Given.{Given}
-use Rattle.pv_build.specs.declared.method.Method.{Method}
-use Rattle.pv_build.specs.declared.method.Made.{Made}
-use Rattle.pv_build.specs.declared.method.Theta.{Theta}
-use Rattle.pv_build.specs.declared.method.Opened.{Opened}
-use Rattle.pv_build.specs.declared.method.Closed.{Closed}
-use Rattle.pv_build.specs.declared.method.Stage.{Stage}
 use Rattle.pv_build.specs.declared.method.Stage.TheVariants as stage
-use Rattle.pv_build.specs.Slots.{number}
-use Rattle.pv_build.specs.Stages.{IsMethod, flow_in, loops_at, loops_around, IsThetaOf, IsOpened, IsClosed, IsAt, IsStage, HasRun}
-use Rattle.pv_build.specs.Giving.{IsGivenFor}
-use Rattle.pv_build.specs.Closings.{closing_of, MayTieAll, AreTied, AllHaveRun, IsOpenAt}
-use Rattle.pv_build.proofs.Persisting.{Persists, sort_on, stands_on, closed_on, done_on}
+use Rattle.pv_build.proofs.Persisting.{Persists, sort_on, stands_on, tied_on, opened_on, closed_on, done_on}
 use Rattle.pv_build.proofs.Headers.{one_loop}
-use Rattle.pv_build.proofs.Looped.{solution, region_is, outer_other, outer_less}
+use Rattle.pv_build.proofs.Looped.{outer_other, outer_less}
+use Rattle.pv_build.proofs.Around.{solution, loops_own}
 use Rattle.pv_build.proofs.Ties.{base_tied}
 
 module _ (m : Method) (is : IsMethod m) (old : Graph) (made : Made) (i : ℕ) (l : Loop) (there : slice_get m.forest.now.loops.items i ≡ Some l) (stage_is : IsStage m old made (loops_at m (Some i))) (o : Opened) (at : IsOpenAt made i o) where
@@ -86,10 +60,10 @@ module _ (m : Method) (is : IsMethod m) (old : Graph) (made : Made) (i : ℕ) (l
         ne (sym same.0))
 
     rest : (k : ℕ) → In (loops_at m (Some i)) k → k ≢ l.header → In (loops_at m l.parent) k
-    rest k in_ ne = ⊎_elim (λ e. absurd (ne (sym e))) (λ r. r) (subst (λ (A : List ℕ). In A k) (region_is m is i l there) in_)
+    rest k in_ ne = ⊎_elim (λ e. absurd (ne (sym e))) (λ r. r) (subst (λ (A : List ℕ). In A k) (loops_own m is i l there) in_)
 
     all_ : (k : ℕ) → In (loops_at m l.parent) k → In (loops_at m (Some i)) k
-    all_ k in_ = let r : In (l.header ∷ loops_at m l.parent) k = inr in_ in subst (λ (A : List ℕ). In A k) (sym (region_is m is i l there)) r
+    all_ k in_ = let r : In (l.header ∷ loops_at m l.parent) k = inr in_ in subst (λ (A : List ℕ). In A k) (sym (loops_own m is i l there)) r
 
     -- ---- open thetas
 
@@ -124,27 +98,11 @@ module _ (m : Method) (is : IsMethod m) (old : Graph) (made : Made) (i : ℕ) (l
       | inl same ↦ inr (λ v eqs. subst (λ (h : ℕ). IsTiedName (flow_in m) v g.nodes made.names h s n) (sym same) (tied_name s n (subst (λ (h : ℕ). In made.names (named h s n)) same in_) v eqs))
       | inr ne ↦ ⊎_elim
           (λ open_. inl (rest k open_.0 ne, other_same k s n _ ne in_ open_.1))
-          (λ t. inr (λ v eqs. let z = t v eqs in record {
-            first = z.first;
-            second = z.second;
-            theta_ = other_same k s n _ ne in_ z.theta_;
-            enters = reads_stand old.nodes g.nodes made.names made.names tied.stand (λ a s n i. i) z.first _ z.enters;
-            begins = reads_stand old.nodes g.nodes made.names made.names tied.stand (λ a s n i. i) z.second _ z.begins;
-          }))
+          (λ t. inr (λ v eqs. tied_on old g p made.names made.names (λ a s n i. i) (flow_in m) v k s n (λ x. other_same k s n x ne in_) (t v eqs)))
           (stage_is.each_name k s n in_)
     ]
 
     -- ---- other loops
-
-    theta_kept : (k base : ℕ) (x : Theta) → k ≢ l.header → IsThetaOf m old made.names k base x → IsThetaOf m g made.names k base x
-    theta_kept k base x ne t = record {
-      is = t.is;
-      first = stands_on old g p made.names made.names (λ a s n i. i) m x.first (λ v. first_kid v k (number x.slot)) t.first;
-      sort = (t.sort.0, sort_on old g p x.node t.sort.0 t.sort.1, sort_on old g p x.first t.sort.0 t.sort.2, t.sort.3);
-      untied = other_same k (number x.slot) x.node _ ne t.is t.untied;
-      before = t.before;
-      after = t.after;
-    }
 
     -- an outer loop was begun before this one
     base_le : (k : ℕ) (q : Opened) → In (loops_at m l.parent) k → IsOpened m old made.names k q → q.base ≤ o.base
@@ -163,15 +121,9 @@ module _ (m : Method) (is : IsMethod m) (old : Graph) (made : Made) (i : ℕ) (l
         t = other.thetas other.some.0 other.some.1 other.some.2
 
     opened_kept : (k : ℕ) (q : Opened) → k ≢ l.header → In (loops_at m l.parent) k → IsOpened m old made.names k q → IsOpened m g made.names k q
-    opened_kept k q ne in_ other = record {
-      token = sort_on old g p q.token _ other.token;
-      enters = stands_on old g p made.names made.names (λ a s n i. i) m q.token (λ v. v.entering k 0) other.enters;
-      has_base = base_tied (closing_of m made i l o) old again never o.thetas.items may (length o.thetas.items) g tied q.base (depths (flow_in m) k) (base_le k q in_ other) (let less = outer_less m is i l there k in_ in omega (arith, less)) other.has_base;
-      thetas = λ j x at_j. theta_kept k q.base x ne (other.thetas j x at_j);
-      all = other.all;
-      once = other.once;
-      some = other.some;
-    }
+    opened_kept k q ne in_ other =
+        opened_on old g p made.names made.names (λ a s n i. i) m k (λ s n x. other_same k s n x ne) (λ s n name. name) q
+        (base_tied (closing_of m made i l o) old again never o.thetas.items may (length o.thetas.items) g tied q.base (depths (flow_in m) k) (base_le k q in_ other) (let less = outer_less m is i l there k in_ in omega (arith, less))) other
 
     at_kept : (k : ℕ) (st : Stage) → k ≢ l.header → IsAt m old made (loops_at m (Some i)) k st → IsAt m g made (loops_at m l.parent) k st
     at_kept k stage.Ahead ne a = a

@@ -1,16 +1,8 @@
 -- Walks from a base on.
 use Rattle.std.proofs.Common.{◌≡◌, ℕ, zero, suc, ◌<◌, ◌≤◌, List, [], ◌∷◌, Option, Some, slice_get, inl, inr, ⊎_elim, sym, ap, ◌∙◌, subst, arith}
-use Rattle.std.proofs.lemmas.Bool.{cases_lt}
-use Rattle.std.proofs.lemmas.Option.{same_Some}
-use Rattle.pv_graph.specs.declared.node.Op.{Op}
+use Rattle.pv_build.proofs.Words.{cases_lt, same_Some, Op, shape, Form, In, Move, still, down, jump, move_to, stop, step, Graph, form_at, StaysIn, node_at, IsInside, HasBase}
 use Rattle.pv_graph.specs.declared.node.Op.TheVariants as op
-use Rattle.pv_graph.specs.Ops.{shape}
-use Rattle.pv_graph.specs.Forms.{Form}
-use Rattle.pv_graph.specs.Walks.{In, Move, still, down, jump, move_to, Edge, Walk, stop, step}
-use Rattle.pv_graph.specs.Graphs.{Graph, form_at}
-use Rattle.pv_graph.specs.Laws.{StaysIn}
-use Rattle.pv_graph.proofs.Cited.{node_at}
-use Rattle.pv_build.specs.Stages.{IsInside, HasBase}
+use Rattle.pv_graph.specs.Walks.{Edge, Walk}
 
 -- a step from an operation inside a depth
 move_in : (d : ℕ) (o : Op) (place : ℕ) → IsInside d o → (e : ℕ) → (move_to (shape o) place ≡ down e → d ≤ e) × (move_to (shape o) place ≡ jump e → d < e)

@@ -1,12 +1,7 @@
 -- A value of the result's type.
-use Rattle.std.proofs.Common.{◌≡◌, ◌≢◌, [], Option, Some, None, refl}
-use Rattle.pv_value.specs.declared.descriptor.JType.{JType}
+use Rattle.std.proofs.Common.{◌≡◌, ◌≢◌, Option, Some, None, refl, []}
+use Rattle.pv_build.proofs.Words.{JType, R, sort_over, Over, NoExp, none_of, default_of, default_sort}
 use Rattle.pv_value.specs.declared.descriptor.JType.TheVariants as jtype
-use Rattle.pv_graph.specs.declared.node.OpSort.TheVariants.{R}
-use Rattle.pv_graph.specs.Ops.{sort_over}
-use Rattle.pv_equations.specs.Exp.{Over, NoExp}
-use Rattle.pv_build.specs.Unfolded.{none_of}
-use Rattle.pv_build.specs.Ends.{default_of, default_sort}
 
 pub none_is : (r : Option JType) → none_of r ≡ Over (default_of r) NoExp
 none_is None = refl

@@ -1,29 +1,8 @@
 -- What is held where a block is entered.
 use Rattle.std.proofs.Common.{◌≡◌, ◌≢◌, ℕ, ◌<◌, List, length, Option, Some, slice_get, inl, inr, sym, subst}
-use Rattle.std.proofs.lemmas.Option.{slice_get_within}
-use Rattle.pv_frame.specs.declared.frame.Frame.{Frame}
-use Rattle.pv_frame.specs.Frames.{IsFrameAt}
-use Rattle.pv_flow.specs.declared.block.Block.{Block}
-use Rattle.pv_graph.specs.declared.node.OpSort.TheVariants.{T}
-use Rattle.pv_graph.specs.declared.node.Op.{Op}
-use Rattle.pv_graph.specs.Graphs.{Graph}
-use Rattle.pv_equations.specs.Exp.{Exp}
-use Rattle.pv_loops.specs.Ranks.{Heads}
-use Rattle.pv_equations.specs.Equations.{Values, AreEquations, Node, never_exp, tree_of}
-use Rattle.pv_decide.specs.declared.tree.Target.{Target}
+use Rattle.pv_build.proofs.Words.{slice_get_within, Frame, IsFrameAt, Block, T, Op, Graph, Exp, Heads, Values, AreEquations, never_exp, tree_of, Target, Named, Reads, AreNames, GrowsBy, IsOfSort, depths, names_stand, State, Method, Given, FrameGives, FrameFolds, FrameFoldsToSome, ReadsStart, ReadsFrame, IsMethod, IsLoopAt, flow_in, loops_at, loops_around, IsGivenFor, IsOuter, IsEnteredBy}
+use Rattle.pv_equations.specs.Equations.{Node}
 use Rattle.pv_decide.specs.declared.tree.Target.TheVariants as target
-use Rattle.pv_terms.specs.declared.names.Named.{Named}
-use Rattle.pv_terms.specs.Reads.{Reads, AreNames}
-use Rattle.pv_terms.specs.Terms.{GrowsBy, IsOfSort}
-use Rattle.pv_terms.specs.Laws.{depths}
-use Rattle.pv_terms.proofs.Cited.{names_stand}
-use Rattle.pv_block.specs.declared.ran.State.{State}
-use Rattle.pv_build.specs.declared.method.Method.{Method}
-use Rattle.pv_build.specs.declared.source.Given.{Given}
-use Rattle.pv_build.specs.States.{FrameGives, FrameFolds, FrameFoldsToSome, ReadsStart, ReadsFrame}
-use Rattle.pv_build.specs.Stages.{IsMethod, IsLoopAt, flow_in, loops_at, loops_around}
-use Rattle.pv_build.specs.Giving.{IsGivenFor}
-use Rattle.pv_build.specs.Opening.{IsOuter, IsEnteredBy}
 use Rattle.pv_build.proofs.Trees as trees
 use Rattle.pv_build.proofs.Frames as frames
 use Rattle.pv_build.proofs.GivenFor.{given_on}

@@ -1,24 +1,7 @@
 -- The root of a method whose blocks are done and whose loops are closed.
 use Rattle.std.proofs.Common.{◌≡◌, ℕ, ◌<◌, true, List, [], length, None, inr, ⊎_elim, sym, ap, ◌∙◌, subst, arith}
-use Rattle.std.proofs.lemmas.Option.{slice_get_within}
-use Rattle.pv_graph.specs.declared.node.OpSort.TheVariants.{T}
-use Rattle.pv_graph.proofs.Cited.{found}
-use Rattle.pv_graph.specs.Walks.{In}
-use Rattle.pv_graph.specs.Graphs.{Graph, IsGraph, Extends}
-use Rattle.pv_graph.specs.Calls.{IsOpenTheta}
-use Rattle.pv_equations.specs.Equations.{Values, AreEquations, never_exp, tree_of, Finish, Returning}
+use Rattle.pv_build.proofs.Words.{slice_get_within, T, found, In, Graph, IsGraph, Extends, IsOpenTheta, Values, AreEquations, never_exp, tree_of, Finish, Returning, named, Reads, Enlarges, Keeps, IsOfSort, IsTiedName, tying_unfolds, Method, Made, Given, EndsGive, AtEnds, EndsFold, ReadsRoot, IsMethod, flow_in, loops_at, IsStage, GrowsIn, KeepsFirst, IsGivenFor, IsBuiltOf}
 use Rattle.pv_decide.specs.declared.tree.Target.TheVariants as target
-use Rattle.pv_terms.specs.Reads.{named, Reads}
-use Rattle.pv_terms.specs.Terms.{Enlarges, Keeps, IsOfSort}
-use Rattle.pv_terms.specs.Laws.{IsTiedName}
-use Rattle.pv_terms.proofs.Cited.{tying_unfolds}
-use Rattle.pv_build.specs.declared.method.Method.{Method}
-use Rattle.pv_build.specs.declared.method.Made.{Made}
-use Rattle.pv_build.specs.declared.source.Given.{Given}
-use Rattle.pv_build.specs.Ends.{EndsGive, AtEnds, EndsFold, ReadsRoot}
-use Rattle.pv_build.specs.Stages.{IsMethod, flow_in, loops_at, IsStage, GrowsIn, KeepsFirst}
-use Rattle.pv_build.specs.Giving.{IsGivenFor}
-use Rattle.pv_build.specs.Building.{IsBuiltOf}
 use Rattle.pv_build.proofs.Frames as frames
 use Rattle.pv_build.proofs.Around.{no_loops, loops_same}
 use Rattle.pv_build.proofs.Staged.{stage_grown}

@@ -1,35 +1,13 @@
 -- The flow of a method, for walks.
 use Rattle.std.proofs.Common.{◌≡◌, ℕ, zero, suc, ◌<◌, ◌^◌, Bool, true, false, List, [], ◌∷◌, length, map, length-append, get_or, Option, Some, slice_get, refl, sym, ap, ◌∙◌, subst, arith}
-use Rattle.std.specs.List.{AllZip, All}
-use Rattle.std.proofs.lemmas.List.{length-map}
-use Rattle.std.proofs.lemmas.Option.{slice_get_within, slice_get-get_or}
-use Rattle.pv_frame.specs.declared.action.Action.{Action}
+use Rattle.pv_build.proofs.Words.{AllZip, All, length-map, slice_get_within, slice_get-get_or, Action, Program, Frame, some_of, Block, Departure, branched, branches_on_no, departures, IsExit, targets_of, edges_of, entry_block, edges_within, Forest, IsShape, IsForest, IsOrdered, Exit, Chain, Leave, To, Flow, dest_of, GoTo, exit_at, test_at, AreForWalks, IsOver, Held, place_chain, numbered_dest, numbered_exit, numbered, block_chain, flow_of, IsRanked, program_clean, Departs, exits_of, number_is, has_chain, chain_at, typed_chain, method_ranked, IsRoutine}
 use Rattle.pv_frame.specs.declared.action.Action.TheVariants as act
-use Rattle.pv_frame.specs.declared.program.Program.{Program}
-use Rattle.pv_frame.specs.declared.frame.Frame.{Frame}
-use Rattle.pv_frame.proofs.Cited.{some_of}
 use Rattle.pv_flow.specs.declared.block.Exit as kinds
 use Rattle.pv_flow.specs.declared.block.Exit.TheVariants as exit
-use Rattle.pv_flow.specs.declared.block.Block.{Block}
 use Rattle.pv_flow.specs.declared.block.Flow as code
-use Rattle.pv_flow.specs.Exits.{Departure, Goes, Returns, Throws, branched, branches_on_no, departures}
-use Rattle.pv_flow.specs.Blocks.{IsExit}
-use Rattle.pv_flow.specs.Edges.{targets_of, edges_of}
-use Rattle.pv_flow.proofs.Cited.{entry_block, edges_within}
-use Rattle.pv_loops.specs.declared.forest.Forest.{Forest}
-use Rattle.pv_loops.specs.Shapes.{IsShape}
-use Rattle.pv_loops.specs.Forests.{IsForest}
-use Rattle.pv_loops.specs.Ranks.{IsOrdered}
+use Rattle.pv_flow.specs.Exits.{Goes, Returns, Throws}
 use Rattle.pv_equations.specs.Flow as flow
-use Rattle.pv_equations.specs.Flow.{Exit, Chain, Leave, To, End, Flow}
-use Rattle.pv_decide.specs.Sites.{dest_of, GoTo, exit_at, test_at}
-use Rattle.pv_decide.specs.Trees.{AreForWalks, IsOver}
-use Rattle.pv_runs.specs.Held.{Cell, Held}
-use Rattle.pv_runs.specs.Blocks.{place_chain, numbered_dest, numbered_exit, numbered, block_chain}
-use Rattle.pv_runs.specs.Methods.{flow_of}
-use Rattle.pv_runs.specs.Laws.{IsRanked}
-use Rattle.pv_runs.proofs.Cited.{program_clean, Departs, exits_of, number_is, has_chain, chain_at, typed_chain, method_ranked}
-use Rattle.pv_build.specs.Routine.{IsRoutine}
+use Rattle.pv_runs.specs.Held.{Cell}
 
 -- ---- the exits of chains
 

@@ -1,25 +1,8 @@
 -- The fold of a tree over what is given for its nodes.
 use Rattle.std.proofs.Common.{◌≡◌, ℕ, zero, suc, ◌-◌, ◌<◌, List, [], ◌∷◌, length, get_or, Option, Some, None, unwrap_or, slice_get, sym, ap, ◌∙◌, subst, arith}
-use Rattle.std.specs.Prelude.{slice_index}
-use Rattle.std.proofs.lemmas.List.{length-map}
-use Rattle.std.proofs.lemmas.Option.{slice_get-get_or, slice_get_within}
-use Rattle.pv_graph.specs.declared.node.OpSort.{OpSort}
-use Rattle.pv_graph.specs.declared.node.OpSort.TheVariants.{I}
-use Rattle.pv_graph.specs.declared.node.Node.{Node}
-use Rattle.pv_graph.specs.declared.node.Op.{Op}
-use Rattle.pv_graph.proofs.Cited.{found}
-use Rattle.pv_graph.specs.Graphs.{Graph}
-use Rattle.pv_equations.specs.Exp.{Exp, Over, NoExp}
-use Rattle.pv_equations.specs.Equations.{or_else}
-use Rattle.pv_decide.specs.declared.tree.TreeNode.{TreeNode}
+use Rattle.pv_build.proofs.Words.{slice_index, length-map, slice_get-get_or, slice_get_within, OpSort, I, Node, Op, found, Graph, Exp, Over, NoExp, or_else, TreeNode, Named, Reads, IsOfSort, ReadsOver, GivenSort, HaveOneSort, AreGiven, ReadsFold, FoldKeepsSort, ReadsMaybe, IsMaybeOf, Source, Given, given_by, given_nodes, Gives, GivesOne, FoldsTo, FoldsToOne, MaybeReads, MaybeSorted}
 use Rattle.pv_decide.specs.declared.tree.TreeNode.TheVariants as node
-use Rattle.pv_terms.specs.declared.names.Named.{Named}
-use Rattle.pv_terms.specs.Reads.{Reads}
-use Rattle.pv_terms.specs.Terms.{IsOfSort, ReadsOver}
-use Rattle.pv_terms.specs.Fold.{GivenSort, HaveOneSort, AreGiven, ReadsFold, FoldKeepsSort, ReadsMaybe, IsMaybeOf}
-use Rattle.pv_build.specs.declared.source.Source.{Source}
-use Rattle.pv_build.specs.declared.source.Given.{Given}
-use Rattle.pv_build.specs.Sources.{given_by, given_nodes, IsTree, Gives, GivesOne, FoldsTo, FoldsToOne, MaybeReads, MaybeSorted}
+use Rattle.pv_build.specs.Sources.{IsTree}
 use Rattle.pv_build.proofs.Kept.{read_no_kids}
 
 given_at : (sources : List Source) (s n : ℕ) (k : Source) → slice_get sources n ≡ Some k → slice_index (given_nodes sources s) n ≡ unwrap_or (given_by k s) 0

@@ -1,49 +1,15 @@
 -- Where a block begins, and at the ends of the method: what the tree gives for the slots of a frame.
-use Rattle.std.proofs.Common.{◌≡◌, ◌≢◌, ℕ, List, length, Option, Some, None, slice_get, ◌⊎◌, inl, inr, refl, ap, ◌∙◌, subst}
-use Rattle.pv_frame.specs.declared.sort.Sort.{Sort}
-use Rattle.pv_frame.specs.declared.sort.Sort.TheVariants as sort
-use Rattle.pv_frame.specs.declared.frame.Frame.{Frame}
-use Rattle.pv_frame.specs.Frames.{IsFrameAt}
-use Rattle.pv_frame.specs.Actions.{HasFloatlessResult}
-use Rattle.pv_flow.specs.declared.block.Block.{Block}
-use Rattle.pv_graph.specs.declared.node.OpSort.{OpSort}
-use Rattle.pv_graph.specs.declared.node.OpSort.TheVariants.{F, T, H, R}
-use Rattle.pv_graph.specs.Graphs.{Graph}
-use Rattle.pv_equations.specs.Exp.{Exp}
-use Rattle.pv_equations.specs.Equations.{Values, AreEquations, Node, Finish, Returning, never_exp, tree_of}
+use Rattle.std.proofs.Common.{◌≡◌, ℕ, List, length, Option, Some, None, slice_get, ◌⊎◌, inl, inr, refl, ap, ◌∙◌, subst}
+use Rattle.pv_build.proofs.Words.{Sort, Frame, IsFrameAt, HasFloatlessResult, Block, OpSort, F, T, H, Graph, Exp, Values, AreEquations, Finish, Returning, never_exp, tree_of, dest_of, loops_of, dead_of, Named, Reads, AreNames, ReadsMaybe, IsOfSort, depths, Leaving, op_sort, slot_at, Method, Part, Source, Given, number_in, HasNodeOf, FoldsTo, IsKnown, CellsFold, FrameGives, FrameFolds, default_sort, EndsGive, AtEnds, EndsFold, flow_in, loops_at, scope_at, IsExitFor, IsGivenFor}
+use Rattle.pv_equations.specs.Equations.{Node}
 use Rattle.pv_decide.specs.declared.tree.Target.TheVariants as target
-use Rattle.pv_decide.specs.Sites.{dest_of, loops_of}
-use Rattle.pv_decide.specs.Walks.{dead_of}
-use Rattle.pv_terms.specs.declared.names.Named.{Named}
-use Rattle.pv_terms.specs.Reads.{Reads, AreNames}
-use Rattle.pv_terms.specs.Fold.{ReadsMaybe}
-use Rattle.pv_terms.specs.Terms.{IsOfSort}
-use Rattle.pv_terms.specs.Laws.{depths}
-use Rattle.pv_block.specs.declared.ran.Leaving.{Leaving}
-use Rattle.pv_block.specs.Sorted.{op_sort}
-use Rattle.pv_block.specs.Ran.{slot_at}
-use Rattle.pv_build.specs.declared.method.Method.{Method}
-use Rattle.pv_build.specs.declared.slot.Part.{Part}
 use Rattle.pv_build.specs.declared.slot.Part.TheVariants as part
-use Rattle.pv_build.specs.declared.source.Source.{Source}
-use Rattle.pv_build.specs.declared.source.Given.{Given}
-use Rattle.pv_build.specs.Slots.{number_in}
-use Rattle.pv_build.specs.Sources.{HasNodeOf, FoldsTo}
-use Rattle.pv_build.specs.States.{IsKnown, CellsFold, FrameGives, FrameFolds}
-use Rattle.pv_build.specs.Ends.{default_sort, EndsGive, AtEnds, EndsFold}
-use Rattle.pv_build.specs.Stages.{flow_in, loops_at}
-use Rattle.pv_build.specs.Giving.{scope_at, IsExitFor, IsGivenFor}
+use Rattle.pv_build.proofs.Cells.{no_root}
 use Rattle.pv_build.proofs.GivenFor.{ExitsHave, gives_slot, folds_slot}
 use Rattle.pv_build.proofs.Leading.{GoesInto, goes_into, cell_given, end_token, return_result}
 use Rattle.pv_build.proofs.Defaults.{default_value}
 
 -- a sort of a value isn't a root's
-pub value_sort : (t : Sort) → op_sort t ≢ R
-value_sort sort.Int e = absurd (cc)
-value_sort sort.Long e = absurd (cc)
-value_sort sort.Ref e = absurd (cc)
-value_sort sort.Unknown e = absurd (cc)
-
 -- nothing but the token is `never` from where no end is ahead
 dead_cell : (n count i : ℕ) (which : Part) → dead_of (Node n) (number_in which count i) ≡ None
 dead_cell n count i part.Locals = refl
@@ -74,8 +40,8 @@ module _ (m : Method) (g : Graph) (names : List Named) (at : Option ℕ) (n : �
     frame_gives token = record {
       token = gives_slot m g names at (target.Node n) x is tt 0 (Some never) T (λ e. absurd (cc)) token exit_token;
       heap = gives_slot m g names at (target.Node n) x is tt 3 None H (λ e. absurd (cc)) tt exit_heap;
-      locals = λ i t from known. gives_slot m g names at (target.Node n) x is tt (number_in part.Locals (length f.locals) i) None (op_sort t) (value_sort t) tt (exit_cell part.Locals f.locals i t (inl (refl, refl)) from known);
-      stack = λ i t from known. gives_slot m g names at (target.Node n) x is tt (number_in part.Stack (length f.stack) i) None (op_sort t) (value_sort t) tt (exit_cell part.Stack f.stack i t (inr (refl, refl)) from known);
+      locals = λ i t from known. gives_slot m g names at (target.Node n) x is tt (number_in part.Locals (length f.locals) i) None (op_sort t) (no_root t) tt (exit_cell part.Locals f.locals i t (inl (refl, refl)) from known);
+      stack = λ i t from known. gives_slot m g names at (target.Node n) x is tt (number_in part.Stack (length f.stack) i) None (op_sort t) (no_root t) tt (exit_cell part.Stack f.stack i t (inr (refl, refl)) from known);
     }
 
     module _ (same : loops_of (flow_in m) (scope_at m at) ≡ loops_at m at) (v : Values) (eqs : AreEquations (flow_in m) v) (are : AreNames (depths (flow_in m)) g.nodes names) (reads : Reads g.nodes names never never_exp)

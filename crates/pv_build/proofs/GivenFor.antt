@@ -1,28 +1,9 @@
 -- A tree with what is given for its nodes: its sorts, and what it gives.
 use Rattle.std.proofs.Common.{◌≡◌, ◌≢◌, ℕ, ◌-◌, List, length, Option, None, refl, ap, ◌∙◌, subst}
-use Rattle.pv_graph.specs.declared.node.OpSort.{OpSort}
-use Rattle.pv_graph.specs.declared.node.OpSort.TheVariants.{I, R}
-use Rattle.pv_graph.specs.Graphs.{Graph}
-use Rattle.pv_equations.specs.Exp.{Exp}
-use Rattle.pv_equations.specs.Equations.{Values, AreEquations, Leaving, tree_of}
-use Rattle.pv_decide.specs.declared.tree.Target.{Target}
+use Rattle.pv_build.proofs.Words.{OpSort, I, R, Graph, Exp, Values, AreEquations, tree_of, Target, TreeNode, Folds, loops_of, target_of, leaves_of, tests_of, dead_of, Named, AreNames, Within, IsMaybeOf, ReadsMaybe, depths, slot_at, Method, Source, Given, given_by, HasNodeOf, GivesAt, Gives, HasNodeFor, ReadsAt, FoldsTo, flow_in, loops_at, scope_at, IsIntFor, IsExitFor, IsLeafFor, IsSourceFor, IsGivenFor}
+use Rattle.pv_equations.specs.Equations.{Leaving}
 use Rattle.pv_decide.specs.declared.tree.Target.TheVariants as target
-use Rattle.pv_decide.specs.declared.tree.TreeNode.{TreeNode}
 use Rattle.pv_decide.specs.declared.tree.TreeNode.TheVariants as node
-use Rattle.pv_decide.specs.Folds.{Folds}
-use Rattle.pv_decide.specs.Sites.{loops_of}
-use Rattle.pv_decide.specs.Walks.{target_of, leaves_of, tests_of, dead_of}
-use Rattle.pv_terms.specs.declared.names.Named.{Named}
-use Rattle.pv_terms.specs.Reads.{AreNames, Within}
-use Rattle.pv_terms.specs.Fold.{IsMaybeOf, ReadsMaybe}
-use Rattle.pv_terms.specs.Laws.{depths}
-use Rattle.pv_block.specs.Ran.{slot_at}
-use Rattle.pv_build.specs.declared.method.Method.{Method}
-use Rattle.pv_build.specs.declared.source.Source.{Source}
-use Rattle.pv_build.specs.declared.source.Given.{Given}
-use Rattle.pv_build.specs.Sources.{given_by, HasNodeOf, GivesAt, Gives, HasNodeFor, ReadsAt, FoldsTo}
-use Rattle.pv_build.specs.Stages.{flow_in, loops_at}
-use Rattle.pv_build.specs.Giving.{scope_at, IsIntFor, IsExitFor, IsLeafFor, IsSourceFor, IsGivenFor}
 use Rattle.pv_build.proofs.Persisting.{Persists, sort_on, reads_on, stands_on, exit_on}
 
 -- exits are asked for slots

@@ -1,63 +1,17 @@
--- What is held at the header of a loop that is opened, and the names that aren't taken yet.
-use Rattle.std.proofs.Common.{◌≡◌, ℕ, ◌-◌, ◌<◌, ◌≤◌, Bool, true, false, ◌||◌, List, [], length, get_or, Some, slice_get, refl, sym, ap, ◌∙◌, subst, arith}
-use Rattle.std.proofs.lemmas.Option.{slice_get_within, slice_get_read, get_or_from_slice_get}
-use Rattle.pv_frame.specs.declared.frame.Frame.{Frame}
-use Rattle.pv_frame.specs.Frames.{IsFrameAt}
-use Rattle.pv_frame.proofs.Cited.{some_of}
-use Rattle.pv_flow.specs.declared.block.Block.{Block}
-use Rattle.pv_loops.specs.declared.forest.Loop.{Loop}
+-- What is held at the header of a loop that is opened.
+use Rattle.std.proofs.Common.{◌≡◌, ℕ, zero, suc, ◌-◌, ◌<◌, ◌≤◌, Bool, true, false, ◌||◌, List, [], ◌∷◌, length, get_or, Option, Some, None, slice_get, slice_set, unwrap_or, refl, sym, ap, ◌∙◌, subst, arith}
+use Rattle.pv_build.proofs.Words.{found, extends_stand, slice_get_within, slice_get_read, get_or_from_slice_get, list_any, some_of, frame_long, Loop, OpSort, T, In, Graph, HasSort, Exp, NoExp, Flow, Values, AreEquations, first_kid, unit_exp, named, Reads, Grows, Keeps, IsOfSort, HasItsSort, ReadsOver, IsFlat, local_slot, stack_slot, always_carried, members_of, writes_in, Cell, State, op_sort, IsSortedCell, node_of_cell, slot_of, IsCellOf, IsStateOf, Sort, Method, Made, Writes, Part, number_in, IsKnown, AreCellsOf, IsCarried, flow_in, loops_at, HasRun, IsMethod, IsStage, KeepsFirst, HeldAs, CanOpen, CanBegin, carried_at, AreFirstKids, node_or, AreHeaderCells, IsHeaderState, Vec, Global, Block, Stage, Opened, IsFrameAt, IsOwnLoop, Begun, Named, Theta, H, AreBegun}
 use Rattle.pv_graph.specs.declared.node.Op.TheVariants as op
-use Rattle.pv_graph.specs.declared.node.OpSort.TheVariants.{T, H}
-use Rattle.pv_graph.specs.Ops.{HasSort}
-use Rattle.pv_graph.specs.Walks.{In}
-use Rattle.pv_graph.specs.Graphs.{Graph}
-use Rattle.pv_equations.specs.Exp.{Exp}
-use Rattle.pv_equations.specs.Flow.{Flow}
-use Rattle.pv_equations.specs.Equations.{Values, AreEquations}
-use Rattle.pv_terms.specs.declared.names.Named.{Named}
-use Rattle.pv_terms.specs.Reads.{named, Reads}
-use Rattle.pv_terms.specs.Terms.{Grows, Keeps, IsOfSort, IsUnnamed}
-use Rattle.pv_runs.specs.Held.{local_slot, stack_slot}
-use Rattle.pv_runs.specs.Carrying.{always_carried, members_of, writes_in}
-use Rattle.std.specs.List.{list_any}
-use Rattle.pv_runs.proofs.Cited.{frame_long}
-use Rattle.pv_block.specs.declared.held.Cell.{Cell}
-use Rattle.pv_block.specs.declared.ran.State.{State}
-use Rattle.pv_block.specs.Sorted.{op_sort}
-use Rattle.pv_block.specs.Ran.{slot_of, IsCellOf, IsStateOf}
-use Rattle.pv_build.specs.declared.method.Method.{Method}
-use Rattle.pv_build.specs.declared.method.Made.{Made}
-use Rattle.pv_build.specs.declared.method.Theta.{Theta}
-use Rattle.pv_build.specs.declared.opening.Head.{Head}
-use Rattle.pv_build.specs.declared.carrying.Writes.{Writes}
-use Rattle.pv_build.specs.declared.slot.Part.{Part}
+use Rattle.pv_build.specs.declared.method.Stage.TheVariants as stage
 use Rattle.pv_build.specs.declared.slot.Part.TheVariants as part
-use Rattle.pv_build.specs.Slots.{number_in}
-use Rattle.pv_build.specs.States.{IsKnown, ReadsState}
-use Rattle.pv_build.specs.Carried.{IsCarried}
-use Rattle.pv_build.specs.Stages.{flow_in, loops_at, HasRun, IsMethod, IsStage, KeepsFirst}
-use Rattle.pv_build.specs.Opening.{HeldAs, BeginsBlock, IsNextLoop}
-use Rattle.pv_build.specs.Openings.{IsOne, IsCellBelow, Begins, AreUnnamed, AreSortedCells, IsHeaderCell, AreHeaderCells, carries_local}
-use Rattle.pv_build.proofs.Slotted.{turn_stack}
-use Rattle.pv_build.proofs.Numbers.{not_token, not_heap, parts_apart}
-use Rattle.pv_build.proofs.Begun.{begins_wider, begins_then, still_unnamed, header_cell_on}
+use Rattle.pv_build.proofs.Lists.{zip_each, zip_first, zip_long}
+use Rattle.pv_build.proofs.Slotted.{turn_local, turn_stack}
+use Rattle.pv_build.proofs.Persisting.{Persists, grown, sort_on, reads_on, state_on}
 use Rattle.pv_build.proofs.Staged.{flat_beyond, stage_grown}
-use Rattle.pv_build.proofs.Cells.{has_at, zip_long, by_slot, local_there, stack_there, header_sorts}
+use Rattle.pv_build.proofs.Cells.{node_known, known_node, by_slot, local_there, stack_there, sorted_slot}
+use Rattle.pv_build.proofs.Around.{parent_at, header_own, deep_at}
 use Rattle.pv_build.proofs.Opened as opened
-use Rattle.pv_build.proofs.Opened.{first_of, IsFirstKid}
-
--- ---- the loop that is next
-
-pub read_loop : (m : Method) (made : Made) (i : ℕ) (x : Loop) → ((l : Loop) × IsNextLoop m made i l) → x ≡ get_or m.forest.now.loops.items i x → IsNextLoop m made i x
-read_loop m made i x next e =
-    let loops : List Loop = m.forest.now.loops.items in
-    let low : i < length loops = slice_get_within loops i next.0 next.1.there in
-    let at : slice_get loops i ≡ Some x = slice_get_read loops (length loops) i x refl low e in
-    let same : next.0 ≡ x = some_of next.0 x (sym next.1.there ∙ at) in
-    record { there = at; ahead = subst (λ (l : Loop). HasRun made l.header → ⊥) same next.1.ahead }
-
-pub same_loop : (m : Method) (i : ℕ) (x l : Loop) → slice_get m.forest.now.loops.items i ≡ Some x → slice_get m.forest.now.loops.items i ≡ Some l → x ≡ l
-same_loop m i x l at there = some_of x l (sym at ∙ there)
+use Rattle.pv_build.proofs.Opened.{FirstFrame, Opening, head_of, kid_is, kid_none}
 
 -- the nodes from before the method stay where all nodes stay
 pub keeps_first : (start : ℕ) (a b : Graph) → Keeps a b → KeepsFirst start a b
@@ -70,99 +24,114 @@ keeps_grown a b g = record { graph = g.graph; extends = g.extends }
 pub unit_has : (g : Graph) → HasSort g.sorts op.Unit [] T
 unit_has g = record { sorts = []; kids_have = tt; over = refl }
 
--- ---- where the header begins
+-- ---- before the thetas are begun
 
-pub record FirstFrame (m : Method) (g : Graph) (b : ℕ) (c : State) : Type 0 where
-  pub block : Block
-  pub block_at : slice_get m.flow.now.blocks b ≡ Some block
-  pub frame : Frame
-  pub frame_at : IsFrameAt m.typed.now.frames block.first frame
-  pub sorts : IsStateOf g c frame
+module _ (m : Method) (is : IsMethod m) (g : Graph) (made : Made) (i : ℕ) (c : State) (can : CanOpen m g made i c) where
+  abbrev l : Loop
+  l = can.loop_
 
-pub first_frame : (m : Method) (g : Graph) (b : ℕ) (c : State) → b < length m.flow.now.blocks → BeginsBlock m g b c → FirstFrame m g b c
-first_frame m g b c low begins =
-    let x = has_at m.flow.now.blocks b low in
-    let y = begins x.0 x.1 in
-    record { block = x.0; block_at = x.1; frame = y.0; frame_at = y.1; sorts = y.2 }
+  abbrev header : ℕ
+  header = l.header
 
-pub sorted_on : (a b : Graph) → Keeps a b → (cells : List Cell) → AreSortedCells a cells → AreSortedCells b cells
-sorted_on a b k cells sorted i c at = k.extends.sorts c.node (op_sort c.sort) (sorted i c at)
+  pub there_low : i < length m.forest.now.loops.items
+  there_low = slice_get_within m.forest.now.loops.items i l can.there
 
--- ---- names
+  pub carried_low : i < length m.carried.items
+  carried_low = let z = is.carries.size in let w = there_low in omega (arith, z, w)
 
-module _ (head : Head) (first heap : ℕ) (a : Graph) (na : List Named) (ta : List Theta) (b : Graph) (nb : List Named) (tb : List Theta) (token : Begins head (IsOne 0 first) a na ta b nb tb) (none : (s : ℕ) → IsUnnamed na head.header s) where
-  pub heap_unnamed : IsUnnamed nb head.header 3
-  heap_unnamed = still_unnamed head (IsOne 0 first) a na ta b nb tb token 3 (none 3) (λ n e. absurd (let z : 3 ≡ 0 = e.0 in cc))
+  pub loop_is : (x : Loop) → x ≡ get_or m.forest.now.loops.items i x → l ≡ x
+  loop_is x e = some_of l x (sym can.there ∙ slice_get_read m.forest.now.loops.items (length m.forest.now.loops.items) i x refl there_low e)
 
-  module _ (d : Graph) (nd : List Named) (td : List Theta) (more : Begins head (IsOne 3 heap) b nb tb d nd td) where
-    pub cells_unnamed : (which : Part) (count : ℕ) → AreUnnamed nd head.header which count
-    cells_unnamed which count i less =
-        still_unnamed head (IsOne 3 heap) b nb tb d nd td more (number_in which count i)
-        (still_unnamed head (IsOne 0 first) a na ta b nb tb token (number_in which count i) (none (number_in which count i)) (λ n e. not_token which count i e.0))
-        (λ n e. not_heap which count i e.0)
+  pub listed_at : i < length made.loops.items
+  listed_at = opened.listed m is i l can.there g made can.ahead can.stage
 
-    pub stack_unnamed : (cells : List Cell) (upto : ℕ) (e : Graph) (ne : List Named) (te : List Theta) → Begins head (IsCellBelow part.Locals cells upto) d nd td e ne te → (count : ℕ) → AreUnnamed ne head.header part.Stack count
-    stack_unnamed cells upto e ne te locals count i less =
-        still_unnamed head (IsCellBelow part.Locals cells upto) d nd td e ne te locals (number_in part.Stack count i) (cells_unnamed part.Stack count i less) (λ n q. parts_apart count (length cells) i q.place q.slot_is)
+  pub writes_at : (w : Writes) → w ≡ get_or m.carried.items i w → slice_get m.carried.items i ≡ Some w
+  writes_at w e = slice_get_read m.carried.items (length m.carried.items) i w refl carried_low e
 
--- ---- all thetas of the loop
+  -- with one node more, which is unit
+  module _ (a : Graph) (unit : ℕ) (grows : Grows g a) (over : ReadsOver g op.Unit [] a unit) (sort : HasItsSort g op.Unit [] a unit) where
+    abbrev first : State
+    first = record { stack = c.stack; locals = c.locals; heap = c.heap; token = unit }
 
-one_kid : (unit : ℕ) (c : State) (slot n : ℕ) → first_of unit c slot ≡ Some n → (s k : ℕ) → IsOne slot n s k → IsFirstKid unit c s k
-one_kid unit c slot n is s k e = ap (first_of unit c) e.0 ∙ is ∙ ap (λ (k : ℕ). Some k) (sym e.1)
+    pub stage_unit : IsStage m a made (loops_at m l.parent)
+    stage_unit =
+        let R : List ℕ = loops_at m l.parent in
+        stage_grown m g a made R (length R) (deep_at m is l.parent (parent_at m is i l can.there)) (flat_beyond (length R) g a grows) can.stage
 
-local_kid : (unit : ℕ) (c : State) (upto s n : ℕ) → IsCellBelow part.Locals c.locals upto s n → IsFirstKid unit c s n
-local_kid unit c upto s n q = ap (first_of unit c) q.slot_is ∙ local_there c q.place q.cell q.at q.known ∙ ap (λ (k : ℕ). Some k) q.node_is
+    pub persists : Persists g a
+    persists = grown IsFlat g a grows
 
-stack_kid : (unit : ℕ) (c : State) (upto s n : ℕ) → IsCellBelow part.Stack c.stack upto s n → IsFirstKid unit c s n
-stack_kid unit c upto s n q = ap (first_of unit c) q.slot_is ∙ stack_there c q.place q.cell q.at q.known ∙ ap (λ (k : ℕ). Some k) q.node_is
+    pub frame_is : FirstFrame m a header first
+    frame_is =
+        let x = found m.flow.now.blocks header (opened.low_own m is i l can.there) in
+        let y = can.sorts x.0 x.1 in
+        let z = state_on g a persists c y.0 y.2 in
+        record { block = x.0; block_at = x.1; frame = y.0; frame_at = y.1; sorts = record { stack = z.stack; locals = z.locals; heap = z.heap; token = sort T (unit_has g) } }
 
-module _ (head : Head) (unit : ℕ) (c : State) (a : Graph) (na : List Named) (ta : List Theta) (b : Graph) (nb : List Named) (tb : List Theta) (d : Graph) (nd : List Named) (td : List Theta) (e : Graph) (ne : List Named) (te : List Theta) (g : Graph) (ng : List Named)
-    (tg : List Theta) (token : Begins head (IsOne 0 unit) a na ta b nb tb) (heap : Begins head (IsOne 3 c.heap) b nb tb d nd td) (few : ℕ) (locals : Begins head (IsCellBelow part.Locals c.locals few) d nd td e ne te) (many : ℕ) (stack : Begins head (IsCellBelow part.Stack c.stack many) e ne te g ng tg) where
-  pub begins_all : Begins head (IsFirstKid unit c) a na ta g ng tg
-  begins_all =
-      let P : ℕ → ℕ → Type 0 = IsFirstKid unit c in
-      let one : Begins head (IsFirstKid unit c) a na ta b nb tb = begins_wider head (IsOne 0 unit) a na ta b nb tb token P (one_kid unit c 0 unit refl) in
-      let two : Begins head (IsFirstKid unit c) b nb tb d nd td = begins_wider head (IsOne 3 c.heap) b nb tb d nd td heap P (one_kid unit c 3 c.heap refl) in
-      let three : Begins head (IsFirstKid unit c) d nd td e ne te = begins_wider head (IsCellBelow part.Locals c.locals few) d nd td e ne te locals P (local_kid unit c few) in
-      let four : Begins head (IsFirstKid unit c) e ne te g ng tg = begins_wider head (IsCellBelow part.Stack c.stack many) e ne te g ng tg stack P (stack_kid unit c many) in
-      begins_then head P a na ta e ne te (begins_then head P a na ta d nd td (begins_then head P a na ta b nb tb one d nd td two) e ne te three) g ng tg four
+    other_slot : (s : ℕ) → slot_of first (suc s) ≡ slot_of c (suc s)
+    other_slot zero = refl
+    other_slot (suc zero) = refl
+    other_slot (suc (suc zero)) = refl
+    other_slot (suc (suc (suc s))) = refl
 
-pub header_cells_on : (head : Head) (P : ℕ → ℕ → Type 0) (a : Graph) (na : List Named) (ta : List Theta) (b : Graph) (nb : List Named) (tb : List Theta) → Begins head P a na ta b nb tb → (which : Part) (carried : ℕ → Bool) (cells made : List Cell)
-    → AreHeaderCells a na head.header which carried cells made → AreHeaderCells b nb head.header which carried cells made
-header_cells_on head P a na ta b nb tb p which carried cells made are = record { size = are.size; each = λ i c d at to. header_cell_on head P a na ta b nb tb p (number_in which (length cells) i) (carried i) c d (are.each i c d at to) }
+    pub first_reads : HeldAs m a made.names first (λ v. first_kid v header)
+    first_reads v eqs zero n e = subst (λ (n : ℕ). Reads a.nodes made.names n unit_exp) (some_of unit n e) (over made.names NoExp tt)
+    first_reads v eqs (suc s) n e = reads_on g a persists made.names made.names (λ h s n i. i) n (v.entering header (suc s)) (can.reads v eqs (suc s) n (sym (other_slot s) ∙ e))
+
+    -- THETAS MAY BE BEGUN
+    pub can_begin : (w : Writes) (kids : List (Option ℕ)) → AreFirstKids w first kids → CanBegin (head_of l) kids a made.names
+    can_begin w kids firsts = record {
+      graph = grows.graph;
+      open_ = stage_unit.open_;
+      depth = opened.depth_right m is i l can.there;
+      sorted = λ s n at. sorted_slot a first frame_is.frame frame_is.sorts s n (kid_is w first kids firsts s n at).1;
+      fresh = opened.no_names m is i l can.there a made can.ahead stage_unit;
+    }
+
+    -- WHAT THE LOOP IS OPENED WITH
+    abbrev pub opening : (w : Writes) (kids : List (Option ℕ)) → AreFirstKids w first kids → (new : Graph) (more : List Named) (thetas : List Theta) (nodes : List (Option ℕ)) → AreBegun (head_of l) kids a made.names new more thetas nodes → Opening m made l
+    opening w kids firsts new more thetas nodes begun = record {
+      old = a;
+      stage = stage_unit;
+      first = first;
+      at = frame_is;
+      reads = first_reads;
+      token = c.token;
+      token_sort = (let x = found m.flow.now.blocks header (opened.low_own m is i l can.there) in sort_on g a persists c.token T (can.sorts x.0 x.1).2.token);
+      enters = λ v eqs. reads_on g a persists made.names made.names (λ h s n i. i) c.token (v.entering header 0) (can.reads v eqs 0 c.token refl);
+      writes = w;
+      kids = kids;
+      firsts = firsts;
+      new = new;
+      more = more;
+      thetas = thetas;
+      nodes = nodes;
+      begun = begun;
+    }
 
 -- ---- what is held at the header
 
-module _ (m : Method) (is : IsMethod m) (i : ℕ) (l : Loop) (there : slice_get m.forest.now.loops.items i ≡ Some l) where
+some_at : (xs : List (Option ℕ)) (s n : ℕ) → get_or xs s None ≡ Some n → slice_get xs s ≡ Some (Some n)
+some_at [] s n e = absurd (cc)
+some_at (x ∷ xs) zero n e = ap (λ (k : Option ℕ). Some k) e
+some_at (x ∷ xs) (suc s) n e = some_at xs s n e
+
+module _ (m : Method) (is : IsMethod m) (i : ℕ) (l : Loop) (there : slice_get m.forest.now.loops.items i ≡ Some l) (made : Made) (o : Opening m made l) (writes : slice_get m.carried.items i ≡ Some o.writes) where
   abbrev f : Flow
   f = flow_in m
 
   abbrev h : ℕ
   h = l.header
 
-  -- the stage with one node more
-  pub unit_stage : (g new : Graph) (made : Made) → Grows g new → IsStage m g made (loops_at m l.parent) → IsStage m new made (loops_at m l.parent)
-  unit_stage g new made grows st =
-      let R : List ℕ = loops_at m l.parent in
-      stage_grown m g new made R (length R) (opened.outer_depth m is i l there) (flat_beyond (length R) g new grows) st
-
-  pub carried_is : (w : Writes) → slice_get m.carried.items i ≡ Some w → IsCarried m.typed.now.program m.typed.now.frames m.flow.now.blocks m.forest.now h w
-  carried_is w at = is.carries.each i l w there at
-
-  pub read_writes : (w : Writes) → w ≡ get_or m.carried.items i w → slice_get m.carried.items i ≡ Some w
-  read_writes w e =
-      let all : List Writes = m.carried.items in
-      let size = is.carries.size in
-      let within = slice_get_within m.forest.now.loops.items i l there in
-      let low : i < length all = omega (arith, size, within) in
-      slice_get_read all (length all) i w refl low e
+  carried_is : IsCarried m.typed.now.program m.typed.now.frames m.flow.now.blocks m.forest.now h o.writes
+  carried_is = is.carries.each i l o.writes there writes
 
   -- there is a flag for each local
-  pub carried_long : (w : Writes) → slice_get m.carried.items i ≡ Some w → (g : Graph) (c : State) → FirstFrame m g h c → length c.locals ≤ length w.locals.items
-  carried_long w at g c first =
-      let z = zip_long (IsCellOf g) c.locals first.frame.locals first.sorts.locals in
-      let x = frame_long m.typed.now.program m.typed.now.frames is.routine.shaped.well_typed first.block.first first.frame first.frame_at in
-      let y = (carried_is w at).size in
+  carried_long : length o.first.locals ≤ length o.writes.locals.items
+  carried_long =
+      let z = zip_long (IsCellOf o.old) o.first.locals o.at.frame.locals o.at.sorts.locals in
+      let x = frame_long m.typed.now.program m.typed.now.frames is.routine.shaped.well_typed o.at.block.first o.at.frame o.at.frame_at in
+      let y = carried_is.size in
       omega (arith, z, x, y)
 
   -- the loop carries the operand stack
@@ -175,49 +144,124 @@ module _ (m : Method) (is : IsMethod m) (i : ℕ) (l : Loop) (there : slice_get 
       always : (j : ℕ) → always_carried m.typed.now.program (stack_slot j) ≡ true
       always j = turn_stack _ (λ k. true) j
 
-  local_carried : (w : Writes) → slice_get m.carried.items i ≡ Some w → (k : ℕ) → k < length w.locals.items → f.carried h (local_slot k) ≡ carries_local w k
-  local_carried w at k less =
-      let b = has_at w.locals.items k less in
-      sym ((carried_is w at).locals k b.0 b.1) ∙ sym (get_or_from_slice_get w.locals.items k b.0 false b.1)
+  local_carried : (k : ℕ) → k < length o.writes.locals.items → f.carried h (local_slot k) ≡ get_or o.writes.locals.items k false
+  local_carried k less =
+      let b = found o.writes.locals.items k less in
+      sym (carried_is.locals k b.0 b.1) ∙ sym (get_or_from_slice_get o.writes.locals.items k b.0 false b.1)
 
-  module _ (old new : Graph) (names more : List Named) (c : State) (stands : (n : ℕ) (e : Exp) → Reads old.nodes names n e → Reads new.nodes more n e) (held : HeldAs m old names c (λ v. v.entering h)) (v : Values) (eqs : AreEquations f v) where
-    -- a slot that the loop carries, and one that it doesn't
-    name_reads : (s n : ℕ) → f.carried h s ≡ true → In more (named h s n) → Reads new.nodes more n (v.value h s)
-    name_reads s n moved among = subst (λ (e : Exp). Reads new.nodes more n e) (sym (eqs.names h s (loops_at m l.parent) (opened.around_own m is i l there) moved)) among
+  slot_carried : (s n : ℕ) → slot_of o.first s ≡ Some n → f.carried h s ≡ carried_at o.writes s
+  slot_carried = by_slot o.first (λ s n. f.carried h s ≡ carried_at o.writes s) refl (sym carried_is.heap)
+      (λ k d at known. let low = slice_get_within o.first.locals k d at in let z = carried_long in local_carried k (omega (arith, low, z)) ∙ sym (turn_local (λ (k : ℕ). get_or o.writes.locals.items k false) (λ j. true) k))
+      (λ k d at known. stack_carried (length o.first.stack - 1 - k) ∙ sym (turn_stack (λ (k : ℕ). get_or o.writes.locals.items k false) (λ j. true) (length o.first.stack - 1 - k)))
 
-    other_reads : (s n : ℕ) → f.carried h s ≡ false → slot_of c s ≡ Some n → Reads new.nodes more n (v.value h s)
-    other_reads s n stays at = subst (λ (e : Exp). Reads new.nodes more n e) (sym (eqs.others h s (loops_at m l.parent) (opened.around_own m is i l there) stays)) (stands n (v.entering h s) (held v eqs s n at))
+  stands : (n : ℕ) (e : Exp) → Reads o.old.nodes made.names n e → Reads o.new.nodes o.more n e
+  stands n e r =
+      let x = o.begun.begins.extends in
+      reads_on o.old o.new (record { stand = extends_stand o.old o.new x; sorts = x.sorts }) made.names o.more o.begun.begins.within n e r
 
-    heap_reads : (b : Bool) (n : ℕ) → f.carried h 3 ≡ b → (b ≡ true → In more (named h 3 n)) → (b ≡ false → n ≡ c.heap) → Reads new.nodes more n (v.value h 3)
-    heap_reads true n e moved stays = name_reads 3 n e (moved refl)
-    heap_reads false n e moved stays = other_reads 3 n e (ap (λ (k : ℕ). Some k) (sym (stays refl)))
+  node_is : (s own : ℕ) (k : Option ℕ) → slice_get o.nodes s ≡ Some k → node_or o.nodes s own ≡ unwrap_or k own
+  node_is s own k at = ap (λ (k : Option ℕ). unwrap_or k own) (get_or_from_slice_get o.nodes s k None at)
 
-    cell_reads : (b : Bool) (s : ℕ) (x y : Cell) → f.carried h s ≡ b → IsHeaderCell new more h s b x y → IsKnown y.sort → (IsKnown x.sort → slot_of c s ≡ Some x.node) → Reads new.nodes more y.node (v.value h s)
-    cell_reads true s x y e cell known at = name_reads s y.node e (cell.theta_ refl (λ un. known (cell.is.0 ∙ un)))
-    cell_reads false s x y e cell known at = other_reads s y.node e (at (λ un. known (cell.is.0 ∙ un)) ∙ ap (λ (z : Cell). Some z.node) (sym (cell.other refl)))
+  -- a slot that the loop carries is named, and others are what they are where it is entered
+  node_reads : (v : Values) → AreEquations f v → (s own : ℕ) → slot_of o.first s ≡ Some own → Reads o.new.nodes o.more (node_or o.nodes s own) (v.value h s)
+  node_reads v eqs s own at =
+      let low : s < length o.nodes = (let z = o.firsts.above s own at in let w = o.begun.size in omega (arith, z, w)) in
+      let x = found o.nodes s low in
+      subst (λ (n : ℕ). Reads o.new.nodes o.more n (v.value h s)) (sym (node_is s own x.0 x.1)) (go x.0 x.1)
+    where
+      around : f.around h ≡ h ∷ loops_at m l.parent
+      around = header_own m is i l there
 
+      other : (k : ℕ) → carried_at o.writes k ≡ false → Reads o.new.nodes o.more own (first_kid v h k) → Reads o.new.nodes o.more own (v.entering h k)
+      other zero e r = absurd (cc)
+      other (suc k) e r = r
+
+      go : (k : Option ℕ) → slice_get o.nodes s ≡ Some k → Reads o.new.nodes o.more (unwrap_or k own) (v.value h s)
+      go (Some n) here =
+          let x = o.begun.nodes_are.some s n here in
+          let b = o.begun.begins.each x.0 x.1 x.2 in
+          let kid : slice_get o.kids s ≡ Some (Some x.1.first) = ap (slice_get o.kids) (sym x.3) ∙ b.meant in
+          let among : In o.more (named h s n) = subst (λ (n : ℕ). In o.more (named h s n)) x.4 (subst (λ (s : ℕ). In o.more (named h s x.1.node)) x.3 b.is) in
+          subst (λ (e : Exp). Reads o.new.nodes o.more n e) (sym (eqs.names h s (loops_at m l.parent) around (slot_carried s own at ∙ (kid_is o.writes o.first o.kids o.firsts s x.1.first kid).0))) among
+      go None here =
+          let stays : carried_at o.writes s ≡ false = kid_none o.writes o.first o.kids o.firsts s own (o.begun.nodes_are.none s here) at in
+          subst (λ (e : Exp). Reads o.new.nodes o.more own e) (sym (eqs.others h s (loops_at m l.parent) around (slot_carried s own at ∙ stays))) (other s stays (stands own (first_kid v h s) (o.reads v eqs s own at)))
+
+  -- the theta of a slot has the sort of its first kid
+  node_sort : (s own : ℕ) (t : OpSort) → IsOfSort o.old own t → ((first : ℕ) → slot_of o.first s ≡ Some first → own ≡ first) → IsOfSort o.new (node_or o.nodes s own) t
+  node_sort s own t is_ same = go (get_or o.nodes s None) refl
+    where
+      own_at : IsOfSort o.new own t
+      own_at = o.begun.begins.extends.sorts own t is_
+
+      go : (k : Option ℕ) → get_or o.nodes s None ≡ k → IsOfSort o.new (node_or o.nodes s own) t
+      go None e = subst (λ (k : Option ℕ). IsOfSort o.new (unwrap_or k own) t) (sym e) own_at
+      go (Some n) e =
+          let x = o.begun.nodes_are.some s n (some_at o.nodes s n e) in
+          let b = o.begun.begins.each x.0 x.1 x.2 in
+          let q : own ≡ x.1.first = same x.1.first (kid_is o.writes o.first o.kids o.firsts s x.1.first (ap (slice_get o.kids) (sym x.3) ∙ b.meant)).1 in
+          let u : b.sort.0 ≡ t = some_of b.sort.0 t (sym b.sort.2 ∙ subst (λ (n : ℕ). IsOfSort o.new n t) q own_at) in
+          subst (λ (k : Option ℕ). IsOfSort o.new (unwrap_or k own) t) (sym e) (subst (λ (n : ℕ). IsOfSort o.new n t) x.4 (subst (λ (t : OpSort). IsOfSort o.new x.1.node t) u b.sort.1))
+
+  module _ (which : Part) (cells made_ : List Cell) (at_slot : (i : ℕ) (c : Cell) → slice_get cells i ≡ Some c → slot_of o.first (number_in which (length cells) i) ≡ node_of_cell c) (are : AreHeaderCells o.nodes which cells made_) where
+    cells_read : (v : Values) → AreEquations f v → (i : ℕ) (d : Cell) → slice_get made_ i ≡ Some d → IsKnown d.sort → Reads o.new.nodes o.more d.node (v.value h (number_in which (length made_) i))
+    cells_read v eqs i d at known =
+        let x = are.each i d at in
+        let s : ℕ = number_in which (length cells) i in
+        let sorted : IsKnown x.0.sort = (λ un. known (ap (λ (z : Cell). z.sort) x.2 ∙ un)) in
+        subst (λ (n : ℕ). Reads o.new.nodes o.more d.node (v.value h (number_in which n i))) (sym are.size)
+        (subst (λ (n : ℕ). Reads o.new.nodes o.more n (v.value h s)) (sym (ap (λ (z : Cell). z.node) x.2)) (node_reads v eqs s x.0.node (at_slot i x.0 x.1 ∙ node_known x.0 sorted)))
+
+    cells_sorted : (sorts : List Sort) → AreCellsOf o.old cells sorts → AreCellsOf o.new made_ sorts
+    cells_sorted sorts all = zip_each (IsCellOf o.new) made_ sorts (are.size ∙ zip_long (IsCellOf o.old) cells sorts all) each
+      where
+        each : (i : ℕ) (d : Cell) → slice_get made_ i ≡ Some d → (t : Sort) × (slice_get sorts i ≡ Some t) × IsCellOf o.new d t
+        each i d at =
+            let x = are.each i d at in
+            let z = zip_first (IsCellOf o.old) cells sorts i x.0 all x.1 in
+            let s : ℕ = number_in which (length cells) i in (
+              z.0,
+              z.1,
+              (
+                ap (λ (y : Cell). y.sort) x.2 ∙ z.2.0,
+                subst (IsSortedCell o.new) (sym x.2) (node_sort s x.0.node (op_sort x.0.sort) z.2.1 (λ first e. (known_node x.0 first (sym (at_slot i x.0 x.1) ∙ e)).1)),
+              ),
+            )
+
+  module _ (d : State) (are : IsHeaderState o.nodes o.first d) where
     -- WHAT IS HELD AT THE HEADER STANDS FOR ITS SLOTS
-    pub header_reads : (w : Writes) → slice_get m.carried.items i ≡ Some w → length c.locals ≤ length w.locals.items → (d : State) → In more (named h 0 d.token) → (w.heap ≡ true → In more (named h 3 d.heap)) → (w.heap ≡ false → d.heap ≡ c.heap)
-        → AreHeaderCells new more h part.Locals (carries_local w) c.locals d.locals → AreHeaderCells new more h part.Stack (λ j. true) c.stack d.stack → ReadsState new.nodes more d (v.value h)
-    header_reads w at long d token moved stays locals stack =
-        by_slot d (λ s n. Reads new.nodes more n (v.value h s)) (name_reads 0 d.token refl token) (heap_reads w.heap d.heap (sym (carried_is w at).heap) moved stays)
-        (λ k y here known.
-        let less : k < length d.locals = slice_get_within d.locals k y here in
-        let low : k < length c.locals = (let z = locals.size in omega (arith, less, z)) in
-        let x = has_at c.locals k low in
-        cell_reads (carries_local w k) (local_slot k) x.0 y (local_carried w at k (omega (arith, low, long))) (locals.each k x.0 y x.1 here) known (λ q. local_there c k x.0 x.1 q))
-        (λ k y here known.
-        let less : k < length d.stack = slice_get_within d.stack k y here in
-        let low : k < length c.stack = (let z = stack.size in omega (arith, less, z)) in
-        let x = has_at c.stack k low in
-        subst (λ (n : ℕ). Reads new.nodes more y.node (v.value h (number_in part.Stack n k))) (sym stack.size)
-        (cell_reads true (number_in part.Stack (length c.stack) k) x.0 y (stack_carried (length c.stack - 1 - k)) (stack.each k x.0 y x.1 here) known (λ q. stack_there c k x.0 x.1 q)))
+    pub header_reads : HeldAs m o.new o.more d (λ v. v.value h)
+    header_reads v eqs = by_slot d (λ s n. Reads o.new.nodes o.more n (v.value h s))
+        (subst (λ (n : ℕ). Reads o.new.nodes o.more n (v.value h 0)) (sym are.token) (node_reads v eqs 0 o.first.token refl))
+        (subst (λ (n : ℕ). Reads o.new.nodes o.more n (v.value h 3)) (sym are.heap) (node_reads v eqs 3 o.first.heap refl))
+        (cells_read part.Locals o.first.locals d.locals (local_there o.first) are.locals v eqs)
+        (cells_read part.Stack o.first.stack d.stack (stack_there o.first) are.stack v eqs)
 
-pub header_state : (m : Method) (old new : Graph) (names : List Named) (h : ℕ) (w : Writes) (c d : State) (frame : Frame) → IsStateOf old c frame → IsOfSort new d.token T → IsOfSort new d.heap H → AreHeaderCells new names h part.Locals (carries_local w) c.locals d.locals
-    → AreHeaderCells new names h part.Stack (λ j. true) c.stack d.stack → IsStateOf new d frame
-header_state m old new names h w c d frame sorts token heap locals stack = record {
-  stack = header_sorts old new names h part.Stack (λ j. true) c.stack d.stack frame.stack sorts.stack stack;
-  locals = header_sorts old new names h part.Locals (carries_local w) c.locals d.locals frame.locals sorts.locals locals;
-  heap = heap;
-  token = token;
-}
+    -- .. and has the sorts of the header's frame
+    pub header_sorts : IsStateOf o.new d o.at.frame
+    header_sorts = record {
+      stack = cells_sorted part.Stack o.first.stack d.stack (stack_there o.first) are.stack o.at.frame.stack o.at.sorts.stack;
+      locals = cells_sorted part.Locals o.first.locals d.locals (local_there o.first) are.locals o.at.frame.locals o.at.sorts.locals;
+      heap = subst (λ (n : ℕ). IsOfSort o.new n H) (sym are.heap) (node_sort 3 o.first.heap H o.at.sorts.heap (λ first e. some_of o.first.heap first e));
+      token = subst (λ (n : ℕ). IsOfSort o.new n T) (sym are.token) (node_sort 0 o.first.token T o.at.sorts.token (λ first e. some_of o.first.token first e));
+    }
+
+-- ---- the loop is open
+
+module _ (m : Method) (is : IsMethod m) (i : ℕ) (l : Loop) (there : slice_get m.forest.now.loops.items i ≡ Some l) (made : Made) (ahead : HasRun made l.header → ⊥) (o : Opening m made l) (writes : slice_get m.carried.items i ≡ Some o.writes) (loops : Vec Stage Global) (x : Opened)
+    (put : loops.items ≡ slice_set made.loops.items i (stage.Open x)) (token : x.token ≡ o.token) (base : x.base ≡ length o.old.nodes) (all : x.thetas.items ≡ o.thetas) (d : State) (are : IsHeaderState o.nodes o.first d) where
+  abbrev after : Made
+  after = record { start = made.start; names = o.more; blocks = made.blocks; loops = loops }
+
+  pub begun_open : (b : ℕ) → IsOwnLoop m b (Some i) → Begun m o.new after b d
+  begun_open b own =
+      let same : l.header ≡ b = ap (λ (k : Loop). k.header) (some_of l own.0 (sym there ∙ own.1)) ∙ own.2 in
+      subst (λ (h : ℕ). Begun m o.new after h d) same (record {
+        stage = subst (IsStage m o.new after) (sym (header_own m is i l there)) (opened.stage_opened m is i l there made ahead o loops x put token base all);
+        sorts = λ block at. (
+          o.at.frame,
+          subst (λ (block : Block). IsFrameAt m.typed.now.frames block.first o.at.frame) (some_of o.at.block block (sym o.at.block_at ∙ at)) o.at.frame_at,
+          header_sorts m is i l there made o writes d are,
+        );
+        reads = header_reads m is i l there made o writes d are;
+      })

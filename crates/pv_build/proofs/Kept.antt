@@ -1,26 +1,8 @@
 -- What is kept as a graph grows.
 use Rattle.std.proofs.Common.{◌≡◌, ℕ, Bool, true, false, if◌then◌else◌, List, [], ◌∷◌, Option, Some, None, refl, sym, ◌∙◌}
-use Rattle.pv_frame.specs.declared.sort.Sort.{Sort}
-use Rattle.pv_graph.specs.declared.node.OpSort.{OpSort}
-use Rattle.pv_graph.specs.declared.node.Op.{Op}
+use Rattle.pv_build.proofs.Words.{Sort, OpSort, Op, is_depth, alike, eval_sort, shift_sort, sort_over, HasSort, Graph, Exp, Over, NoExp, TreeNode, Named, Reads, IsFlat, Grows, IsOfSort, ReadsOver, ReadsMaybe, names_stand, Cell, IsCellOf, Part, Source, Given, HasNodeOf, GivesAt, Gives, HasNodeFor, ReadsAt, FoldsTo, CellsGive, CellsFold, AreCellsOf}
 use Rattle.pv_graph.specs.declared.node.Op.TheVariants as op
-use Rattle.pv_graph.specs.Ops.{is_depth, alike, eval_sort, shift_sort, sort_over, HasSort}
-use Rattle.pv_graph.specs.Graphs.{Graph}
-use Rattle.pv_equations.specs.Exp.{Exp, Over, NoExp}
-use Rattle.pv_decide.specs.declared.tree.TreeNode.{TreeNode}
 use Rattle.pv_decide.specs.declared.tree.TreeNode.TheVariants as node
-use Rattle.pv_terms.specs.declared.names.Named.{Named}
-use Rattle.pv_terms.specs.Reads.{Reads}
-use Rattle.pv_terms.specs.Terms.{IsFlat, Grows, IsOfSort, ReadsOver}
-use Rattle.pv_terms.specs.Fold.{ReadsMaybe}
-use Rattle.pv_terms.proofs.Cited.{names_stand}
-use Rattle.pv_block.specs.declared.held.Cell.{Cell}
-use Rattle.pv_block.specs.Ran.{IsCellOf}
-use Rattle.pv_build.specs.declared.slot.Part.{Part}
-use Rattle.pv_build.specs.declared.source.Source.{Source}
-use Rattle.pv_build.specs.declared.source.Given.{Given}
-use Rattle.pv_build.specs.Sources.{HasNodeOf, GivesAt, Gives, HasNodeFor, ReadsAt, FoldsTo}
-use Rattle.pv_build.specs.States.{CellsGive, CellsFold, AreCellsOf}
 use Rattle.pv_build.proofs.Persisting as on
 use Rattle.pv_build.proofs.Persisting.{Persists, grown}
 

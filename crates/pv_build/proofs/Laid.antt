@@ -1,24 +1,8 @@
 -- What `laid_out` and `convert` give, from what the layers below give.
 use Rattle.std.proofs.Common.{ℕ, List, Option, Err, inr, sym, subst}
-use Rattle.pv_class.specs.declared.file.ClassFile.{ClassFile}
+use Rattle.pv_build.proofs.Words.{ClassFile, Refused, Program, Frame, IsAccepted, AreNeeded, Block, Answers, Forest, Graph, IsShaped, needed_agree, MeetsShape, IsLaidOut, IsRoutine, IsBuilt, Structures, IsRootOf, Converts}
 use Rattle.pv_class.specs.declared.file.Method.{Method}
-use Rattle.pv_frame.specs.declared.cause.Refused.{Refused}
 use Rattle.pv_frame.specs.declared.cause.Refused.TheVariants as refused
-use Rattle.pv_frame.specs.declared.program.Program.{Program}
-use Rattle.pv_frame.specs.declared.frame.Frame.{Frame}
-use Rattle.pv_frame.specs.Causes.{IsAccepted}
-use Rattle.pv_live.specs.Needed.{AreNeeded}
-use Rattle.pv_flow.specs.declared.block.Block.{Block}
-use Rattle.pv_flow.specs.Answers.{Answers}
-use Rattle.pv_loops.specs.declared.forest.Forest.{Forest}
-use Rattle.pv_graph.specs.Graphs.{Graph}
-use Rattle.pv_runs.specs.Methods.{IsShaped}
-use Rattle.pv_live.proofs.Cited.{needed_agree}
-use Rattle.pv_build.specs.Structure.{MeetsShape, IsLaidOut}
-use Rattle.pv_build.specs.Routine.{IsRoutine}
-use Rattle.pv_build.specs.Unfolded.{IsBuilt}
-use Rattle.pv_build.specs.Reasons.{Structures}
-use Rattle.pv_build.specs.Conversion.{IsRootOf, Converts}
 
 -- too many blocks
 pub too_many_blocks : (p : Program) (e : Refused) → Answers p (Err e) → Structures p (Err e)

@@ -1,40 +1,13 @@
 -- What exits to a block, and ends, have for each slot.
-use Rattle.std.proofs.Common.{◌≡◌, ℕ, zero, suc, ◌-◌, ◌<◌, Bool, List, [], ◌∷◌, length, Option, Some, None, slice_get, ◌⊎◌, inl, inr, ⊎_elim, refl, sym, ap, ◌∙◌, subst, arith, if◌then◌else◌}
-use Rattle.std.specs.List.{AllZip}
-use Rattle.std.proofs.lemmas.Bool.Decides.{eqb_tells}
-use Rattle.std.proofs.lemmas.Option.{slice_get_within}
-use Rattle.pv_value.specs.declared.descriptor.JType.{JType}
+use Rattle.std.proofs.Common.{◌≡◌, ℕ, suc, ◌-◌, ◌<◌, Bool, List, [], ◌∷◌, length, Option, Some, None, slice_get, ◌⊎◌, inl, inr, ⊎_elim, refl, sym, ap, ◌∙◌, subst, arith, if◌then◌else◌}
+use Rattle.pv_build.proofs.Words.{eqb_tells, slice_get_within, JType, Sort, Frame, IsFrameAt, HasFloatlessResult, some_of, Block, F, T, H, Graph, To, dest_of, IsOfSort, local_slot, stack_slot, number_at, numbered_dest, Cell, State, Leaving, Goes, Returns, Throws, op_sort, IsCellOf, node_of_cell, local_node, stack_node, slot_of, slot_at, dest_at, FitsSort, FitsFrame, IsSortedExit, result_sort, Program, Part, number_in, HasNodeOf, IsKnown, default_sort}
 use Rattle.pv_value.specs.declared.descriptor.JType.TheVariants as jtype
-use Rattle.pv_frame.specs.declared.sort.Sort.{Sort}
-use Rattle.pv_frame.specs.declared.sort.Sort.TheVariants as sort
-use Rattle.pv_frame.specs.declared.frame.Frame.{Frame}
-use Rattle.pv_frame.specs.Frames.{IsFrameAt}
-use Rattle.pv_frame.specs.Actions.{HasFloatlessResult}
-use Rattle.pv_frame.proofs.Cited.{some_of}
 use Rattle.pv_flow.specs.declared.block.Exit as kinds
 use Rattle.pv_flow.specs.declared.block.Exit.TheVariants as exit
-use Rattle.pv_flow.specs.declared.block.Block.{Block}
-use Rattle.pv_graph.specs.declared.node.OpSort.TheVariants.{F, T, H}
-use Rattle.pv_graph.specs.Graphs.{Graph}
-use Rattle.pv_equations.specs.Flow.{To}
-use Rattle.pv_decide.specs.Sites.{dest_of}
-use Rattle.pv_terms.specs.Terms.{IsOfSort}
-use Rattle.pv_runs.specs.Held.{local_slot, stack_slot}
-use Rattle.pv_runs.specs.Blocks.{number_at, numbered_dest}
-use Rattle.pv_block.specs.declared.held.Cell.{Cell}
-use Rattle.pv_block.specs.declared.ran.State.{State}
-use Rattle.pv_block.specs.declared.ran.Leaving.{Leaving}
-use Rattle.pv_block.specs.declared.ran.Leaving.TheVariants.{Goes, Returns, Throws}
-use Rattle.pv_block.specs.Sorted.{op_sort}
-use Rattle.pv_block.specs.Ran.{IsCellOf, known_by, node_of_cell, local_node, stack_node, slot_of, slot_at, dest_at, FitsSort, FitsFrame, IsSortedExit, result_sort}
-use Rattle.pv_frame.specs.declared.program.Program.{Program}
-use Rattle.pv_build.specs.declared.slot.Part.{Part}
 use Rattle.pv_build.specs.declared.slot.Part.TheVariants as part
-use Rattle.pv_build.specs.Slots.{number_in}
-use Rattle.pv_build.specs.Sources.{HasNodeOf}
-use Rattle.pv_build.specs.States.{IsKnown}
-use Rattle.pv_build.specs.Ends.{default_sort}
 use Rattle.pv_build.proofs.Slotted.{turn_local, turn_stack, local_some, stack_some}
+use Rattle.pv_build.proofs.Lists.{zip_at, zip_long}
+use Rattle.pv_build.proofs.Cells.{node_known}
 
 -- ---- the block to which an exit goes
 
@@ -72,30 +45,9 @@ goes_into g p frames blocks n b f (Throws e) at there leads sorted = absurd (cc)
 
 -- ---- its slots
 
-known_node : (c : Cell) → IsKnown c.sort → node_of_cell c ≡ Some c.node
-known_node c known = go c.sort refl
-  where
-    go : (t : Sort) → c.sort ≡ t → node_of_cell c ≡ Some c.node
-    go sort.Int e = ap (λ (t : Sort). known_by t c.node) e
-    go sort.Long e = ap (λ (t : Sort). known_by t c.node) e
-    go sort.Ref e = ap (λ (t : Sort). known_by t c.node) e
-    go sort.Unknown e = absurd (known e)
-
-zip_at : {A B : Type 0} → (R : A → B → Type 0) (xs : List A) (ys : List B) (i : ℕ) (y : B) → AllZip R xs ys → slice_get ys i ≡ Some y → (x : A) × (slice_get xs i ≡ Some x) × R x y
-zip_at R xs [] i y all e = absurd (cc)
-zip_at R [] (z ∷ ys) i y all e = absurd all
-zip_at {A} {B} R (x ∷ xs) (z ∷ ys) zero y all e = let Q : B → Type 0 = λ w. R x w in (x, refl, subst Q (some_of z y e) all.0)
-zip_at R (x ∷ xs) (z ∷ ys) (suc i) y all e = zip_at R xs ys i y all.1 e
-
-pub zip_length : {A B : Type 0} → (R : A → B → Type 0) (xs : List A) (ys : List B) → AllZip R xs ys → length xs ≡ length ys
-zip_length R [] [] all = refl
-zip_length R [] (y ∷ ys) all = absurd all
-zip_length R (x ∷ xs) [] all = absurd all
-zip_length R (x ∷ xs) (y ∷ ys) all = ap suc (zip_length R xs ys all.1)
-
 -- a cell that fits a sort that is known
 cell_node : (g : Graph) (c : Cell) (t : Sort) → IsKnown t → FitsSort g c t → HasNodeOf g (node_of_cell c) (op_sort t)
-cell_node g c t known (inl same, is) = (c.node, known_node c (λ e. known (sym same ∙ e)), subst (λ (t : Sort). IsOfSort g c.node (op_sort t)) same is)
+cell_node g c t known (inl same, is) = (c.node, node_known c (λ e. known (sym same ∙ e)), subst (λ (t : Sort). IsOfSort g c.node (op_sort t)) same is)
 cell_node g c t known (inr un, is) = absurd (known un)
 
 module _ (g : Graph) (c : State) (f : Frame) (fits : FitsFrame g c f) where
@@ -110,7 +62,7 @@ module _ (g : Graph) (c : State) (f : Frame) (fits : FitsFrame g c f) where
       let z = zip_at (IsCellOf g) c.stack f.stack i t fits.stack at in
       let h = cell_node g z.0 t known (inl z.2.0, z.2.1) in
       let low : i < length f.stack = slice_get_within f.stack i t at in
-      let long : length c.stack ≡ length f.stack = zip_length (IsCellOf g) c.stack f.stack fits.stack in
+      let long : length c.stack ≡ length f.stack = zip_long (IsCellOf g) c.stack f.stack fits.stack in
       let j : ℕ = length f.stack - 1 - i in
       (h.0, turn_stack (local_node c.locals) (stack_node c.stack) j ∙ stack_some c.stack i j z.0 (omega arith) z.1 ∙ h.1, h.2)
 

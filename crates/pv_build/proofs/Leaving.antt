@@ -1,30 +1,20 @@
 -- Whether a loop is left, from what is given for its tree.
 use Rattle.std.proofs.Common.{◌≡◌, ℕ, List, None, Some, slice_get, ap, ◌∙◌, subst}
-use Rattle.pv_loops.specs.declared.forest.Loop.{Loop}
-use Rattle.pv_graph.specs.Graphs.{Graph}
-use Rattle.pv_equations.specs.Equations.{Values, AreEquations, tree_of, Leaving}
+use Rattle.pv_build.proofs.Words.{Loop, Graph, Values, AreEquations, tree_of, Named, AreNames, depths, names_stand, extends_stand, Given, Method, FoldsTo, FoldsToOne, Made, IsMethod, flow_in, loops_at, IsStage, GrowsIn, IsGivenFor}
+use Rattle.pv_equations.specs.Equations.{Leaving}
 use Rattle.pv_decide.specs.declared.tree.Target.TheVariants as target
-use Rattle.pv_terms.specs.declared.names.Named.{Named}
-use Rattle.pv_terms.specs.Reads.{AreNames}
-use Rattle.pv_terms.specs.Laws.{depths}
-use Rattle.pv_terms.proofs.Cited.{names_stand, extends_stand}
-use Rattle.pv_build.specs.declared.source.Given.{Given}
-use Rattle.pv_build.specs.declared.method.Method.{Method}
-use Rattle.pv_build.specs.Sources.{FoldsTo, FoldsToOne}
-use Rattle.pv_build.specs.declared.method.Made.{Made}
-use Rattle.pv_build.specs.Stages.{IsMethod, flow_in, loops_at, IsStage, GrowsIn}
-use Rattle.pv_build.specs.Giving.{IsGivenFor}
 use Rattle.pv_build.proofs.GivenFor.{folds_left}
 use Rattle.pv_build.proofs.Trees.{ending_tree}
-use Rattle.pv_build.proofs.Looped.{solution, own_around, region_is, loops_same}
+use Rattle.pv_build.proofs.Looped.{loops_same}
+use Rattle.pv_build.proofs.Around.{solution, header_own, loops_own}
 
 module _ (m : Method) (is : IsMethod m) (i : ℕ) (l : Loop) (there : slice_get m.forest.now.loops.items i ≡ Some l) (g : Graph) (names : List Named) (are : AreNames (depths (flow_in m)) g.nodes names) (left : Given) (given : IsGivenFor m g names (Some i) target.Leave left) where
   pub ending_folds : (v : Values) → AreEquations (flow_in m) v → FoldsTo g.nodes names left 0 None (Some (v.ending l.header))
   ending_folds v eqs =
       let folds = folds_left m g names (Some i) left given (loops_same m is i l there) v eqs are in
       let tree : tree_of (flow_in m) v (loops_at m (Some i)) Leaving 0 ≡ Some (v.ending l.header) =
-      ap (λ (A : List ℕ). tree_of (flow_in m) v A Leaving 0) (region_is m is i l there)
-      ∙ ending_tree m.typed.now.program m.typed.now.frames m.flow.now.blocks m.forest.now is.routine v eqs l.header (loops_at m l.parent) (own_around m is i l there) in
+      ap (λ (A : List ℕ). tree_of (flow_in m) v A Leaving 0) (loops_own m is i l there)
+      ∙ ending_tree m.typed.now.program m.typed.now.frames m.flow.now.blocks m.forest.now is.routine v eqs l.header (loops_at m l.parent) (header_own m is i l there) in
       subst (FoldsTo g.nodes names left 0 None) tree folds
 
   pub ending_some : FoldsToOne g.nodes left 0 None

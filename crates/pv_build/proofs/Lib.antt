@@ -1,50 +1,62 @@
+-- words and lists
+pub mod Words
 pub mod Lists
-pub mod Slotted
-pub mod Plain
+-- layout: which methods are structured, the loops around their blocks, and an order of the blocks
 pub mod Structures
 pub mod Laid
-pub mod Persisting
-pub mod Staged
-pub mod Kept
-pub mod Folding
-pub mod Stating
-pub mod Started
-pub mod Beginning
-pub mod Leading
-pub mod Defaults
-pub mod Rooting
-pub mod GivenFor
-pub mod Frames
 pub mod Trees
 pub mod Headers
-pub mod Flowing
+pub mod Around
 pub mod Turns
-pub mod Restaged
-pub mod Outwards
-pub mod Blocks
-pub mod Entered
-pub mod Finished
-pub mod Numbers
+-- what each loop carries
+pub mod Plain
 pub mod Storing
 pub mod Writing
 pub mod Uniting
-pub mod Looped
+pub mod Carries
+-- what is made so far stays as the graph grows
+pub mod Persisting
+pub mod Staged
+pub mod Kept
+pub mod Runs
+-- slots, by their numbers and cells
+pub mod Numbers
+pub mod Slotted
+pub mod Cells
+-- the tree of a region, and what is given for its nodes out of closed loops
+pub mod Flowing
+pub mod Regions
+pub mod Climbing
 pub mod Outgoing
+pub mod Sourced
+pub mod GivenFor
+-- a block is entered: what the method is given, or the fold of a tree for each slot
+pub mod Started
+pub mod Beginning
+pub mod Folding
+pub mod Stating
+pub mod Leading
+pub mod Defaults
+pub mod Frames
+pub mod Entered
+-- a loop is opened where its header is entered
+pub mod Begun
+pub mod Opened
+pub mod Headed
+-- a block is run, and the next one comes
+pub mod Restaged
+pub mod Blocks
+pub mod Outwards
+-- a loop is closed after its last block
+pub mod Looped
 pub mod Cycles
 pub mod Ties
 pub mod Closed
-pub mod Leaving
 pub mod Loops
+pub mod Leaving
 pub mod Shut
-pub mod Carries
-pub mod Regions
-pub mod Climbing
-pub mod Runs
-pub mod Sourced
-pub mod Begun
-pub mod Cells
-pub mod Opened
-pub mod Headed
-pub mod LoopOpened
-pub mod Around
+-- the root is over the folds of the ends
+pub mod Rooting
+pub mod Finished
+-- what other crates cite
 pub mod Cited

@@ -1,27 +1,14 @@
 -- The open loop whose thetas are tied, where nodes were added before.
 use Rattle.std.proofs.Common.{◌≡◌, ℕ, ◌<◌, ◌≤◌, List, [], length, Some, slice_get, inl, refl, sym, subst, arith}
-use Rattle.pv_loops.specs.declared.forest.Loop.{Loop}
-use Rattle.pv_graph.proofs.Cited.{found}
-use Rattle.pv_graph.specs.Walks.{In}
-use Rattle.pv_graph.specs.Graphs.{Graph}
+use Rattle.pv_build.proofs.Words.{Loop, found, In, Graph, T, Grows, HasItsSort, ReadsOver, grows_by_then, Given, Method, Made, Opened, Theta, IsMethod, loops_at, IsStage, IsBeyond, GrowsIn, KeepsFirst, IsGivenFor, closing_of, Closing, MayTieAll, AreTied, IsOpenAt, TiesLoop}
 use Rattle.pv_graph.specs.declared.node.Op.TheVariants as op
-use Rattle.pv_graph.specs.declared.node.OpSort.TheVariants.{T}
 use Rattle.pv_decide.specs.declared.tree.Target.TheVariants as target
-use Rattle.pv_terms.specs.Terms.{Grows, HasItsSort, ReadsOver}
-use Rattle.pv_terms.proofs.Cited.{grows_by_then}
-use Rattle.pv_build.specs.declared.source.Given.{Given}
-use Rattle.pv_build.specs.declared.method.Method.{Method}
-use Rattle.pv_build.specs.declared.method.Made.{Made}
-use Rattle.pv_build.specs.declared.method.Opened.{Opened}
-use Rattle.pv_build.specs.declared.method.Theta.{Theta}
-use Rattle.pv_build.specs.Stages.{IsMethod, loops_at, IsStage, IsBeyond, GrowsIn, KeepsFirst}
-use Rattle.pv_build.specs.Giving.{IsGivenFor}
-use Rattle.pv_build.specs.Closings.{closing_of, Closing, MayTieAll, AreTied, IsOpenAt, TiesLoop}
 use Rattle.pv_build.proofs.Persisting.{grown}
 use Rattle.pv_build.proofs.Kept.{has_no_kids, read_no_kids}
 use Rattle.pv_build.proofs.GivenFor.{given_on}
 use Rattle.pv_build.proofs.Staged.{flat_beyond, first_kept, first_then, stage_grown}
-use Rattle.pv_build.proofs.Looped.{region_is, deep}
+use Rattle.pv_build.proofs.Looped.{deep}
+use Rattle.pv_build.proofs.Around.{loops_own}
 use Rattle.pv_build.proofs.Ties.{tied_first}
 use Rattle.pv_build.proofs.Closed.{base_after, may_tie_all}
 
@@ -38,7 +25,7 @@ module _ (m : Method) (is : IsMethod m) (g mid : Graph) (made : Made) (i : ℕ) 
   -- it is open
   pub opened_there : (o : Opened) × IsOpenAt made i o
   opened_there =
-      let own : In (loops_at m (Some i)) loop_here.0.header = subst (λ (A : List ℕ). In A loop_here.0.header) (sym (region_is m is i loop_here.0 loop_here.1)) (inl refl) in
+      let own : In (loops_at m (Some i)) loop_here.0.header = subst (λ (A : List ℕ). In A loop_here.0.header) (sym (loops_own m is i loop_here.0 loop_here.1)) (inl refl) in
       stage_is.opens i loop_here.0 loop_here.1 own
 
 -- the thetas of the loop are tied, where `again` was given and `never` was added

@@ -1,85 +1,65 @@
 -- Where a loop is opened.
-use Rattle.std.proofs.Common.{◌≡◌, ℕ, zero, suc, ◌+◌, ◌<◌, ◌≤◌, List, [], ◌∷◌, ◌++◌, length, length-append, Option, Some, None, slice_get, slice_set, ◌⊎◌, inl, inr, ⊎_elim, refl, sym, ap, ◌∙◌, subst, arith}
-use Rattle.std.specs.Prelude.{IsTrue}
-use Rattle.std.specs.List.{Contains}
-use Rattle.std.proofs.lemmas.Bool.{cases_eq}
-use Rattle.std.proofs.lemmas.Bool.Decides.{nat_tests}
-use Rattle.std.proofs.lemmas.Option.{slice_get_within}
-use Rattle.pv_frame.specs.declared.frame.Frame.{Frame}
-use Rattle.pv_flow.specs.declared.block.Block.{Block}
-use Rattle.pv_frame.specs.Frames.{IsFrameAt}
-use Rattle.pv_frame.proofs.Cited.{some_of}
-use Rattle.pv_loops.specs.declared.forest.Loop.{Loop}
-use Rattle.pv_graph.specs.declared.node.Op.{Op}
+use Rattle.std.proofs.Common.{◌≡◌, ℕ, suc, ◌<◌, ◌≤◌, Bool, true, false, if◌then◌else◌, List, [], ◌∷◌, length, Option, Some, None, slice_get, slice_set, ◌⊎◌, inl, inr, ⊎_elim, refl, sym, ap, ◌∙◌, subst, arith}
+use Rattle.pv_build.proofs.Words.{found, set_same, set_other, set_length, IsTrue, Contains, cases_eq, nat_tests, slice_get_within, Vec, Global, Frame, Block, IsFrameAt, some_of, Loop, OpSort, T, H, is_depth, node_of, In, Graph, Exp, Flow, first_kid, Named, named, Reads, IsOfSort, IsUnnamed, depths, IsUnfinishedName, extends_stand, sorted_within, State, slot_of, IsStateOf, op_sort, Method, Made, Theta, Opened, Closed, Stage, Head, Writes, Slot, number, HasSlot, flow_in, loops_at, IsMethod, HasRun, HasBase, StandsAs, IsThetaOf, IsOpened, IsAt, IsStage, HeldAs, carried_at, AreFirstKids, Begins, IsBegun, HasTheta, AreBegun}
 use Rattle.pv_graph.specs.declared.node.Op.TheVariants as op
-use Rattle.pv_graph.specs.declared.node.OpSort.{OpSort}
-use Rattle.pv_graph.specs.declared.node.OpSort.TheVariants.{T, H}
-use Rattle.pv_graph.specs.Ops.{is_depth}
-use Rattle.pv_graph.specs.Nodes.{node_of}
-use Rattle.pv_graph.specs.Walks.{In}
-use Rattle.pv_graph.specs.Graphs.{Graph}
-use Rattle.pv_equations.specs.Exp.{Exp}
-use Rattle.pv_equations.specs.Flow.{Flow}
-use Rattle.pv_equations.specs.Equations.{Values, AreEquations, first_kid, unit_exp}
-use Rattle.pv_terms.specs.declared.names.Named.{Named}
-use Rattle.pv_terms.specs.Reads.{named, Reads}
-use Rattle.pv_terms.specs.Terms.{IsOfSort, IsUnnamed}
-use Rattle.pv_terms.specs.Laws.{depths, IsUnfinishedName, IsTiedName}
-use Rattle.pv_terms.proofs.Cited.{extends_stand, sorted_within}
-use Rattle.pv_block.specs.declared.ran.State.{State}
-use Rattle.pv_block.specs.declared.ran.Ran.{Ran}
-use Rattle.pv_block.specs.Ran.{slot_of, IsStateOf}
-use Rattle.pv_build.specs.declared.method.Method.{Method}
-use Rattle.pv_build.specs.declared.method.Made.{Made}
-use Rattle.pv_build.specs.declared.method.Theta.{Theta}
-use Rattle.pv_build.specs.declared.method.Opened.{Opened}
-use Rattle.pv_build.specs.declared.method.Closed.{Closed}
-use Rattle.pv_build.specs.declared.method.Stage.{Stage}
 use Rattle.pv_build.specs.declared.method.Stage.TheVariants as stage
-use Rattle.pv_build.specs.declared.opening.Head.{Head}
-use Rattle.pv_build.specs.declared.slot.Slot.{Slot}
 use Rattle.pv_build.specs.declared.slot.Slot.TheVariants as slot
-use Rattle.pv_build.specs.Slots.{number}
-use Rattle.pv_block.specs.Sorted.{op_sort}
-use Rattle.pv_build.specs.States.{HasSlot}
-use Rattle.pv_build.specs.Stages.{flow_in, loops_at, IsMethod, HasRun, IsInside, HasBase, IsThetaOf, IsOpened, IsAt, IsStage}
-use Rattle.pv_build.specs.Opening.{HeldAs}
-use Rattle.pv_build.specs.Openings.{AreOnce, Begins, IsBegun, IsBegunName}
 use Rattle.pv_build.proofs.Trees as trees
-use Rattle.pv_build.proofs.Headers.{around_home, up_own, header_home, one_loop, depth_is, header_low}
-use Rattle.pv_build.proofs.Persisting.{Persists, sort_on, reads_on, stands_on, closed_on, done_on}
-use Rattle.pv_build.proofs.Staged.{as_long, old_node}
-use Rattle.pv_build.proofs.Cells.{has_at, set_at, set_apart, length_set, sorted_slot, local_slot_sort, stack_slot_sort}
+use Rattle.pv_build.proofs.Headers.{one_loop, depth_is, header_low}
+use Rattle.pv_build.proofs.Around.{parent_at, header_own, deep_at}
+use Rattle.pv_build.proofs.Persisting.{Persists, sort_on, reads_on, tied_on, opened_on, closed_on, done_on}
+use Rattle.pv_build.proofs.Staged.{as_long, old_node, theta_inside}
+use Rattle.pv_build.proofs.Cells.{sorted_slot, local_slot_sort, stack_slot_sort}
 
--- ---- lists of headers
-
-split_in : (xs : List ℕ) (k : ℕ) → In xs k → (G : List ℕ) × (B : List ℕ) × (xs ≡ G ++ k ∷ B)
-split_in [] k i = absurd i
-split_in (x ∷ xs) k (inl e) = ([], xs, ap (λ (y : ℕ). y ∷ xs) e)
-split_in (x ∷ xs) k (inr i) = let z = split_in xs k i in (x ∷ z.0, z.1, ap (λ (y : List ℕ). x ∷ y) z.2)
-
-pub depth_fits : (d : ℕ) → 1 ≤ d → d ≤ 16 → IsTrue (is_depth d)
+depth_fits : (d : ℕ) → 1 ≤ d → d ≤ 16 → IsTrue (is_depth d)
 depth_fits d low high = grind (arith, nat_tests)
 
--- a theta of a depth is inside each loop of that depth or less
-theta_of : (d e : ℕ) → op.Theta d ≡ op.Theta e → d ≡ e
-theta_of d e is = cc
+-- ---- first kids
 
-pub theta_inside : (d c : ℕ) (o : Op) → c ≤ d → o ≡ op.Theta d → IsInside c o
-theta_inside d c o le is e = (
-  (λ at. let z : d ≡ e = theta_of d e (sym is ∙ at) in omega (arith, le, z)),
-  (λ at. absurd (let z : op.Theta d ≡ op.Eval e = sym is ∙ at in cc)),
-  (λ at. absurd (let z : op.Theta d ≡ op.Pass e = sym is ∙ at in cc)),
-  (λ at. absurd (let z : op.Theta d ≡ op.Shift e = sym is ∙ at in cc)),
-)
+pub kid_is : (w : Writes) (c : State) (kids : List (Option ℕ)) → AreFirstKids w c kids → (s n : ℕ) → slice_get kids s ≡ Some (Some n) → (carried_at w s ≡ true) × (slot_of c s ≡ Some n)
+kid_is w c kids firsts s n at = go (carried_at w s) refl
+  where
+    go : (b : Bool) → carried_at w s ≡ b → (carried_at w s ≡ true) × (slot_of c s ≡ Some n)
+    go true e = (e, sym (firsts.each s (Some n) at ∙ ap (λ (b : Bool). if b then slot_of c s else None) e))
+    go false e = absurd (let z : Some n ≡ None = firsts.each s (Some n) at ∙ ap (λ (b : Bool). if b then slot_of c s else None) e in cc)
 
--- the slot of this number where the loop is entered; the token begins as unit
-abbrev pub first_of : ℕ → State → ℕ → Option ℕ
-first_of unit c zero = Some unit
-first_of unit c (suc s) = slot_of c (suc s)
+pub kid_none : (w : Writes) (c : State) (kids : List (Option ℕ)) → AreFirstKids w c kids → (s n : ℕ) → slice_get kids s ≡ Some None → slot_of c s ≡ Some n → carried_at w s ≡ false
+kid_none w c kids firsts s n at own = go (carried_at w s) refl
+  where
+    go : (b : Bool) → carried_at w s ≡ b → carried_at w s ≡ false
+    go true e = absurd (let z : None ≡ Some n = firsts.each s None at ∙ ap (λ (b : Bool). if b then slot_of c s else None) e ∙ own in cc)
+    go false e = e
 
-abbrev pub IsFirstKid : ℕ → State → ℕ → ℕ → Type 0
-IsFirstKid unit c s n = first_of unit c s ≡ Some n
+-- ---- where the header begins
+
+pub record FirstFrame (m : Method) (g : Graph) (b : ℕ) (c : State) : Type 0 where
+  pub block : Block
+  pub block_at : slice_get m.flow.now.blocks b ≡ Some block
+  pub frame : Frame
+  pub frame_at : IsFrameAt m.typed.now.frames block.first frame
+  pub sorts : IsStateOf g c frame
+
+abbrev pub head_of : Loop → Head
+head_of l = record { header = l.header; depth = l.depth }
+
+-- a loop while it is opened: what it is entered with, where `first` has unit as its token, and the thetas that were begun
+pub record Opening (m : Method) (made : Made) (l : Loop) : Type 0 where
+  pub old : Graph
+  pub stage : IsStage m old made (loops_at m l.parent)
+  pub first : State
+  pub at : FirstFrame m old l.header first
+  pub reads : HeldAs m old made.names first (λ v. first_kid v l.header)
+  pub token : ℕ
+  pub token_sort : IsOfSort old token T
+  pub enters : StandsAs m old made.names token (λ v. v.entering l.header 0)
+  pub writes : Writes
+  pub kids : List (Option ℕ)
+  pub firsts : AreFirstKids writes first kids
+  pub new : Graph
+  pub more : List Named
+  pub thetas : List Theta
+  pub nodes : List (Option ℕ)
+  pub begun : AreBegun (head_of l) kids old made.names new more thetas nodes
 
 -- ---- a loop
 
@@ -93,13 +73,10 @@ module _ (m : Method) (is : IsMethod m) (i : ℕ) (l : Loop) (there : slice_get 
   abbrev f : Flow
   f = flow_in m
 
-  pub here : loops_at m (Some i) ≡ h ∷ R
-  here = up_own m.typed.now.program m.typed.now.frames m.flow.now.blocks m.forest.now is.routine i l there
+  around_own : f.around h ≡ h ∷ R
+  around_own = header_own m is i l there
 
-  pub around_own : f.around h ≡ h ∷ R
-  around_own = around_home m.typed.now.program m.typed.now.frames m.flow.now.blocks m.forest.now is.routine h (Some i) (header_home m.typed.now.program m.typed.now.frames m.flow.now.blocks m.forest.now is.routine i l there) ∙ here
-
-  pub depth_own : l.depth ≡ depths f h
+  depth_own : l.depth ≡ depths f h
   depth_own = depth_is m.typed.now.program m.typed.now.frames m.flow.now.blocks m.forest.now is.routine i l there
 
   pub low_own : h < length m.flow.now.blocks
@@ -113,22 +90,17 @@ module _ (m : Method) (is : IsMethod m) (i : ℕ) (l : Loop) (there : slice_get 
       depth_fits l.depth (omega (arith, z)) (omega (arith, w, d))
 
   -- the loops around it have lower depths
-  pub outer_depth : (k : ℕ) → In R k → depths f k ≤ length R
-  outer_depth k among =
-      let z = split_in R k among in
-      let e = ((trees.ranked m.typed.now.program m.typed.now.frames m.flow.now.blocks m.forest.now is.routine).shape.headers h k (h ∷ z.0) z.1 (around_own ∙ ap (λ (A : List ℕ). h ∷ A) z.2)).0 in
-      let long : length R ≡ length z.0 + length (k ∷ z.1) = ap length z.2 ∙ length-append z.0 (k ∷ z.1) in
-      let short : depths f k ≡ length (k ∷ z.1) = ap length e in
-      omega (arith, long, short)
+  outer_depth : (k : ℕ) → In R k → depths f k ≤ length R
+  outer_depth = deep_at m is l.parent (parent_at m is i l there)
 
-  pub own_depth : depths f h ≡ suc (length R)
+  own_depth : depths f h ≡ suc (length R)
   own_depth = ap length around_own
 
   -- and it isn't one of them
-  pub not_outer : In R h → ⊥
+  not_outer : In R h → ⊥
   not_outer among = let z = outer_depth h among in let w = own_depth in omega (arith, z, w)
 
-  pub same_place : (j : ℕ) (k : Loop) → slice_get m.forest.now.loops.items j ≡ Some k → k.header ≡ h → j ≡ i
+  same_place : (j : ℕ) (k : Loop) → slice_get m.forest.now.loops.items j ≡ Some k → k.header ≡ h → j ≡ i
   same_place j k at e = one_loop m.typed.now.program m.typed.now.frames m.flow.now.blocks m.forest.now is.routine j i k l at there e
 
   -- a loop whose header hasn't run and that isn't open is ahead
@@ -143,7 +115,7 @@ module _ (m : Method) (is : IsMethod m) (i : ℕ) (l : Loop) (there : slice_get 
 
     pub is_ahead : slice_get made.loops.items i ≡ Some stage.Ahead
     is_ahead =
-        let x = has_at made.loops.items i listed in
+        let x = found made.loops.items i listed in
         x.1 ∙ ap (λ (s : Stage). Some s) (ahead_is x.0 (st.loops i l x.0 there x.1))
 
     pub no_names : (s : ℕ) → IsUnnamed made.names h s
@@ -151,219 +123,192 @@ module _ (m : Method) (is : IsMethod m) (i : ℕ) (l : Loop) (there : slice_get 
 
   -- ---- while it is opened
 
-  module _ (old : Graph) (made : Made) (st : IsStage m old made R) (next : HasRun made h → ⊥) (unit : ℕ) (unit_sort : IsOfSort old unit T) (unit_reads : (names : List Named) → Reads old.nodes names unit unit_exp) (c : State)
-      (held : HeldAs m old made.names c (λ v. v.entering h)) (block : Block) (block_at : slice_get m.flow.now.blocks h ≡ Some block) (frame : Frame) (frame_at : IsFrameAt m.typed.now.frames block.first frame) (sorts : IsStateOf old c frame) (new : Graph) (more : List Named) (thetas : List Theta)
-      (begins : Begins (record { header = l.header; depth = l.depth }) (IsFirstKid unit c) old made.names [] new more thetas) where
-    abbrev head : Head
-    head = record { header = l.header; depth = l.depth }
+  module _ (made : Made) (next : HasRun made h → ⊥) (o : Opening m made l) where
+    begins : Begins (head_of l) o.kids o.old made.names o.new o.more o.thetas
+    begins = o.begun.begins
 
-    pub persists : Persists old new
-    persists = record { stand = extends_stand old new begins.extends; sorts = begins.extends.sorts }
+    persists : Persists o.old o.new
+    persists = record { stand = extends_stand o.old o.new begins.extends; sorts = begins.extends.sorts }
 
     -- what stands for something stays
-    stands : (n : ℕ) (e : Exp) → Reads old.nodes made.names n e → Reads new.nodes more n e
-    stands n e r = reads_on old new persists made.names more begins.within n e r
+    stands : (n : ℕ) (e : Exp) → Reads o.old.nodes made.names n e → Reads o.new.nodes o.more n e
+    stands n e r = reads_on o.old o.new persists made.names o.more begins.within n e r
 
-    -- the first kid of each theta
-    kid_reads : (v : Values) → AreEquations f v → (s n : ℕ) → IsFirstKid unit c s n → Reads new.nodes more n (first_kid v h s)
-    kid_reads v eqs zero n e = subst (λ (n : ℕ). Reads new.nodes more n unit_exp) (some_of unit n e) (stands unit unit_exp (unit_reads made.names))
-    kid_reads v eqs (suc s) n e = stands n (v.entering h (suc s)) (held v eqs (suc s) n e)
+    -- the first kid of each theta is a node of its slot where the loop is entered
+    kid_at : (s n : ℕ) → slice_get o.kids s ≡ Some (Some n) → slot_of o.first s ≡ Some n
+    kid_at s n at = (kid_is o.writes o.first o.kids o.firsts s n at).1
 
-    kid_before : (s n : ℕ) → IsFirstKid unit c s n → n < length old.nodes
-    kid_before zero n e = subst (λ (n : ℕ). n < length old.nodes) (some_of unit n e) (sorted_within old unit T st.well.graph unit_sort)
-    kid_before (suc s) n e = let z = sorted_slot old c frame sorts (suc s) n e in sorted_within old n z.0 st.well.graph z.1
+    kid_before : (s n : ℕ) → slice_get o.kids s ≡ Some (Some n) → n < length o.old.nodes
+    kid_before s n at = let z = sorted_slot o.old o.first o.at.frame o.at.sorts s n (kid_at s n at) in sorted_within o.old n z.0 o.stage.well.graph z.1
 
     -- a node has one sort
-    sort_once : (n : ℕ) (t u : OpSort) → IsOfSort old n u → IsOfSort new n t → t ≡ u
+    sort_once : (n : ℕ) (t u : OpSort) → IsOfSort o.old n u → IsOfSort o.new n t → t ≡ u
     sort_once n t u is at = some_of t u (sym at ∙ begins.extends.sorts n u is)
 
     -- the frame knows the sort of a slot that has a theta
-    kid_slot : (s : Slot) (n : ℕ) (t : OpSort) → IsFirstKid unit c (number s) n → IsOfSort new n t → HasSlot frame s t
-    kid_slot slot.Token n t e at = sort_once n t T (subst (λ (n : ℕ). IsOfSort old n T) (some_of unit n e) unit_sort) at
+    kid_slot : (s : Slot) (n : ℕ) (t : OpSort) → slot_of o.first (number s) ≡ Some n → IsOfSort o.new n t → HasSlot o.at.frame s t
+    kid_slot slot.Token n t e at = sort_once n t T (subst (λ (n : ℕ). IsOfSort o.old n T) (some_of o.first.token n e) o.at.sorts.token) at
     kid_slot slot.Fault n t e at = absurd (cc)
     kid_slot slot.Result n t e at = absurd (cc)
-    kid_slot slot.Heap n t e at = sort_once n t H (subst (λ (n : ℕ). IsOfSort old n H) (some_of c.heap n e) sorts.heap) at
+    kid_slot slot.Heap n t e at = sort_once n t H (subst (λ (n : ℕ). IsOfSort o.old n H) (some_of o.first.heap n e) o.at.sorts.heap) at
     kid_slot (slot.Local k) n t e at =
-        let x = local_slot_sort old c frame sorts k n e in
+        let x = local_slot_sort o.old o.first o.at.frame o.at.sorts k n e in
         (x.0, x.1, x.2, sort_once n t (op_sort x.0) x.3 at)
     kid_slot (slot.Place j) n t e at =
-        let x = stack_slot_sort old c frame sorts j n e in
+        let x = stack_slot_sort o.old o.first o.at.frame o.at.sorts j n e in
         (x.0, x.1, x.2, x.3, x.4, sort_once n t (op_sort x.1) x.5 at)
 
-    theta_is : (x : Theta) → IsBegun head (IsFirstKid unit c) (length old.nodes) new more x → IsThetaOf m new more h (length old.nodes) x
+    theta_is : (x : Theta) → IsBegun (head_of l) o.kids (length o.old.nodes) o.new o.more x → IsThetaOf m o.new o.more h (length o.old.nodes) x
     theta_is x b = record {
       is = b.is;
-      first = λ v eqs. kid_reads v eqs (number x.slot) x.first b.meant;
-      sort = (b.sort.0, b.sort.1, b.sort.2, (block, frame, block_at, frame_at, kid_slot x.slot x.first b.sort.0 b.meant b.sort.2));
+      first = λ v eqs. stands x.first (first_kid v h (number x.slot)) (o.reads v eqs (number x.slot) x.first (kid_at (number x.slot) x.first b.meant));
+      sort = (b.sort.0, b.sort.1, b.sort.2, (o.at.block, o.at.frame, o.at.block_at, o.at.frame_at, kid_slot x.slot x.first b.sort.0 (kid_at (number x.slot) x.first b.meant) b.sort.2));
       untied = b.unfinished ∙ ap (λ (d : ℕ). Some (node_of (op.Theta d) [])) depth_own;
       before = kid_before (number x.slot) x.first b.meant;
       after = b.after;
     }
 
     -- no old node leads to a theta that was begun
-    base_own : HasBase new (length old.nodes) (depths f h)
+    base_own : HasBase o.new (length o.old.nodes) (depths f h)
     base_own = record {
-      low = as_long old new begins.extends;
+      low = as_long o.old o.new begins.extends;
       shut = λ n k x at less among.
-          let e : old.base ≡ length old.nodes = st.well.graph.open_ st.open_ in
-          let z : k < old.base = st.well.graph.early n k x (old_node old new begins.extends n x less at) (omega (arith, e, less)) among in
+          let e : o.old.base ≡ length o.old.nodes = o.stage.well.graph.open_ o.stage.open_ in
+          let z : k < o.old.base = o.stage.well.graph.early n k x (old_node o.old o.new begins.extends n x less at) (omega (arith, e, less)) among in
           omega (arith, e, z);
       inside = λ n x at ge. ⊎_elim
-          (λ was. absurd (let z = slice_get_within old.nodes n x was in omega (arith, z, ge)))
+          (λ was. absurd (let z = slice_get_within o.old.nodes n x was in omega (arith, z, ge)))
           (λ is. theta_inside l.depth (depths f h) x.op (let z = depth_own in omega (arith, z)) is)
           (begins.added n x at);
     }
 
-    base_on : (base d : ℕ) → d ≤ l.depth → HasBase old base d → HasBase new base d
+    base_on : (base d : ℕ) → d ≤ l.depth → HasBase o.old base d → HasBase o.new base d
     base_on base d le b = record {
-      low = let z = as_long old new begins.extends in let w = b.low in omega (arith, z, w);
-      shut = λ n k x at less among. b.shut n k x (old_node old new begins.extends n x (let w = b.low in omega (arith, w, less)) at) less among;
+      low = let z = as_long o.old o.new begins.extends in let w = b.low in omega (arith, z, w);
+      shut = λ n k x at less among. b.shut n k x (old_node o.old o.new begins.extends n x (let w = b.low in omega (arith, w, less)) at) less among;
       inside = λ n x at ge. ⊎_elim (λ was. b.inside n x was ge) (λ is. theta_inside l.depth d x.op le is) (begins.added n x at);
     }
 
-    none_once : AreOnce (length old.nodes) []
-    none_once = record {
-      low = λ i x at. absurd (let none : List Theta = [] in let z : slice_get none i ≡ Some x = at in cc);
-      once = λ i j x y at to same. absurd (let none : List Theta = [] in let z : slice_get none i ≡ Some x = at in cc);
-    }
+    -- each name of its header is a theta
+    own_theta : (s n : ℕ) → In o.more (named h s n) → HasTheta o.thetas s n
+    own_theta s n among = ⊎_elim (λ was. absurd (no_names o.old made next o.stage s n was)) (λ b. o.begun.nodes_are.some s n b.1) (o.begun.nodes_are.only h s n among)
+
+    -- it begins with the token
+    token_theta : (n : ℕ) × (slice_get o.nodes 0 ≡ Some (Some n))
+    token_theta =
+        let low : 0 < length o.nodes = (let z = o.firsts.above 0 o.first.token refl in let w = o.begun.size in omega (arith, z, w)) in
+        let x = found o.nodes 0 low in
+        go x.0 x.1
+      where
+        go : (k : Option ℕ) → slice_get o.nodes 0 ≡ Some k → (n : ℕ) × (slice_get o.nodes 0 ≡ Some (Some n))
+        go (Some n) at = (n, at)
+        go None at = absurd (let z : true ≡ false = kid_none o.writes o.first o.kids o.firsts 0 o.first.token (o.begun.nodes_are.none 0 at) refl in cc)
 
     -- the loop is open
-    pub is_opened : (token : ℕ) → In more (named h 0 token) → (o : Opened) → o.token ≡ c.token → o.base ≡ length old.nodes → o.thetas.items ≡ thetas → IsOpened m new more h o
-    is_opened first among o token base all = record {
-      token = subst (λ (n : ℕ). IsOfSort new n T) (sym token) (sort_on old new persists c.token T sorts.token);
-      enters = λ v eqs. subst (λ (n : ℕ). Reads new.nodes more n (v.entering h 0)) (sym token) (stands c.token (v.entering h 0) (held v eqs 0 c.token refl));
-      has_base = subst (λ (n : ℕ). HasBase new n (depths f h)) (sym base) base_own;
-      thetas = λ j x at. subst (λ (n : ℕ). IsThetaOf m new more h n x) (sym base) (⊎_elim
-          (λ none. absurd (let z : None ≡ Some x = none in cc))
-          (λ b. theta_is x b)
-          (begins.each j x (sym (ap (λ (xs : List Theta). slice_get xs j) all) ∙ at)));
-      all = λ s n among. ⊎_elim
-          (λ was. absurd (no_names old made next st s n was))
-          (λ b. (b.place, b.theta_, ap (λ (xs : List Theta). slice_get xs b.place) all ∙ b.at, b.slot_is, b.node_is))
-          (begins.only h s n among);
-      once = λ j k x y at to same. (begins.once none_once).once j k x y (sym (ap (λ (xs : List Theta). slice_get xs j) all) ∙ at) (sym (ap (λ (xs : List Theta). slice_get xs k) all) ∙ to) same;
-      some = ⊎_elim
-          (λ was. absurd (no_names old made next st 0 first was))
-          (λ b. (b.place, b.theta_, ap (λ (xs : List Theta). slice_get xs b.place) all ∙ b.at))
-          (begins.only h 0 first among);
+    is_opened : (x : Opened) → x.token ≡ o.token → x.base ≡ length o.old.nodes → x.thetas.items ≡ o.thetas → IsOpened m o.new o.more h x
+    is_opened x token base all = record {
+      token = subst (λ (n : ℕ). IsOfSort o.new n T) (sym token) (sort_on o.old o.new persists o.token T o.token_sort);
+      enters = λ v eqs. subst (λ (n : ℕ). Reads o.new.nodes o.more n (v.entering h 0)) (sym token) (stands o.token (v.entering h 0) (o.enters v eqs));
+      has_base = subst (λ (n : ℕ). HasBase o.new n (depths f h)) (sym base) base_own;
+      thetas = λ j y at. subst (λ (n : ℕ). IsThetaOf m o.new o.more h n y) (sym base) (theta_is y (begins.each j y (there_in j y at)));
+      all = λ s n among. let z = own_theta s n among in (z.0, z.1, ap (λ (xs : List Theta). slice_get xs z.0) all ∙ z.2, z.3, z.4);
+      once = λ j k y z at to same. begins.once j k y z (there_in j y at) (there_in k z to) same;
+      some = let z = o.begun.nodes_are.some 0 token_theta.0 token_theta.1 in (z.0, z.1, ap (λ (xs : List Theta). slice_get xs z.0) all ∙ z.2);
     }
+      where
+        there_in : (j : ℕ) (y : Theta) → slice_get x.thetas.items j ≡ Some y → slice_get o.thetas j ≡ Some y
+        there_in j y at = sym (ap (λ (xs : List Theta). slice_get xs j) all) ∙ at
 
     -- ---- other loops
 
-    theta_on : (k base : ℕ) (x : Theta) → IsThetaOf m old made.names k base x → IsThetaOf m new more k base x
-    theta_on k base x is = record {
-      is = begins.within k (number x.slot) x.node is.is;
-      first = stands_on old new persists made.names more begins.within m x.first (λ v. first_kid v k (number x.slot)) is.first;
-      sort = (is.sort.0, sort_on old new persists x.node is.sort.0 is.sort.1, sort_on old new persists x.first is.sort.0 is.sort.2, is.sort.3);
-      untied = begins.extends.nodes x.node _ is.untied;
-      before = is.before;
-      after = is.after;
-    }
-
     -- the names of another loop are as they were
-    other_name : (k s n : ℕ) → (k ≡ h → ⊥) → In more (named k s n) → In made.names (named k s n)
-    other_name k s n other among = ⊎_elim (λ was. was) (λ b. absurd (other b.header)) (begins.only k s n among)
+    other_name : (k s n : ℕ) → (k ≡ h → ⊥) → In o.more (named k s n) → In made.names (named k s n)
+    other_name k s n other among = ⊎_elim (λ was. was) (λ b. absurd (other b.0)) (o.begun.nodes_are.only k s n among)
 
-    opened_on : (k : ℕ) (o : Opened) → (k ≡ h → ⊥) → In R k → IsOpened m old made.names k o → IsOpened m new more k o
-    opened_on k o other among is = record {
-      token = sort_on old new persists o.token T is.token;
-      enters = stands_on old new persists made.names more begins.within m o.token (λ v. v.entering k 0) is.enters;
-      has_base = base_on o.base (depths f k) (let z = outer_depth k among in let w = own_depth in let d = depth_own in omega (arith, z, w, d)) is.has_base;
-      thetas = λ j x at. theta_on k o.base x (is.thetas j x at);
-      all = λ s n name. is.all s n (other_name k s n other name);
-      once = is.once;
-      some = is.some;
-    }
+    other_opened : (k : ℕ) (x : Opened) → (k ≡ h → ⊥) → In R k → IsOpened m o.old made.names k x → IsOpened m o.new o.more k x
+    other_opened k x other among is =
+        opened_on o.old o.new persists made.names o.more begins.within m k (λ s n y name at. begins.extends.nodes n y at) (λ s n name. other_name k s n other name) x
+        (base_on x.base (depths f k) (let z = outer_depth k among in let w = own_depth in let d = depth_own in omega (arith, z, w, d))) is
 
-    tied_on : (k s n : ℕ) (v : Values) → IsTiedName f v old.nodes made.names k s n → IsTiedName f v new.nodes more k s n
-    tied_on k s n v is = record {
-      first = is.first;
-      second = is.second;
-      theta_ = begins.extends.nodes n _ is.theta_;
-      enters = stands is.first _ is.enters;
-      begins = stands is.second _ is.begins;
-    }
-
-    begun_unfinished : (k s n : ℕ) → IsBegunName head (IsFirstKid unit c) (length old.nodes) new more thetas k s n → IsUnfinishedName f new.nodes k n
-    begun_unfinished k s n b =
-        let deep : l.depth ≡ depths f k = depth_own ∙ ap (depths f) (sym b.header) in
-        ap (slice_get new.nodes) (sym b.node_is) ∙ b.begun.unfinished ∙ ap (λ (d : ℕ). Some (node_of (op.Theta d) [])) deep
+    -- a name of its header is a theta without kids
+    own_unfinished : (s n : ℕ) → HasTheta o.thetas s n → IsUnfinishedName f o.new.nodes h n × (length o.old.nodes ≤ n)
+    own_unfinished s n x =
+        let b = begins.each x.0 x.1 x.2 in (
+          ap (slice_get o.new.nodes) (sym x.4) ∙ b.unfinished ∙ ap (λ (d : ℕ). Some (node_of (op.Theta d) [])) depth_own,
+          (let z = b.after in let y = x.4 in omega (arith, z, y)),
+        )
 
     -- ---- all that is made
 
-    module _ (after : Made) (names_are : more ≡ after.names) (blocks_are : after.blocks.items ≡ made.blocks.items) (start_is : after.start ≡ made.start) (o : Opened) (loops_are : after.loops.items ≡ slice_set made.loops.items i (stage.Open o)) (own : IsOpened m new more h o) (low : made.start ≤ o.base) where
-      ran : (b : ℕ) → HasRun after b → HasRun made b
-      ran b r = (r.0, ap (λ (bs : List (Option Ran)). slice_get bs b) (sym blocks_are) ∙ r.1)
+    module _ (loops : Vec Stage Global) (x : Opened) (put : loops.items ≡ slice_set made.loops.items i (stage.Open x)) (token : x.token ≡ o.token) (base : x.base ≡ length o.old.nodes) (all : x.thetas.items ≡ o.thetas) where
+      abbrev after : Made
+      after = record { start = made.start; names = o.more; blocks = made.blocks; loops = loops }
 
-      runs : (b : ℕ) → HasRun made b → HasRun after b
-      runs b r = (r.0, ap (λ (bs : List (Option Ran)). slice_get bs b) blocks_are ∙ r.1)
+      st : IsStage m o.old made R
+      st = o.stage
 
       -- the stage of this loop
-      stage_own : slice_get after.loops.items i ≡ Some (stage.Open o)
-      stage_own = ap (λ (xs : List Stage). slice_get xs i) loops_are ∙ set_at made.loops.items i (stage.Open o) (listed old made next st)
+      stage_own : slice_get loops.items i ≡ Some (stage.Open x)
+      stage_own = ap (λ (xs : List Stage). slice_get xs i) put ∙ set_same made.loops.items i (stage.Open x) (listed o.old made next st)
 
       -- .. of another
-      stage_other : (j : ℕ) → (i ≡ j → ⊥) → slice_get after.loops.items j ≡ slice_get made.loops.items j
-      stage_other j ne = ap (λ (xs : List Stage). slice_get xs j) loops_are ∙ set_apart made.loops.items i j (stage.Open o) ne
+      stage_other : (j : ℕ) → (j ≡ i → ⊥) → slice_get loops.items j ≡ slice_get made.loops.items j
+      stage_other j ne = ap (λ (xs : List Stage). slice_get xs j) put ∙ set_other made.loops.items i (stage.Open x) j ne
 
-      at_on : (k : ℕ) (x : Stage) → (k ≡ h → ⊥) → IsAt m old made R k x → IsAt m new (record after { names = more }) (h ∷ R) k x
-      at_on k stage.Ahead other is = λ s n among. is s n (other_name k s n other among)
-      at_on k (stage.Open x) other is = (inr is.0, opened_on k x other is.0 is.1, (let z = is.2 in omega (arith, z, start_is)))
-      at_on k (stage.Closed x) other is = (closed_on old new persists made.names more begins.within m k x is.0, λ b less among. runs b (is.1 b less among))
+      at_other : (k : ℕ) (y : Stage) → (k ≡ h → ⊥) → IsAt m o.old made R k y → IsAt m o.new after (h ∷ R) k y
+      at_other k stage.Ahead other is = λ s n among. is s n (other_name k s n other among)
+      at_other k (stage.Open y) other is = (inr is.0, other_opened k y other is.0 is.1, is.2)
+      at_other k (stage.Closed y) other is = (closed_on o.old o.new persists made.names o.more begins.within m k y is.0, is.1)
 
-      at_own : (k : ℕ) (x : Stage) → k ≡ h → x ≡ stage.Open o → IsAt m new (record after { names = more }) (h ∷ R) k x
-      at_own k x same open_ =
-          subst (λ (x : Stage). IsAt m new (record after { names = more }) (h ∷ R) k x) (sym open_)
-          (inl (sym same), subst (λ (k : ℕ). IsOpened m new more k o) (sym same) own, (omega (arith, low, start_is)))
+      at_own : (k : ℕ) (y : Stage) → k ≡ h → y ≡ stage.Open x → IsAt m o.new after (h ∷ R) k y
+      at_own k y same open_ =
+          subst (λ (y : Stage). IsAt m o.new after (h ∷ R) k y) (sym open_)
+          (inl (sym same), subst (λ (k : ℕ). IsOpened m o.new o.more k x) (sym same) (is_opened x token base all), (let z = st.low in omega (arith, z, base)))
 
-      loop_at : (j : ℕ) (k : Loop) (x : Stage) → slice_get m.forest.now.loops.items j ≡ Some k → slice_get after.loops.items j ≡ Some x → IsAt m new (record after { names = more }) (h ∷ R) k.header x
-      loop_at j k x at now = ⊎_elim
-          (λ e. at_own k.header x (ap (λ (k : Loop). k.header) (some_of k l (sym at ∙ ap (slice_get m.forest.now.loops.items) e ∙ there))) (some_of x (stage.Open o) (sym now ∙ ap (slice_get after.loops.items) e ∙ stage_own)))
-          (λ ne. at_on k.header x (λ e. ne (same_place j k at e)) (st.loops j k x at (sym (stage_other j (λ e. ne (sym e))) ∙ now)))
+      loop_at : (j : ℕ) (k : Loop) (y : Stage) → slice_get m.forest.now.loops.items j ≡ Some k → slice_get loops.items j ≡ Some y → IsAt m o.new after (h ∷ R) k.header y
+      loop_at j k y at now = ⊎_elim
+          (λ e. at_own k.header y (ap (λ (k : Loop). k.header) (some_of k l (sym at ∙ ap (slice_get m.forest.now.loops.items) e ∙ there))) (some_of y (stage.Open x) (sym now ∙ ap (slice_get loops.items) e ∙ stage_own)))
+          (λ ne. at_other k.header y (λ e. ne (same_place j k at e)) (st.loops j k y at (sym (stage_other j ne) ∙ now)))
           (cases_eq j i)
 
-      opens_at : (j : ℕ) (k : Loop) → slice_get m.forest.now.loops.items j ≡ Some k → In (h ∷ R) k.header → (x : Opened) × (slice_get after.loops.items j ≡ Some (stage.Open x))
+      opens_at : (j : ℕ) (k : Loop) → slice_get m.forest.now.loops.items j ≡ Some k → In (h ∷ R) k.header → (y : Opened) × (slice_get loops.items j ≡ Some (stage.Open y))
       opens_at j k at among = ⊎_elim
-          (λ e. (o, ap (slice_get after.loops.items) e ∙ stage_own))
-          (λ ne. ⊎_elim
-          (λ own. absurd (ne (same_place j k at (sym own))))
-          (λ outer. let z = st.opens j k at outer in (z.0, stage_other j (λ e. ne (sym e)) ∙ z.1))
-          among)
-          (cases_eq j i)
+          (λ own. (x, ap (slice_get loops.items) (same_place j k at (sym own)) ∙ stage_own))
+          (λ outer. let z = st.opens j k at outer in (z.0, stage_other j (λ e. absurd (let w : Some stage.Ahead ≡ Some (stage.Open z.0) = sym (is_ahead o.old made next st) ∙ ap (slice_get made.loops.items) (sym e) ∙ z.1 in cc)) ∙ z.1))
+          among
 
-      passed_at : (b j : ℕ) (k : Loop) → HasRun after b → slice_get m.forest.now.loops.items j ≡ Some k → Contains (f.around b) k.header → In (h ∷ R) k.header ⊎ ((x : Closed) × (slice_get after.loops.items j ≡ Some (stage.Closed x)))
+      passed_at : (b j : ℕ) (k : Loop) → HasRun made b → slice_get m.forest.now.loops.items j ≡ Some k → Contains (f.around b) k.header → In (h ∷ R) k.header ⊎ ((y : Closed) × (slice_get loops.items j ≡ Some (stage.Closed y)))
       passed_at b j k r at among = ⊎_elim
           (λ outer. inl (inr outer))
-          (λ z. inr (z.0, stage_other j (λ e. absurd (let w : Some stage.Ahead ≡ Some (stage.Closed z.0) = sym (is_ahead old made next st) ∙ ap (slice_get made.loops.items) e ∙ z.1 in cc)) ∙ z.1))
-          (st.passed b j k (ran b r) at among)
+          (λ z. inr (z.0, stage_other j (λ e. absurd (let w : Some stage.Ahead ≡ Some (stage.Closed z.0) = sym (is_ahead o.old made next st) ∙ ap (slice_get made.loops.items) (sym e) ∙ z.1 in cc)) ∙ z.1))
+          (st.passed b j k r at among)
 
-      stage_more : IsStage m new (record after { names = more }) (h ∷ R)
-      stage_more = record {
+      -- WHERE THE LOOP IS OPEN
+      pub stage_opened : IsStage m o.new after (h ∷ R)
+      stage_opened = record {
         well = begins.made st.well;
         open_ = begins.open_ ∙ st.open_;
-        low = let z = as_long old new begins.extends in let w = st.low in omega (arith, z, w, start_is);
+        low = let z = as_long o.old o.new begins.extends in let w = st.low in omega (arith, z, w);
         left = λ n open_. ⊎_elim
-            (λ was. ⊎_elim (λ less. inl (omega (arith, less, start_is))) (λ z. inr (z.0, z.1, begins.within z.0 z.1 n z.2, inr z.3)) (st.left n was))
+            (λ was. ⊎_elim (λ less. inl less) (λ z. inr (z.0, z.1, begins.within z.0 z.1 n z.2, inr z.3)) (st.left n was))
             (λ z. inr (h, z.0, z.1, inl refl))
             (begins.left n open_);
         names = begins.stay (depths f) (sym depth_own) st.names;
         later = λ k s n among. ⊎_elim
-            (λ was. let z = st.later k s n was in omega (arith, z, start_is))
-            (λ b. let z = b.begun.after in let y = b.node_is in let w = st.low in omega (arith, z, y, w, start_is))
-            (begins.only k s n among);
+            (λ was. st.later k s n was)
+            (λ b. let z = (own_unfinished s n (o.begun.nodes_are.some s n b.1)).1 in let w = st.low in omega (arith, z, w))
+            (o.begun.nodes_are.only k s n among);
         each_name = λ k s n among. ⊎_elim
-            (λ was. ⊎_elim (λ open_. inl (inr open_.0, begins.extends.nodes n _ open_.1)) (λ tied. inr (λ v eqs. tied_on k s n v (tied v eqs))) (st.each_name k s n was))
-            (λ b. inl (inl (sym b.header), begun_unfinished k s n b))
-            (begins.only k s n among);
-        blocks_size = ap length blocks_are ∙ st.blocks_size;
-        blocks = λ b r at. done_on old new persists m made.names more begins.within b r (st.blocks b r (ap (λ (bs : List (Option Ran)). slice_get bs b) (sym blocks_are) ∙ at));
-        loops_size = ap length loops_are ∙ length_set made.loops.items i (stage.Open o) ∙ st.loops_size;
+            (λ was. ⊎_elim
+            (λ open_. inl (inr open_.0, begins.extends.nodes n _ open_.1))
+            (λ tied. inr (λ v eqs. tied_on o.old o.new persists made.names o.more begins.within f v k s n (begins.extends.nodes n) (tied v eqs)))
+            (st.each_name k s n was))
+            (λ b. inl (inl (sym b.0), subst (λ (k : ℕ). IsUnfinishedName f o.new.nodes k n) (sym b.0) (own_unfinished s n (o.begun.nodes_are.some s n b.1)).0))
+            (o.begun.nodes_are.only k s n among);
+        blocks_size = st.blocks_size;
+        blocks = λ b r at. done_on o.old o.new persists m made.names o.more begins.within b r (st.blocks b r at);
+        loops_size = ap length put ∙ set_length made.loops.items i (stage.Open x) ∙ st.loops_size;
         loops = loop_at;
         opens = opens_at;
         passed = passed_at;
       }
-
-      -- WHERE THE LOOP IS OPEN
-      pub stage_opened : IsStage m new after (loops_at m (Some i))
-      stage_opened =
-          subst (IsStage m new after) (sym here) (subst (λ (ns : List Named). IsStage m new (record after { names = ns }) (h ∷ R)) names_are stage_more)

@@ -1,38 +1,10 @@
 -- What is taken out of loops, as the graph is made.
 use Rattle.std.proofs.Common.{◌≡◌, ◌≢◌, ℕ, zero, suc, ◌+◌, ◌<◌, Bool, true, false, List, [], ◌∷◌, ◌++◌, length, get_or, drop, Option, Some, None, slice_get, inl, inr, ⊎_elim, refl, sym, ap, ◌∙◌, subst, arith, ◌==◌, if◌then◌else◌}
-use Rattle.std.specs.List.{AllZip, AllByRecursion}
-use Rattle.std.proofs.Math.Seq.{drop-cons}
-use Rattle.std.proofs.lemmas.Option.{slice_get-get_or, same_Some}
-use Rattle.pv_frame.specs.declared.sort.Sort.{Sort}
+use Rattle.pv_build.proofs.Words.{AllZip, AllByRecursion, drop-cons, slice_get-get_or, same_Some, Sort, Frame, Program, some_of, Op, Graph, Exp, Flow, Values, token_out, Named, Reads, IsFlatOrOut, GrowsBy, IsOfSort, KeepsSort, ReadsOut, ReadsTokenOut, depths, IsTiedName, Making, names_stand, grows_wider, by_turns, Cell, State, Ending, Leaving, Goes, Returns, Throws, op_sort, IsSortedCell, AreSorted, known_by, node_of_cell, local_node, stack_node, slot_of, ending_slot, IsCellOf, FitsSort, FitsFrame, IsSortedExit, Closed, IsBeyond, GrowsIn, out_slots, IsLeft, AreLeft, IsSortedLoop, AreSortedLoops, ReadsOutOf, ReadsOutOfAll, ReadsValueOut, ReadsNodeOut, IsNodeOut, IsTokenOut, IsCellOut, AreCellsOut, IsSortedState, IsStateOut, IsEndOut}
 use Rattle.pv_frame.specs.declared.sort.Sort.TheVariants as sort
-use Rattle.pv_frame.specs.declared.frame.Frame.{Frame}
-use Rattle.pv_frame.specs.declared.program.Program.{Program}
-use Rattle.pv_frame.proofs.Cited.{some_of}
-use Rattle.pv_graph.specs.declared.node.Op.{Op}
 use Rattle.pv_graph.specs.declared.node.OpSort.TheVariants as sorts
-use Rattle.pv_graph.specs.Graphs.{Graph}
-use Rattle.pv_equations.specs.Exp.{Exp}
-use Rattle.pv_equations.specs.Flow.{Flow}
-use Rattle.pv_equations.specs.Equations.{Values, token_out}
-use Rattle.pv_terms.specs.declared.names.Named.{Named}
-use Rattle.pv_terms.specs.Reads.{Reads}
-use Rattle.pv_terms.specs.Terms.{IsFlatOrOut, GrowsBy, IsOfSort, IsValue, KeepsSort, ReadsOut, ReadsTokenOut}
-use Rattle.pv_terms.specs.Laws.{depths, IsTiedName, Making}
-use Rattle.pv_terms.proofs.Cited.{names_stand, grows_wider}
-use Rattle.pv_runs.specs.Held.{by_turns}
-use Rattle.pv_block.specs.declared.held.Cell.{Cell}
-use Rattle.pv_block.specs.declared.ran.State.{State}
-use Rattle.pv_block.specs.declared.ran.Ending.{Ending}
-use Rattle.pv_block.specs.declared.ran.Leaving.{Leaving}
-use Rattle.pv_block.specs.declared.ran.Leaving.TheVariants.{Goes, Returns, Throws}
-use Rattle.pv_block.specs.Sorted.{op_sort, IsSortedCell, AreSorted}
-use Rattle.pv_block.specs.Ran.{known_by, node_of_cell, local_node, stack_node, slot_of, ending_slot, IsCellOf, FitsSort, FitsFrame, IsSortedEnding, IsSortedExit}
-use Rattle.pv_build.specs.declared.method.Closed.{Closed}
-use Rattle.pv_build.specs.Stages.{IsBeyond, GrowsIn}
-use Rattle.pv_build.specs.Taken.{out_slots, IsLeft, AreLeft, IsSortedLoop, AreSortedLoops, ReadsOutOf, ReadsOutOfAll, ReadsValueOut}
-use Rattle.pv_build.specs.Outs.{ReadsNodeOut, IsNodeOut, IsTokenOut, IsCellOut, AreCellsOut, IsSortedState, IsStateOut, IsEndOut}
-use Rattle.pv_build.proofs.Persisting.{Persists, grown, reads_on}
-use Rattle.pv_build.proofs.Lists.{each_push}
+use Rattle.pv_build.proofs.Persisting.{Persists, grown, reads_on, tied_on}
+use Rattle.pv_build.proofs.Lists.{each_push, zip_long, zip_map, all_map}
 
 -- ---- lists
 
@@ -42,18 +14,6 @@ zip_pairs Q [] (y ∷ ys) l each = absurd (omega arith)
 zip_pairs Q (x ∷ xs) [] l each = absurd (omega arith)
 zip_pairs Q (x ∷ xs) (y ∷ ys) l each = (each 0 x y refl refl, zip_pairs Q xs ys (omega arith) (λ i a b p q. each (suc i) a b p q))
 
-zip_long : {A B : Type 0} → (Q : A → B → Type 0) (xs : List A) (ys : List B) → AllZip Q xs ys → length ys ≡ length xs
-zip_long Q [] [] all = refl
-zip_long Q [] (y ∷ ys) all = absurd all
-zip_long Q (x ∷ xs) [] all = absurd all
-zip_long Q (x ∷ xs) (y ∷ ys) all = ap suc (zip_long Q xs ys all.1)
-
-zip_change : {A B : Type 0} → (P Q : A → B → Type 0) → ((a : A) (b : B) → P a b → Q a b) → (xs : List A) (ys : List B) → AllZip P xs ys → AllZip Q xs ys
-zip_change P Q f [] [] all = tt
-zip_change P Q f [] (y ∷ ys) all = absurd all
-zip_change P Q f (x ∷ xs) [] all = absurd all
-zip_change P Q f (x ∷ xs) (y ∷ ys) all = (f x y all.0, zip_change P Q f xs ys all.1)
-
 -- through a list between
 zip_through : {A B C : Type 0} → (P : A → B → Type 0) (Q : A → C → Type 0) (S : B → C → Type 0) → ((a : A) (b : B) (c : C) → P a b → Q a c → S b c) → (xs : List A) (ys : List B) (zs : List C) → AllZip P xs ys → AllZip Q xs zs → AllZip S ys zs
 zip_through P Q S f [] [] [] p q = tt
@@ -62,10 +22,6 @@ zip_through P Q S f [] (y ∷ ys) zs p q = absurd p
 zip_through P Q S f (x ∷ xs) [] zs p q = absurd p
 zip_through P Q S f (x ∷ xs) (y ∷ ys) [] p q = absurd q
 zip_through P Q S f (x ∷ xs) (y ∷ ys) (z ∷ zs) p q = (f x y z p.0 q.0, zip_through P Q S f xs ys zs p.1 q.1)
-
-all_change : {A : Type 0} → (P Q : A → Type 0) → ((a : A) → P a → Q a) → (xs : List A) → AllByRecursion P xs → AllByRecursion Q xs
-all_change P Q f [] all = tt
-all_change P Q f (x ∷ xs) all = (f x all.0, all_change P Q f xs all.1)
 
 zip_all : {A B : Type 0} → (P : A → B → Type 0) (Q : A → Type 0) → ((a : A) (b : B) → P a b → Q a) → (xs : List A) (ys : List B) → AllZip P xs ys → AllByRecursion Q xs
 zip_all P Q f [] [] all = tt
@@ -87,14 +43,8 @@ module _ (P : Op → Type 0) (old new : Graph) (grows : GrowsBy P old new) where
   pub reads_grown : (names : List Named) (n : ℕ) (e : Exp) → Reads old.nodes names n e → Reads new.nodes names n e
   reads_grown names n e r = reads_on old new p names names (λ h s n i. i) n e r
 
-  pub tied_grown : (f : Flow) (v : Values) (names : List Named) (h s n : ℕ) → IsTiedName f v old.nodes names h s n → IsTiedName f v new.nodes names h s n
-  tied_grown f v names h s n is = record {
-    first = is.first;
-    second = is.second;
-    theta_ = grows.extends.nodes n _ is.theta_;
-    enters = reads_grown names is.first _ is.enters;
-    begins = reads_grown names is.second _ is.begins;
-  }
+  tied_grown : (f : Flow) (v : Values) (names : List Named) (h s n : ℕ) → IsTiedName f v old.nodes names h s n → IsTiedName f v new.nodes names h s n
+  tied_grown f v names h s n is = tied_on old new p names names (λ k r j i. i) f v h s n (grows.extends.nodes n) is
 
   pub making_grown : (f : Flow) (v : Values) (names : List Named) (d : ℕ) → Making f v old.nodes names d → Making f v new.nodes names d
   making_grown f v names d m = record {
@@ -121,16 +71,16 @@ module _ (P : Op → Type 0) (old new : Graph) (grows : GrowsBy P old new) where
   }
 
   pub lefts_grown : (f : Flow) (v : Values) (names : List Named) (F : List ℕ) (left : List Closed) → AreLeft f v old.nodes names F left → AreLeft f v new.nodes names F left
-  lefts_grown f v names F left all = zip_change (IsLeft f v old.nodes names) (IsLeft f v new.nodes names) (left_grown f v names) F left all
+  lefts_grown f v names F left all = zip_map (IsLeft f v old.nodes names) (IsLeft f v new.nodes names) (left_grown f v names) F left all
 
   pub loop_grown : (c : Closed) → IsSortedLoop old c → IsSortedLoop new c
   loop_grown c is = record { depth = is.depth; token = grows.extends.sorts c.token _ is.token; ending = grows.extends.sorts c.ending _ is.ending }
 
   pub loops_grown : (left : List Closed) → AreSortedLoops old left → AreSortedLoops new left
-  loops_grown left all = all_change (IsSortedLoop old) (IsSortedLoop new) loop_grown left all
+  loops_grown left all = all_map (IsSortedLoop old) (IsSortedLoop new) loop_grown left all
 
   pub sorted_grown : (cells : List Cell) → AreSorted old cells → AreSorted new cells
-  sorted_grown cells all = all_change (IsSortedCell old) (IsSortedCell new) (λ x at. grows.extends.sorts x.node _ at) cells all
+  sorted_grown cells all = all_map (IsSortedCell old) (IsSortedCell new) (λ x at. grows.extends.sorts x.node _ at) cells all
 
   -- what was taken out is so later on
   module _ (first : Graph) (c : Closed) where
@@ -148,7 +98,7 @@ module _ (P : Op → Type 0) (old new : Graph) (grows : GrowsBy P old new) where
     }
 
     pub cells_later : (xs ys : List Cell) → AreCellsOut first c xs old ys → AreCellsOut first c xs new ys
-    cells_later xs ys all = zip_change (IsCellOut first c old) (IsCellOut first c new) cell_later xs ys all
+    cells_later xs ys all = zip_map (IsCellOut first c old) (IsCellOut first c new) cell_later xs ys all
 
   -- and what is taken out later on was there before
   module _ (c : Closed) (last : Graph) where
@@ -163,7 +113,7 @@ module _ (P : Op → Type 0) (old new : Graph) (grows : GrowsBy P old new) where
     }
 
     pub cells_sooner : (xs ys : List Cell) → AreCellsOut new c xs last ys → AreCellsOut old c xs last ys
-    cells_sooner xs ys all = zip_change (IsCellOut new c last) (IsCellOut old c last) cell_sooner xs ys all
+    cells_sooner xs ys all = zip_map (IsCellOut new c last) (IsCellOut old c last) cell_sooner xs ys all
 
 -- ---- a node, and a cell
 
@@ -174,15 +124,6 @@ pub token_node_out : (old : Graph) (c : Closed) (n : ℕ) (new : Graph) (r : ℕ
 token_node_out old c n new r reads sort = record { reads = λ f v names h e l at. reads f v names h e l.depth l.making.are_names l.enters l.ends at; sort = sort }
 
 -- no value that is held is a root
-pub cell_value : (t : Sort) → op_sort t ≢ sorts.R
-cell_value sort.Int e = absurd (cc)
-cell_value sort.Long e = absurd (cc)
-cell_value sort.Ref e = absurd (cc)
-cell_value sort.Unknown e = absurd (cc)
-
-pub is_value : (g : Graph) (x : Cell) → IsSortedCell g x → IsValue g x.node
-is_value g x at = (op_sort x.sort, at, cell_value x.sort)
-
 pub unknown_out : (g : Graph) (c : Closed) (x : Cell) → x.sort ≡ sort.Unknown → IsCellOut g c g x x
 unknown_out g c x is = record { sort = refl; keeps = λ s at. at; reads = λ known. absurd (known is) }
 
@@ -236,9 +177,6 @@ module _ (old : Graph) (c : Closed) (new : Graph) where
   pub goes_sorted_out : (p : Program) (frames : List (Option Frame)) (place : ℕ) (x y : State) → IsStateOut old c x new y → IsSortedExit old p frames (Goes place x) → IsSortedExit new p frames (Goes place y)
   goes_sorted_out p frames place x y o (f, at, fits) = (f, at, fits_frame x y f o fits)
 
-  pub end_sorted_out : (t : Sort) (x y : Ending) → IsEndOut old c x new y → IsSortedEnding old t x → IsSortedEnding new t y
-  end_sorted_out t x y o s = record { token = o.token.sort; fault = o.fault.sort sorts.F s.fault; result_is = o.result_is.sort (op_sort t) s.result_is; heap = o.heap.sort sorts.H s.heap }
-
   -- ---- slot by slot
 
   -- the slot b is the slot a, taken out
@@ -272,7 +210,7 @@ module _ (old : Graph) (c : Closed) (new : Graph) where
   stack_out [] (y ∷ ys) all j n e = absurd all
   stack_out (x ∷ xs) [] all j n e = absurd all
   stack_out (x ∷ xs) (y ∷ ys) all j n e =
-      let long : length ys ≡ length xs = zip_long (IsCellOut old c new) xs ys all.1 in
+      let long : length ys ≡ length xs = sym (zip_long (IsCellOut old c new) xs ys all.1) in
       let z : SlotOut (if j == length xs then node_of_cell x else stack_node xs j) (if j == length ys then node_of_cell y else stack_node ys j) =
       subst (λ (k : ℕ). SlotOut (if j == length xs then node_of_cell x else stack_node xs j) (if j == k then node_of_cell y else stack_node ys j)) (sym long)
       (pick (j == length xs) (node_of_cell x) (stack_node xs j) (node_of_cell y) (stack_node ys j) (cell_slot x y all.0) (stack_out xs ys all.1 j)) in

@@ -1,32 +1,9 @@
 -- What nodes stand for, and their sorts, as a graph is made.
 use Rattle.std.proofs.Common.{◌≡◌, ℕ, List, [], ◌∷◌, Option, Some, slice_get}
-use Rattle.std.specs.List.{AllZip, AllByRecursion}
-use Rattle.pv_frame.specs.declared.sort.Sort.{Sort}
-use Rattle.pv_frame.specs.declared.frame.Frame.{Frame}
-use Rattle.pv_frame.specs.declared.program.Program.{Program}
-use Rattle.pv_graph.specs.declared.node.Op.{Op}
-use Rattle.pv_graph.specs.declared.node.OpSort.{OpSort}
-use Rattle.pv_graph.specs.Graphs.{Graph}
-use Rattle.pv_equations.specs.Exp.{Exp}
+use Rattle.pv_build.proofs.Words.{Sort, Frame, Program, Op, OpSort, T, Node, In, Graph, Exp, Flow, put, Exit, Chain, Leave, Values, first_kid, depths, IsTiedName, Named, named, Reads, Stand, Within, GrowsBy, Opens, IsOfSort, IsMaybeOf, standing_reads, extends_stand, Cell, State, Ending, Leaving, Goes, Returns, Throws, Ran, Entry, StandsFor, ExitStands, RunsAlong, IsCellOf, FitsSort, IsStateOf, IsSortedEnding, IsSortedExit, IsTest, IsSortedRan, Method, Theta, Opened, Closed, number, flow_in, StandsAs, IsDone, HasBase, IsThetaOf, IsOpened, IsClosed}
 use Rattle.pv_equations.specs.Flow as flow
-use Rattle.pv_equations.specs.Flow.{Part, put, Exit, Chain, Leave}
-use Rattle.pv_equations.specs.Equations.{Values}
-use Rattle.pv_terms.specs.declared.names.Named.{Named}
-use Rattle.pv_terms.specs.Reads.{Reads, Stand, Within}
-use Rattle.pv_terms.specs.Terms.{GrowsBy, Opens, IsOfSort}
-use Rattle.pv_terms.specs.Fold.{IsMaybeOf}
-use Rattle.pv_terms.proofs.Cited.{standing_reads, extends_stand}
-use Rattle.pv_block.specs.declared.held.Cell.{Cell}
-use Rattle.pv_block.specs.declared.ran.State.{State}
-use Rattle.pv_block.specs.declared.ran.Ending.{Ending}
-use Rattle.pv_block.specs.declared.ran.Leaving.{Leaving}
-use Rattle.pv_block.specs.declared.ran.Leaving.TheVariants.{Goes, Returns, Throws}
-use Rattle.pv_block.specs.declared.ran.Ran.{Ran}
-use Rattle.pv_block.specs.Standing.{Entry, StandsFor}
-use Rattle.pv_block.specs.Ran.{ExitStands, RunsAlong, IsCellOf, FitsSort, IsStateOf, IsSortedEnding, IsSortedExit, IsTest, IsSortedRan}
-use Rattle.pv_build.specs.declared.method.Method.{Method}
-use Rattle.pv_build.specs.declared.method.Closed.{Closed}
-use Rattle.pv_build.specs.Stages.{StandsAs, IsDone, IsClosed}
+use Rattle.pv_equations.specs.Flow.{Part}
+use Rattle.pv_build.proofs.Lists.{zip_map, all_map}
 
 -- nodes keep what they stand for, and their sorts
 pub record Persists (old new : Graph) : Type 0 where
@@ -38,16 +15,6 @@ grown P old new g = record { stand = extends_stand old new g.extends; sorts = g.
 
 pub opened : (old new : Graph) (n : ℕ) → Opens old new n → Persists old new
 opened old new n g = record { stand = extends_stand old new g.extends; sorts = g.extends.sorts }
-
-zip_map : {A B : Type 0} → (R S : A → B → Type 0) → ((a : A) (b : B) → R a b → S a b) → (xs : List A) (ys : List B) → AllZip R xs ys → AllZip S xs ys
-zip_map R S f [] [] all = tt
-zip_map R S f [] (y ∷ ys) all = absurd all
-zip_map R S f (x ∷ xs) [] all = absurd all
-zip_map R S f (x ∷ xs) (y ∷ ys) all = (f x y all.0, zip_map R S f xs ys all.1)
-
-all_map : {A : Type 0} → (P Q : A → Type 0) → ((a : A) → P a → Q a) → (xs : List A) → AllByRecursion P xs → AllByRecursion Q xs
-all_map P Q f [] all = tt
-all_map P Q f (x ∷ xs) all = (f x all.0, all_map P Q f xs all.1)
 
 module _ (old new : Graph) (p : Persists old new) where
   pub sort_on : (n : ℕ) (t : OpSort) → IsOfSort old n t → IsOfSort new n t
@@ -74,6 +41,33 @@ module _ (old new : Graph) (p : Persists old new) where
       ending_sort = sort_on c.ending _ is.ending_sort;
       ends = stands_on m c.ending (λ v. v.ending h) is.ends;
     }
+
+    -- a tied theta that stays
+    pub tied_on : (f : Flow) (v : Values) (h s n : ℕ) → ((x : Node) → slice_get old.nodes n ≡ Some x → slice_get new.nodes n ≡ Some x) → IsTiedName f v old.nodes names h s n → IsTiedName f v new.nodes more h s n
+    tied_on f v h s n same is = record { first = is.first; second = is.second; theta_ = same _ is.theta_; enters = reads_on is.first _ is.enters; begins = reads_on is.second _ is.begins }
+
+    -- an open loop whose thetas stay, and that has no more of them
+    pub opened_on : (m : Method) (h : ℕ) → ((s n : ℕ) (x : Node) → In names (named h s n) → slice_get old.nodes n ≡ Some x → slice_get new.nodes n ≡ Some x) → ((s n : ℕ) → In more (named h s n) → In names (named h s n)) → (o : Opened)
+        → (HasBase old o.base (depths (flow_in m) h) → HasBase new o.base (depths (flow_in m) h)) → IsOpened m old names h o → IsOpened m new more h o
+    opened_on m h same only o base is = record {
+      token = sort_on o.token T is.token;
+      enters = stands_on m o.token (λ v. v.entering h 0) is.enters;
+      has_base = base is.has_base;
+      thetas = λ j x at. theta_on x (is.thetas j x at);
+      all = λ s n among. is.all s n (only s n among);
+      once = is.once;
+      some = is.some;
+    }
+      where
+        theta_on : (x : Theta) → IsThetaOf m old names h o.base x → IsThetaOf m new more h o.base x
+        theta_on x t = record {
+          is = within h (number x.slot) x.node t.is;
+          first = stands_on m x.first (λ v. first_kid v h (number x.slot)) t.first;
+          sort = (t.sort.0, sort_on x.node t.sort.0 t.sort.1, sort_on x.first t.sort.0 t.sort.2, t.sort.3);
+          untied = same (number x.slot) x.node _ t.is t.untied;
+          before = t.before;
+          after = t.after;
+        }
 
   -- ---- blocks
 

@@ -1,26 +1,12 @@
 -- The actions of a method's program are what a block asks of them.
 use Rattle.std.proofs.Common.{◌≡◌, ℕ, zero, suc, true, false, List, [], ◌∷◌, Option, Some, None, refl, sym, subst, inl, inr}
-use Rattle.std.specs.Prelude.{◌==◌, option_map, if◌then◌else◌, slice_get}
-use Rattle.std.specs.List.{AllZip, AllByRecursion}
-use Rattle.pv_value.specs.declared.name.Sym.{Sym}
-use Rattle.pv_value.specs.declared.descriptor.JType.{JType}
+use Rattle.pv_build.proofs.Words.{◌==◌, option_map, if◌then◌else◌, slice_get, AllZip, AllByRecursion, Sym, JType, Constant, Insn, Placed, Use, Action, plain_rows, local_rows, branch_rows, field_rows, class_rows, row_of, LoadsConstant, ActsWith, Program, Does, IsProgramOf, ClassFile, some_of, no_some, program_clean, IsFloatlessCall, ArePlain}
 use Rattle.pv_pool.specs.declared.entry.Entry.{Entry}
-use Rattle.pv_pool.specs.declared.constant.Constant.{Constant}
 use Rattle.pv_pool.specs.declared.constant.Constant.TheVariants as constant
-use Rattle.pv_insn.specs.declared.insn.Insn.{Insn}
 use Rattle.pv_insn.specs.declared.insn.Insn.TheVariants as insn
-use Rattle.pv_insn.specs.declared.insn.Placed.{Placed}
-use Rattle.pv_frame.specs.declared.used.Use.{Use}
 use Rattle.pv_frame.specs.declared.used.Use.TheVariants as used
-use Rattle.pv_frame.specs.declared.action.Action.{Action}
-use Rattle.pv_frame.specs.Actions.{plain_rows, local_rows, branch_rows, field_rows, class_rows, row_of, LoadsConstant, ActsWith, Acts}
-use Rattle.pv_frame.specs.declared.program.Program.{Program}
-use Rattle.pv_frame.specs.Programs.{Does, IsProgramOf}
-use Rattle.pv_class.specs.declared.file.ClassFile.{ClassFile}
+use Rattle.pv_frame.specs.Actions.{Acts}
 use Rattle.pv_class.specs.declared.file.Method.{Method}
-use Rattle.pv_frame.proofs.Cited.{some_of, no_some}
-use Rattle.pv_runs.proofs.Cited.{program_clean}
-use Rattle.pv_block.specs.Plain.{IsFloatlessCall, ArePlain}
 
 row_has : {A : Type 0} (P : A → Type 0) (rows : List (ℕ × A)) → AllByRecursion (λ r. P r.1) rows → (opcode : ℕ) (x : A) → row_of rows opcode ≡ Some x → P x
 row_has P [] all opcode x e = no_some x e

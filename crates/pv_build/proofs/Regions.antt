@@ -1,53 +1,15 @@
 -- The loops of a region, and those between a block and the region.
-use Rattle.std.proofs.Common.{◌≡◌, ℕ, zero, suc, ◌+◌, ◌<◌, ◌≤◌, true, List, [], ◌∷◌, ◌++◌, length, length-append, append_assoc, append-nil, map, Option, Some, None, slice_get, inl, inr, ⊎_elim, refl, sym, ap, ◌∙◌, subst, arith}
-use Rattle.std.specs.Prelude.{slice_index}
-use Rattle.std.specs.List.{AllZip, Contains}
-use Rattle.std.proofs.lemmas.Bool.Decides.{nat_tests}
-use Rattle.std.proofs.lemmas.List.Elements.{Contains-append_right}
-use Rattle.pv_frame.proofs.Cited.{some_of}
-use Rattle.pv_loops.specs.declared.forest.Loop.{Loop}
-use Rattle.pv_loops.specs.declared.forest.TheConstants.{MAX_DEPTH}
-use Rattle.pv_graph.specs.Walks.{In}
-use Rattle.pv_graph.specs.Ops.{is_depth}
-use Rattle.pv_graph.specs.Graphs.{Graph}
-use Rattle.pv_equations.specs.Flow.{Flow}
-use Rattle.pv_equations.specs.Equations.{Values, AreEquations}
-use Rattle.pv_decide.specs.Sites.{Inside, loops_of}
-use Rattle.pv_decide.specs.Walks.{inner}
-use Rattle.pv_decide.proofs.Cited.{split_at, under, inner_is}
-use Rattle.pv_runs.specs.Laws.{IsRanked}
-use Rattle.pv_terms.specs.Laws.{depths}
-use Rattle.pv_build.specs.declared.method.Method.{Method}
-use Rattle.pv_build.specs.declared.method.Made.{Made}
-use Rattle.pv_build.specs.declared.method.Closed.{Closed}
-use Rattle.pv_build.specs.Stages.{IsMethod, flow_in, loops_at, loops_around, IsLoopAt, IsClosed, IsStage}
-use Rattle.pv_build.specs.Giving.{scope_at, AreClosedFrom}
-use Rattle.pv_build.specs.Taken.{IsLeft, AreLeft, IsSortedLoop, AreSortedLoops, AreDeeper}
-use Rattle.pv_build.proofs.Flowing as flowing
-use Rattle.pv_build.proofs.Headers.{around_home, up_none, up_own, header_home, one_loop}
-
--- ---- lists
-
-split_in : (xs : List ℕ) (h : ℕ) → In xs h → (G : List ℕ) × (B : List ℕ) × (xs ≡ G ++ h ∷ B)
-split_in [] h i = absurd i
-split_in (x ∷ xs) h (inl e) = ([], xs, ap (λ (y : ℕ). y ∷ xs) e)
-split_in (x ∷ xs) h (inr i) = let z = split_in xs h i in (x ∷ z.0, z.1, ap (λ (ys : List ℕ). x ∷ ys) z.2)
-
-contains_first : (h : ℕ) (B : List ℕ) → Contains (h ∷ B) h
-contains_first h B = (0, omega arith, refl)
+use Rattle.std.proofs.Common.{◌≡◌, ℕ, suc, ◌+◌, ◌<◌, ◌≤◌, true, List, [], ◌∷◌, ◌++◌, length, length-append, append_assoc, append-nil, map, Option, Some, None, slice_get, inl, inr, ⊎_elim, sym, ap, ◌∙◌, subst, arith}
+use Rattle.pv_build.proofs.Words.{slice_index, AllZip, Contains, nat_tests, contains_first, Contains-append_right, Loop, MAX_DEPTH, In, is_depth, Graph, Flow, Values, AreEquations, Inside, inner, split_at, under, inner_is, depths, Method, Made, Closed, IsMethod, flow_in, loops_at, loops_around, IsLoopAt, IsClosed, IsStage, scope_at, AreClosedFrom, IsLeft, AreLeft, IsSortedLoop, AreSortedLoops, AreDeeper}
+use Rattle.pv_decide.specs.declared.aim.Scope.TheVariants as scope
+pub use Rattle.pv_graph.proofs.Cited.{found as loop_there}
+use Rattle.pv_build.proofs.Around as around
+use Rattle.pv_build.proofs.Around.{split_in, scope_is}
+pub use Rattle.pv_build.proofs.Around.{ranks, loops_same, no_loops as none_at, loops_own as own_at, deep_at as region_deep}
+use Rattle.pv_build.proofs.Headers.{one_loop}
 
 pub contains_mid : (G : List ℕ) (h : ℕ) (B : List ℕ) → Contains (G ++ h ∷ B) h
 contains_mid G h B = Contains-append_right G (h ∷ B) h (contains_first h B)
-
-mapped : (loops : List Loop) (i : ℕ) (l : Loop) → slice_get loops i ≡ Some l → slice_index (map (λ (l : Loop). l.header) loops) i ≡ l.header
-mapped [] i l e = absurd (cc)
-mapped (k ∷ loops) zero l e = ap (λ (l : Loop). l.header) (some_of k l e)
-mapped (k ∷ loops) (suc i) l e = mapped loops i l e
-
-pub loop_there : (loops : List Loop) (i : ℕ) → i < length loops → (l : Loop) × (slice_get loops i ≡ Some l)
-loop_there [] i low = absurd (omega arith)
-loop_there (l ∷ loops) zero low = (l, refl)
-loop_there (l ∷ loops) (suc i) low = loop_there loops i (omega arith)
 
 depth_is_one : (d : ℕ) → 0 < d → d ≤ 16 → is_depth d ≡ true
 depth_is_one d low high = grind (arith, nat_tests)
@@ -58,44 +20,23 @@ module _ (m : Method) (is : IsMethod m) where
   abbrev f : Flow
   f = flow_in m
 
-  pub ranks : IsRanked f (length m.flow.now.blocks)
-  ranks = flowing.ranked m.typed.now.program m.typed.now.frames m.flow.now.blocks m.forest.now is.routine
-
   -- the loops around a header of a loop around a block
   pub header_around : (b h : ℕ) (G B : List ℕ) → loops_around m b ≡ G ++ h ∷ B → loops_around m h ≡ h ∷ B
-  header_around b h G B e = (ranks.shape.headers b h G B e).0
-
-  -- the loops from one outwards are those around its header
-  pub around_own : (i : ℕ) (l : Loop) → slice_get m.forest.now.loops.items i ≡ Some l → loops_around m l.header ≡ loops_at m (Some i)
-  around_own i l at =
-      around_home m.typed.now.program m.typed.now.frames m.flow.now.blocks m.forest.now is.routine l.header (Some i)
-      (header_home m.typed.now.program m.typed.now.frames m.flow.now.blocks m.forest.now is.routine i l at)
-
-  pub none_at : loops_at m None ≡ []
-  none_at = up_none m.typed.now.program m.typed.now.frames m.flow.now.blocks m.forest.now is.routine
-
-  pub own_at : (i : ℕ) (l : Loop) → slice_get m.forest.now.loops.items i ≡ Some l → loops_at m (Some i) ≡ l.header ∷ loops_at m l.parent
-  own_at i l at = up_own m.typed.now.program m.typed.now.frames m.flow.now.blocks m.forest.now is.routine i l at
+  header_around b h G B e = ((ranks m is).shape.headers b h G B e).0
 
   pub same_loop : (i j : ℕ) (k l : Loop) → slice_get m.forest.now.loops.items i ≡ Some k → slice_get m.forest.now.loops.items j ≡ Some l → k.header ≡ l.header → i ≡ j
   same_loop = one_loop m.typed.now.program m.typed.now.frames m.flow.now.blocks m.forest.now is.routine
 
-  -- the loops of the region, as walks know them
-  pub loops_same : (at : Option ℕ) → IsLoopAt m at → loops_of f (scope_at m at) ≡ loops_at m at
-  loops_same None low = sym none_at
-  loops_same (Some i) low =
-      let l = loop_there m.forest.now.loops.items i low in
-      ap f.around (mapped m.forest.now.loops.items i l.0 l.1) ∙ around_own i l.0 l.1
-
   -- a block of the region is in its loops
   pub region_split : (at : Option ℕ) → IsLoopAt m at → (b : ℕ) → Inside m.trees.sites.items (scope_at m at) b → (X : List ℕ) × (loops_around m b ≡ X ++ loops_at m at)
-  region_split None low b inside = (loops_around m b, sym (append-nil (loops_around m b)) ∙ ap (λ (R : List ℕ). loops_around m b ++ R) (sym none_at))
+  region_split None low b inside = (loops_around m b, sym (append-nil (loops_around m b)) ∙ ap (λ (R : List ℕ). loops_around m b ++ R) (sym (none_at m is)))
   region_split (Some i) low b (k, here, has) =
       let l = loop_there m.forest.now.loops.items i low in
       let h : ℕ = slice_index (map (λ (l : Loop). l.header) m.forest.now.loops.items) i in
+      let same : h ≡ l.0.header = (let z : scope.Loop h ≡ scope.Loop l.0.header = scope_is m is i l.0 l.1 in cc) in
       let u = under m.flow.now m.forest.now m.trees.sites.items is.trees.sites b k here in
       let s = split_at (loops_around m b) h (subst (λ (xs : List ℕ). Contains xs h) u.2.around has) in
-      let own : h ∷ s.1 ≡ loops_at m (Some i) = sym (header_around b h s.0 s.1 s.2) ∙ ap (loops_around m) (mapped m.forest.now.loops.items i l.0 l.1) ∙ around_own i l.0 l.1 in
+      let own : h ∷ s.1 ≡ loops_at m (Some i) = sym (header_around b h s.0 s.1 s.2) ∙ ap (loops_around m) same ∙ around.header_around m is i l.0 l.1 in
       (s.0, s.2 ∙ ap (λ (R : List ℕ). s.0 ++ R) own)
 
   pub inner_split : (at : Option ℕ) → IsLoopAt m at → (b : ℕ) → Inside m.trees.sites.items (scope_at m at) b → loops_around m b ≡ inner (loops_at m at) (loops_around m b) ++ loops_at m at
@@ -113,10 +54,6 @@ module _ (m : Method) (is : IsMethod m) where
       let long : length R ≡ length s.0 + suc (length s.1) = ap length s.2 ∙ length-append s.0 (k ∷ s.1) in
       let deep : length (loops_around m k) ≡ suc (length s.1) = ap length own in
       omega (arith, long, deep)
-
-  pub region_deep : (at : Option ℕ) → IsLoopAt m at → (k : ℕ) → In (loops_at m at) k → depths f k ≤ length (loops_at m at)
-  region_deep None low k i = absurd (subst (λ (R : List ℕ). In R k) none_at i)
-  region_deep (Some i) low k among = let l = loop_there m.forest.now.loops.items i low in depth_low l.0.header [] (loops_at m (Some i)) (around_own i l.0 l.1) k among
 
   -- the depth of a loop inside the region
   inner_depth : (b h : ℕ) (G F R : List ℕ) → loops_around m b ≡ G ++ (h ∷ (F ++ R)) → length R < depths f h
@@ -142,10 +79,10 @@ module _ (m : Method) (is : IsMethod m) where
       around_ = header_around b h G (F ++ R) e;
       depth = sym closed.depth;
       making = record {
-        rank = ranks.rank;
-        top = ranks.top;
-        shape = ranks.shape;
-        ranks = ranks.below;
+        rank = (ranks m is).rank;
+        top = (ranks m is).top;
+        shape = (ranks m is).shape;
+        ranks = (ranks m is).below;
         equations = eqs;
         are_names = stage.names;
         tied = record {
@@ -176,7 +113,7 @@ module _ (m : Method) (is : IsMethod m) where
     sorted_of : (h : ℕ) (c : Closed) → 0 < depths f h → IsClosed m g made.names h c → IsSortedLoop g c
     sorted_of h c low closed =
         let same : c.depth ≡ depths f h = closed.depth in
-        let high : depths f h ≤ MAX_DEPTH = ranks.deep h in
+        let high : depths f h ≤ MAX_DEPTH = (ranks m is).deep h in
         record { depth = depth_is_one c.depth (omega (arith, same, low)) (omega (arith, same, high)); token = closed.token; ending = closed.ending_sort }
 
     sorteds_of : (b : ℕ) (G F : List ℕ) (left : List Closed) → loops_around m b ≡ G ++ (F ++ R) → AllZip Close F left → AreSortedLoops g left

@@ -1,29 +1,7 @@
 -- What is made of a method as blocks are done and loops are left.
 use Rattle.std.proofs.Common.{◌≡◌, ◌≢◌, ℕ, zero, suc, ◌+◌, ◌<◌, ◌≤◌, true, List, [], ◌∷◌, length, set, replicate, Option, Some, None, slice_get, ◌⊎◌, inl, inr, ⊎_elim, refl, sym, ap, ◌∙◌, subst, arith}
-use Rattle.std.specs.List.{Contains}
-use Rattle.std.proofs.lemmas.List.{length-replicate}
-use Rattle.std.proofs.lemmas.Option.{slice_get_within, same_Some}
-use Rattle.std.proofs.Math.ListN.{length-set}
-use Rattle.pv_frame.proofs.Cited.{equal_or_not, get_set, get_set_other}
-use Rattle.pv_flow.specs.declared.block.Block.{Block}
-use Rattle.pv_loops.specs.declared.forest.Loop.{Loop}
-use Rattle.pv_graph.specs.Walks.{In}
-use Rattle.pv_graph.specs.Graphs.{Graph, IsGraph, IsWellMade}
-use Rattle.pv_equations.specs.Flow.{Chain}
-use Rattle.pv_runs.specs.Blocks.{place_chain}
-use Rattle.pv_terms.specs.declared.names.Named.{Named}
-use Rattle.pv_terms.specs.Reads.{named, AreNames}
-use Rattle.pv_terms.specs.Laws.{depths}
-use Rattle.pv_block.specs.declared.ran.State.{State}
-use Rattle.pv_block.specs.declared.ran.Ran.{Ran}
-use Rattle.pv_block.specs.Ran.{entry_of, RanFor, IsSortedRan}
-use Rattle.pv_build.specs.declared.method.Method.{Method}
-use Rattle.pv_build.specs.declared.method.Made.{Made}
-use Rattle.pv_build.specs.declared.method.Stage.{Stage}
+use Rattle.pv_build.proofs.Words.{Contains, length-replicate, slice_get_within, same_Some, length-set, equal_or_not, get_set, get_set_other, Block, Loop, In, Graph, IsGraph, IsWellMade, Chain, place_chain, Named, named, AreNames, depths, State, Ran, entry_of, RanFor, IsSortedRan, Method, Made, Stage, IsMethod, flow_in, loops_at, loops_around, IsDone, HasRun, AreDone, IsAt, IsStage, KeepsFirst, HeldAs, IsOuter, IsLast, IsStageBefore, IsStageFor, IsNothing}
 use Rattle.pv_build.specs.declared.method.Stage.TheVariants as stage
-use Rattle.pv_build.specs.Stages.{IsMethod, flow_in, loops_at, loops_around, IsDone, HasRun, AreDone, IsAt, IsStage, KeepsFirst}
-use Rattle.pv_build.specs.Opening.{HeldAs, IsOuter}
-use Rattle.pv_build.specs.Building.{IsLast, IsStageBefore, IsStageFor, IsNothing}
 use Rattle.pv_build.proofs.Trees as trees
 use Rattle.pv_build.proofs.Headers as headers
 use Rattle.pv_build.proofs.Staged.{first_then}

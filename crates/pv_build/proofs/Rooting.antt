@@ -1,19 +1,8 @@
 -- A root over its four kids.
 use Rattle.std.proofs.Common.{◌≡◌, ℕ, List, [], ◌∷◌, Option, Some, None, refl, sym, ap, ◌∙◌, subst}
-use Rattle.pv_value.specs.declared.descriptor.JType.{JType}
+use Rattle.pv_build.proofs.Words.{JType, Op, F, T, H, R, Graph, sort_over, HasSort, Exp, Over, NoExp, or_else, Named, Reads, IsOfSort, none_of, default_of, default_sort}
 use Rattle.pv_value.specs.declared.descriptor.JType.TheVariants as jtype
-use Rattle.pv_graph.specs.declared.node.Op.{Op}
 use Rattle.pv_graph.specs.declared.node.Op.TheVariants as op
-use Rattle.pv_graph.specs.declared.node.OpSort.TheVariants.{F, T, H, R}
-use Rattle.pv_graph.specs.Graphs.{Graph}
-use Rattle.pv_graph.specs.Ops.{sort_over, HasSort}
-use Rattle.pv_equations.specs.Exp.{Exp, Over, NoExp}
-use Rattle.pv_equations.specs.Equations.{or_else}
-use Rattle.pv_terms.specs.declared.names.Named.{Named}
-use Rattle.pv_terms.specs.Reads.{Reads}
-use Rattle.pv_terms.specs.Terms.{IsOfSort}
-use Rattle.pv_build.specs.Unfolded.{none_of}
-use Rattle.pv_build.specs.Ends.{default_of, default_sort}
 use Rattle.pv_build.proofs.Defaults.{none_is}
 
 root_sorted : (r : Option JType) → sort_over op.Root (T ∷ F ∷ default_sort r ∷ H ∷ []) ≡ Some R

@@ -1,19 +1,7 @@
 -- A loop whose thetas are tied is closed.
 use Rattle.std.proofs.Common.{◌≡◌, ℕ, ◌<◌, length, Some, slice_get, sym, ap, ◌∙◌, subst}
-use Rattle.std.specs.Vec.{with_item}
-use Rattle.std.proofs.lemmas.Option.{slice_get_within, same_Some}
-use Rattle.pv_loops.specs.declared.forest.Loop.{Loop}
-use Rattle.pv_graph.specs.Graphs.{Graph}
-use Rattle.pv_graph.specs.declared.node.OpSort.TheVariants.{I, T}
-use Rattle.pv_graph.proofs.Cited.{set_same, set_other, set_length}
-use Rattle.pv_terms.specs.Reads.{Reads}
-use Rattle.pv_terms.specs.Terms.{IsOfSort}
-use Rattle.pv_build.specs.declared.method.Method.{Method}
-use Rattle.pv_build.specs.declared.method.Made.{Made}
-use Rattle.pv_build.specs.declared.method.Closed.{Closed}
+use Rattle.pv_build.proofs.Words.{with_item, slice_get_within, same_Some, Loop, Graph, I, T, set_same, set_other, set_length, Reads, IsOfSort, Method, Made, Closed, IsMethod, loops_at, IsStage, IsClosed, IsBeyond, StandsAs, AllHaveRun, TiesLoop}
 use Rattle.pv_build.specs.declared.method.Stage.TheVariants as stage
-use Rattle.pv_build.specs.Stages.{IsMethod, loops_at, IsStage, IsClosed, IsBeyond, StandsAs}
-use Rattle.pv_build.specs.Closings.{AllHaveRun, TiesLoop}
 use Rattle.pv_build.proofs.Persisting.{Persists, grown, sort_on, stands_on}
 use Rattle.pv_build.proofs.Headers.{depth_is}
 use Rattle.pv_build.proofs.Staged.{stage_grown}

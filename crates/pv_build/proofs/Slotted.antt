@@ -1,10 +1,6 @@
 -- The nodes of slots.
 use Rattle.std.proofs.Common.{◌≡◌, ℕ, zero, suc, ◌+◌, ◌-◌, ◌<◌, ◌≤◌, Bool, List, [], ◌∷◌, length, get_or, Some, None, slice_get, ⊎_elim, refl, sym, ap, ◌∙◌, arith, if◌then◌else◌}
-use Rattle.std.proofs.lemmas.Bool.Decides.{eqb_tells}
-use Rattle.std.proofs.lemmas.Option.{slice_get-get_or}
-use Rattle.pv_runs.specs.Held.{local_place, stack_place, by_turns}
-use Rattle.pv_block.specs.declared.held.Cell.{Cell}
-use Rattle.pv_block.specs.Ran.{node_of_cell, local_node, stack_node}
+use Rattle.pv_build.proofs.Words.{eqb_tells, slice_get-get_or, local_place, stack_place, by_turns, Cell, node_of_cell, local_node, stack_node}
 
 -- ---- turns
 

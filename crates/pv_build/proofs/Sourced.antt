@@ -1,52 +1,13 @@
 -- What is given for the leaves and the tests of a tree of a region.
 use Rattle.std.proofs.Common.{◌≡◌, ◌≢◌, ℕ, zero, suc, ◌-◌, ◌<◌, List, [], ◌∷◌, ◌++◌, length, get_or, Option, Some, None, option_map, slice_get, refl, sym, ap, ◌∙◌, subst, arith}
-use Rattle.std.proofs.lemmas.List.{length-map}
-use Rattle.std.proofs.lemmas.Option.{slice_get_within, slice_get-get_or, same_Some}
-use Rattle.pv_frame.proofs.Cited.{some_of}
+use Rattle.pv_build.proofs.Words.{found, slice_get_within, slice_get-get_or, same_Some, some_of, Block, Loop, Op, I, Node, Graph, Exp, put, Dest, To, End, Exit, Chain, Leave, Flow, Values, AreEquations, outs, token_outs, leaf, tree_of, Site, Target, Tree, TreeNode, dest_of, GoTo, exit_at, test_at, Inside, loops_of, IsExitOf, IsTestOf, IsAimedAt, NodeFits, AreSound, target_of, inner, leaving, exit_gives, leaves_of, tests_of, scope_by, scope_of, IsTreeOf, under, numbered_dest, numbered_exit, numbered, chain_at, Named, Reads, Stand, GrowsBy, IsOfSort, depths, standing_reads, Leaving, Ran, Entry, StandsFor, slot_at, dest_at, ExitStands, RunsAlong, IsSortedExit, IsTest, Method, Made, Closed, Source, Given, IsMethod, flow_in, region_at, loops_at, loops_around, IsLoopAt, StandsAs, IsDone, HasRun, IsStage, scope_at, AreReadyFor, IsTargetIn, AreClosedFrom, IsIntFor, IsExitFor, IsLeafFor, IsSourceFor, IsGivenFor, header_at, header_list, HasExitAt, IsExitAt, HasLeft, Left, HasTested, Tested, AreSourcesFor, out_slots, outs_slots, ReadsOutOfAll, ReadsValueOut}
 use Rattle.pv_flow.specs.declared.block.Exit as kinds
-use Rattle.pv_flow.specs.declared.block.Block.{Block}
-use Rattle.pv_loops.specs.declared.forest.Loop.{Loop}
-use Rattle.pv_graph.specs.declared.node.Op.{Op}
-use Rattle.pv_graph.specs.declared.node.OpSort.TheVariants.{I}
-use Rattle.pv_graph.specs.declared.node.Node.{Node}
-use Rattle.pv_graph.specs.Graphs.{Graph}
-use Rattle.pv_equations.specs.Exp.{Exp}
 use Rattle.pv_equations.specs.Flow as flow
-use Rattle.pv_equations.specs.Flow.{Part, put, Dest, To, End, Exit, Chain, Leave, Flow}
-use Rattle.pv_equations.specs.Equations.{Values, AreEquations, outs, token_outs, leaf, tree_of}
-use Rattle.pv_decide.specs.declared.site.Site.{Site}
-use Rattle.pv_decide.specs.declared.tree.Target.{Target}
+use Rattle.pv_equations.specs.Flow.{Part}
 use Rattle.pv_decide.specs.declared.tree.Target.TheVariants as target
-use Rattle.pv_decide.specs.declared.tree.Tree.{Tree}
-use Rattle.pv_decide.specs.declared.tree.TreeNode.{TreeNode}
 use Rattle.pv_decide.specs.declared.tree.TreeNode.TheVariants as node
-use Rattle.pv_decide.specs.Sites.{dest_of, GoTo, exit_at, test_at, Inside, loops_of}
-use Rattle.pv_decide.specs.Folds.{IsExitOf, IsTestOf, IsAimedAt, NodeFits, AreSound}
 use Rattle.pv_decide.specs.Walks as walks
-use Rattle.pv_decide.specs.Walks.{target_of, inner, leaving, exit_gives, leaves_of, tests_of}
-use Rattle.pv_decide.specs.Trees.{scope_by, scope_of, IsTreeOf, IsRegion}
-use Rattle.pv_decide.proofs.Cited.{under}
-use Rattle.pv_runs.specs.Blocks.{numbered_dest, numbered_exit, numbered}
-use Rattle.pv_runs.proofs.Cited.{chain_at}
-use Rattle.pv_terms.specs.declared.names.Named.{Named}
-use Rattle.pv_terms.specs.Reads.{Reads, Stand}
-use Rattle.pv_terms.specs.Terms.{GrowsBy, IsOfSort}
-use Rattle.pv_terms.specs.Laws.{depths}
-use Rattle.pv_terms.proofs.Cited.{standing_reads}
-use Rattle.pv_block.specs.declared.ran.Leaving.{Leaving}
-use Rattle.pv_block.specs.declared.ran.Ran.{Ran}
-use Rattle.pv_block.specs.Standing.{Entry, StandsFor}
-use Rattle.pv_block.specs.Ran.{slot_at, dest_at, ExitStands, RunsAlong, IsSortedExit, IsTest}
-use Rattle.pv_build.specs.declared.method.Method.{Method}
-use Rattle.pv_build.specs.declared.method.Made.{Made}
-use Rattle.pv_build.specs.declared.method.Closed.{Closed}
-use Rattle.pv_build.specs.declared.source.Source.{Source}
 use Rattle.pv_build.specs.declared.source.Source.TheVariants as source
-use Rattle.pv_build.specs.declared.source.Given.{Given}
-use Rattle.pv_build.specs.Stages.{IsMethod, flow_in, region_at, loops_at, loops_around, IsLoopAt, StandsAs, IsDone, HasRun, IsStage}
-use Rattle.pv_build.specs.Giving.{scope_at, AreReadyFor, IsTargetIn, AreClosedFrom, IsIntFor, IsExitFor, IsLeafFor, IsSourceFor, IsGivenFor}
-use Rattle.pv_build.specs.Leaves.{header_at, header_list, HasExitAt, IsExitAt, HasLeft, Left, HasTested, Tested, AreSourcesFor}
-use Rattle.pv_build.specs.Taken.{out_slots, outs_slots, ReadsOutOfAll, ReadsValueOut}
 use Rattle.pv_build.proofs.Lists.{each_push}
 use Rattle.pv_build.proofs.Persisting.{Persists, grown, sort_on, reads_on, stands_on, exit_on}
 use Rattle.pv_build.proofs.Flowing as flowing
@@ -55,11 +16,6 @@ use Rattle.pv_build.proofs.Outgoing.{all_get}
 use Rattle.pv_build.proofs.Regions.{loop_there, none_at, own_at, loops_same, are_left}
 
 -- ---- a block that is done, exit by exit and test by test
-
-element : {A : Type 0} → (xs : List A) (i : ℕ) → i < length xs → (x : A) × (slice_get xs i ≡ Some x)
-element [] i low = absurd (omega arith)
-element (x ∷ xs) zero low = (x, refl)
-element (x ∷ xs) (suc i) low = element xs i (omega arith)
 
 module _ (blocks : List Block) (at : Entry) (nodes : List Node) where
   runs_exit : (ts : List ℕ) (es : List Leaving) (c : Chain) (ds : List kinds.Exit) (e : ℕ) (d : kinds.Exit) → RunsAlong at nodes ts es c → GoTo (numbered blocks c) ds → slice_get ds e ≡ Some d
@@ -200,7 +156,7 @@ module _ (m : Method) (is : IsMethod m) where
     exit_done : (b e : ℕ) (ran : Ran) → slice_get made.blocks.items b ≡ Some (Some ran) → IsExitOf sites (scope_at m at) b e → (x : Leaving) × (slice_get ran.exits.items e ≡ Some x) × LeftFor b e x
     exit_done b e ran there (inside, k, here, low) =
         let done = stage.blocks b ran there in
-        let d = element k.exits.items e low in
+        let d = found k.exits.items e low in
         let exit : slice_get done.block.exits e ≡ Some d.0 = subst (λ (xs : List kinds.Exit). slice_get xs e ≡ Some d.0) (same_exits b ran done k here) d.1 in
         let x = runs_exit m.flow.now.blocks done.at g.nodes ran.tests.items ran.exits.items done.chain done.block.exits e d.0 done.stands (goes b ran done) exit in (
           x.0,
@@ -352,15 +308,6 @@ module _ (m : Method) (is : IsMethod m) where
   -- ---- the tree
 
   module _ (at : Option ℕ) (low : IsLoopAt m at) (t : Target) where
-    pub is_region : IsRegion m.trees (region_at at)
-    is_region = go at low
-      where
-        go : (at : Option ℕ) → IsLoopAt m at → IsRegion m.trees (region_at at)
-        go None low = tt
-        go (Some i) low =
-            let long : length m.trees.headers.items ≡ length m.forest.now.loops.items = ap length is.trees.headers ∙ length-map m.forest.now.loops.items (λ (l : Loop). l.header) in
-            omega (arith, low, long)
-
     pub sound_in : (nodes : List TreeNode) → AreSound sites (scope_of m.trees (region_at at)) t nodes → AreSound sites (scope_at m at) t nodes
     sound_in nodes sound = subst (λ (headers : List ℕ). AreSound sites (scope_by headers (region_at at)) t nodes) is.trees.headers sound
 

@@ -1,26 +1,9 @@
 -- What is made of a method stays as it is while nodes are added.
 use Rattle.std.proofs.Common.{◌≡◌, ℕ, ◌<◌, ◌≤◌, false, List, length, Some, slice_get, inl, inr, ⊎_elim, refl, sym, ap, ◌∙◌, subst, arith}
-use Rattle.std.proofs.lemmas.Bool.{cases_lt}
-use Rattle.std.proofs.lemmas.Option.{slice_get_within}
-use Rattle.pv_graph.specs.declared.node.Op.{Op}
+use Rattle.pv_build.proofs.Words.{cases_lt, slice_get_within, Op, Node, found, In, Graph, Extends, has_depth, IsFlat, GrowsBy, Grows, depths, same_node, names_stand, grows_wider, Method, Made, Opened, Stage, flow_in, IsInside, HasBase, IsOpened, IsAt, IsStage, IsBeyond, GrowsIn, KeepsFirst}
 use Rattle.pv_graph.specs.declared.node.Op.TheVariants as op
-use Rattle.pv_graph.specs.declared.node.Node.{Node}
-use Rattle.pv_graph.proofs.Cited.{found}
-use Rattle.pv_graph.specs.Walks.{In}
-use Rattle.pv_graph.specs.Graphs.{Graph, Extends}
-use Rattle.pv_equations.specs.Equations.{Values, first_kid}
-use Rattle.pv_terms.specs.Terms.{has_depth, IsFlat, GrowsBy, Grows}
-use Rattle.pv_terms.specs.Laws.{depths, IsTiedName}
-use Rattle.pv_terms.proofs.Cited.{same_node, names_stand, grows_wider}
-use Rattle.pv_build.specs.declared.method.Method.{Method}
-use Rattle.pv_build.specs.declared.method.Made.{Made}
-use Rattle.pv_build.specs.declared.method.Theta.{Theta}
-use Rattle.pv_build.specs.declared.method.Opened.{Opened}
-use Rattle.pv_build.specs.declared.method.Stage.{Stage}
 use Rattle.pv_build.specs.declared.method.Stage.TheVariants as stage
-use Rattle.pv_build.specs.Stages.{flow_in, IsInside, HasBase, IsThetaOf, IsOpened, IsAt, IsStage, IsBeyond, GrowsIn, KeepsFirst}
-use Rattle.pv_build.specs.Slots.{number}
-use Rattle.pv_build.proofs.Persisting.{Persists, grown, sort_on, reads_on, stands_on, closed_on, done_on}
+use Rattle.pv_build.proofs.Persisting.{Persists, grown, tied_on, opened_on, closed_on, done_on}
 
 -- ---- graphs
 
@@ -50,6 +33,18 @@ flat_inside d o flat e = (
   (λ is. absurd (let z : has_depth (op.Eval e) ≡ false = subst IsFlat is flat in cc)),
   (λ is. absurd (let z : has_depth (op.Pass e) ≡ false = subst IsFlat is flat in cc)),
   (λ is. absurd (let z : has_depth (op.Shift e) ≡ false = subst IsFlat is flat in cc)),
+)
+
+-- a theta of a depth is inside each loop of that depth or less
+theta_of : (d e : ℕ) → op.Theta d ≡ op.Theta e → d ≡ e
+theta_of d e is = cc
+
+pub theta_inside : (d c : ℕ) (o : Op) → c ≤ d → o ≡ op.Theta d → IsInside c o
+theta_inside d c o le is e = (
+  (λ at. let z : d ≡ e = theta_of d e (sym is ∙ at) in omega (arith, le, z)),
+  (λ at. absurd (let z : op.Theta d ≡ op.Eval e = sym is ∙ at in cc)),
+  (λ at. absurd (let z : op.Theta d ≡ op.Pass e = sym is ∙ at in cc)),
+  (λ at. absurd (let z : op.Theta d ≡ op.Shift e = sym is ∙ at in cc)),
 )
 
 eval_of : (d e : ℕ) → op.Eval d ≡ op.Eval e → d ≡ e
@@ -96,40 +91,13 @@ module _ (m : Method) (g h : Graph) (made : Made) (R : List ℕ) (d : ℕ) (deep
   p : Persists g h
   p = grown (IsBeyond d) g h grows
 
-  theta_grown : (k base : ℕ) (x : Theta) → IsThetaOf m g made.names k base x → IsThetaOf m h made.names k base x
-  theta_grown k base x is = record {
-    is = is.is;
-    first = stands_on g h p made.names made.names (λ a s n i. i) m x.first (λ v. first_kid v k (number x.slot)) is.first;
-    sort = (is.sort.0, sort_on g h p x.node is.sort.0 is.sort.1, sort_on g h p x.first is.sort.0 is.sort.2, is.sort.3);
-    untied = grows.extends.nodes x.node _ is.untied;
-    before = is.before;
-    after = is.after;
-  }
-
   opened_grown : (k : ℕ) (o : Opened) → In R k → IsOpened m g made.names k o → IsOpened m h made.names k o
-  opened_grown k o i is = record {
-    token = sort_on g h p o.token _ is.token;
-    enters = stands_on g h p made.names made.names (λ a s n i. i) m o.token (λ v. v.entering k 0) is.enters;
-    has_base = base_grown d (depths (flow_in m) k) o.base g h (deep k i) grows is.has_base;
-    thetas = λ j x at. theta_grown k o.base x (is.thetas j x at);
-    all = is.all;
-    once = is.once;
-    some = is.some;
-  }
+  opened_grown k o i is = opened_on g h p made.names made.names (λ a s n i. i) m k (λ s n x name at. grows.extends.nodes n x at) (λ s n name. name) o (base_grown d (depths (flow_in m) k) o.base g h (deep k i) grows) is
 
   at_grown : (k : ℕ) (st : Stage) → IsAt m g made R k st → IsAt m h made R k st
   at_grown k stage.Ahead is = is
   at_grown k (stage.Open o) is = (is.0, opened_grown k o is.0 is.1, is.2)
   at_grown k (stage.Closed c) is = (closed_on g h p made.names made.names (λ a s n i. i) m k c is.0, is.1)
-
-  tied_grown : (k s n : ℕ) (v : Values) → IsTiedName (flow_in m) v g.nodes made.names k s n → IsTiedName (flow_in m) v h.nodes made.names k s n
-  tied_grown k s n v is = record {
-    first = is.first;
-    second = is.second;
-    theta_ = grows.extends.nodes n _ is.theta_;
-    enters = reads_on g h p made.names made.names (λ a s n i. i) is.first _ is.enters;
-    begins = reads_on g h p made.names made.names (λ a s n i. i) is.second _ is.begins;
-  }
 
   -- WHAT IS MADE SO FAR STAYS
   pub stage_grown : IsStage m g made R → IsStage m h made R
@@ -140,7 +108,7 @@ module _ (m : Method) (g h : Graph) (made : Made) (R : List ℕ) (d : ℕ) (deep
     left = λ n o. is.left n (grows.left n o);
     names = names_stand (depths (flow_in m)) g.nodes h.nodes made.names p.stand is.names;
     later = is.later;
-    each_name = λ k s n i. ⊎_elim (λ open_. inl (open_.0, grows.extends.nodes n _ open_.1)) (λ tied. inr (λ v eqs. tied_grown k s n v (tied v eqs))) (is.each_name k s n i);
+    each_name = λ k s n i. ⊎_elim (λ open_. inl (open_.0, grows.extends.nodes n _ open_.1)) (λ tied. inr (λ v eqs. tied_on g h p made.names made.names (λ a s n i. i) (flow_in m) v k s n (grows.extends.nodes n) (tied v eqs))) (is.each_name k s n i);
     blocks_size = is.blocks_size;
     blocks = λ b ran at. done_on g h p m made.names made.names (λ a s n i. i) b ran (is.blocks b ran at);
     loops_size = is.loops_size;
@@ -148,6 +116,3 @@ module _ (m : Method) (g h : Graph) (made : Made) (R : List ℕ) (d : ℕ) (deep
     opens = is.opens;
     passed = is.passed;
   }
-
-  pub kept_grown : (start : ℕ) → KeepsFirst start g h
-  kept_grown start = first_kept (IsBeyond d) start g h grows

@@ -1,24 +1,10 @@
 -- The operations with which a method begins.
 use Rattle.std.proofs.Common.{◌≡◌, ℕ, zero, suc, ◌+◌, ◌<◌, ◌≤◌, Bool, true, false, List, [], ◌∷◌, ◌++◌, length, take, get_or, Some, slice_get, ◌⊎◌, inl, inr, refl, ap, ◌∙◌, subst, arith}
-use Rattle.std.proofs.lemmas.List.{take_more}
-use Rattle.pv_value.specs.declared.descriptor.JType.{JType}
+use Rattle.pv_build.proofs.Words.{take_more, JType, Sort, Op, param_ops, passed_ops, op_at, Graph, sort_over, Over, NoExp, Named, Reads, Grows, ReadsOver, HasItsSort, Cell, op_sort, IsCellOf, IsKnown, AreOpsOf, IsFirstOp, this_ops}
 use Rattle.pv_value.specs.declared.descriptor.JType.TheVariants as jtype
-use Rattle.pv_frame.specs.declared.sort.Sort.{Sort}
 use Rattle.pv_frame.specs.declared.sort.Sort.TheVariants as sort
-use Rattle.pv_graph.specs.declared.node.Op.{Op}
 use Rattle.pv_graph.specs.declared.node.Op.TheVariants as op
 use Rattle.pv_graph.specs.declared.node.OpSort.TheVariants as opsort
-use Rattle.pv_runs.specs.Entries.{param_ops, passed_ops, op_at}
-use Rattle.pv_graph.specs.Graphs.{Graph}
-use Rattle.pv_graph.specs.Ops.{sort_over}
-use Rattle.pv_equations.specs.Exp.{Over, NoExp}
-use Rattle.pv_terms.specs.declared.names.Named.{Named}
-use Rattle.pv_terms.specs.Reads.{Reads}
-use Rattle.pv_terms.specs.Terms.{Grows, ReadsOver, HasItsSort}
-use Rattle.pv_block.specs.declared.held.Cell.{Cell}
-use Rattle.pv_block.specs.Sorted.{op_sort}
-use Rattle.pv_block.specs.Ran.{IsCellOf}
-use Rattle.pv_build.specs.States.{IsKnown, AreOpsOf, IsFirstOp, this_ops}
 use Rattle.pv_build.proofs.Kept.{has_no_kids, read_no_kids, cell_kept, reads_kept}
 
 pub passed_is : (b : Bool) (types : List JType) → this_ops b ++ param_ops 0 types ≡ passed_ops b types

@@ -1,10 +1,7 @@
 -- Which locals a store writes, and which hold a value of category 2 after it.
 use Rattle.std.proofs.Common.{◌≡◌, ℕ, zero, suc, ◌<◌, Bool, true, false, List, [], ◌∷◌, length, refl, sym, ap, ◌∙◌, arith, if◌then◌else◌}
-use Rattle.std.specs.Prelude.{◌||◌, ◌&&◌, ◌==◌, not, slice_set}
-use Rattle.std.proofs.lemmas.Bool.{eqb-true, eqb-false, eq-eqb, and_parts, and_from, and_right}
-use Rattle.pv_frame.specs.Stacks.{is_wide, first_cleared, set_local}
-use Rattle.pv_runs.specs.Held.{Cell, cell_sort, unset}
-use Rattle.pv_runs.specs.Carrying.{holds_wide}
+use Rattle.pv_build.proofs.Words.{◌||◌, ◌&&◌, ◌==◌, not, slice_set, eqb-true, eqb-false, eq-eqb, and_parts, and_from, and_right, is_wide, first_cleared, set_local, cell_sort, unset, holds_wide}
+use Rattle.pv_runs.specs.Held.{Cell}
 
 -- ---- by the place of a local
 

@@ -1,25 +1,8 @@
 -- A program is structured or meets one cause of its blocks.
 use Rattle.std.proofs.Common.{◌≡◌, ℕ, ◌<◌, ◌+◌, List, length, Err, refl, sym, ap, subst, ◌∙◌, arith}
-use Rattle.std.proofs.lemmas.List.{length-map}
-use Rattle.std.proofs.lemmas.Option.{slice_get_within}
-use Rattle.pv_frame.specs.declared.cause.Cause.{Cause}
-use Rattle.pv_frame.specs.declared.cause.Refused.{Refused}
+use Rattle.pv_build.proofs.Words.{length-map, slice_get_within, Cause, Refused, Program, cause, Block, edges_of, MOST_BLOCKS, Answers, HasTooMany, entry_block, edges_within, one_flow, TStep, MAX_DEPTH, IsShape, Stuck, IsReducible, NestsUpTo, HasDepth, OnCause, HasEdges, IsStructured, MeetsShape}
 use Rattle.pv_frame.specs.declared.cause.Refused.TheVariants as refused
 use Rattle.pv_frame.specs.declared.cause.CauseKind.TheVariants as kind
-use Rattle.pv_frame.specs.declared.program.Program.{Program}
-use Rattle.pv_frame.specs.Causes.{cause}
-use Rattle.pv_flow.specs.declared.block.Block.{Block}
-use Rattle.pv_flow.specs.Edges.{edges_of}
-use Rattle.pv_flow.specs.declared.flow.TheConstants.{MOST_BLOCKS}
-use Rattle.pv_flow.specs.Answers.{Answers, HasTooMany}
-use Rattle.pv_flow.proofs.Cited.{entry_block, edges_within, one_flow}
-use Rattle.pv_loops.specs.declared.fault.TStep.{TStep}
-use Rattle.pv_loops.specs.declared.forest.TheConstants.{MAX_DEPTH}
-use Rattle.pv_loops.specs.Shapes.{IsShape}
-use Rattle.pv_loops.specs.Steps.{Stuck, IsReducible}
-use Rattle.pv_loops.specs.Forests.{NestsUpTo, HasDepth}
-use Rattle.pv_build.specs.Reasons.{OnCause}
-use Rattle.pv_build.specs.Structure.{HasEdges, IsStructured, MeetsShape}
 
 -- the edges of a program's blocks are one list
 one_edges : (p : Program) (a b : List (List ℕ)) → HasEdges p a → HasEdges p b → a ≡ b

@@ -1,54 +1,19 @@
 -- The thetas of a loop are tied, one after another.
 use Rattle.std.proofs.Common.{◌≡◌, ◌≢◌, ℕ, ◌+◌, ◌<◌, ◌≤◌, List, [], ◌∷◌, length, Some, slice_get, slice_set, ◌⊎◌, inl, inr, ⊎_elim, refl, sym, ap, ◌∙◌, subst, arith}
-use Rattle.std.proofs.lemmas.Bool.{cases_eq}
-use Rattle.std.proofs.lemmas.Option.{slice_get_within, same_Some}
-use Rattle.pv_frame.specs.declared.sort.Sort.{Sort}
-use Rattle.pv_frame.specs.declared.sort.Sort.TheVariants as sort
-use Rattle.pv_frame.specs.declared.frame.Frame.{Frame}
+use Rattle.pv_build.proofs.Words.{cases_eq, slice_get_within, same_Some, Frame, OpSort, T, H, R, Node, found, set_same, set_other, set_length, tie_keeps_rule, node_of, In, Graph, IsWellMade, StaysIn, To, Values, AreEquations, never_exp, tree_of, Back, dest_of, dead_of, Reads, AreNames, Stand, IsMaybeOf, ReadsMaybe, IsFlat, IsOfSort, depths, IsTiedName, same_node, same_op, names_stand, extends_stand, tied_stand, stand_then, reads_stand, numbered_dest, op_sort, slot_of, slot_at, dest_at, FitsFrame, IsSortedExit, Leaving, State, Slot, Given, Source, Method, Theta, number, HasNodeOf, Gives, FoldsTo, FoldsToOne, HasSlot, flow_in, loops_at, IsInside, HasBase, HasSlotAt, IsThetaOf, KeepsFirst, IsExitFor, IsGivenFor, dead_at, MayTie, TiesOne, Closing, depth_of, MayTieAll, IsTiedTheta, AreTied}
 use Rattle.pv_graph.specs.declared.node.Op.TheVariants as op
-use Rattle.pv_graph.specs.declared.node.OpSort.{OpSort}
-use Rattle.pv_graph.specs.declared.node.OpSort.TheVariants.{T, H, R}
-use Rattle.pv_graph.specs.declared.node.Node.{Node}
-use Rattle.pv_graph.proofs.Cited.{found, set_same, set_other, set_length, tie_keeps_rule}
-use Rattle.pv_graph.specs.Nodes.{node_of}
-use Rattle.pv_graph.specs.Walks.{In}
-use Rattle.pv_graph.specs.Graphs.{Graph, IsWellMade}
-use Rattle.pv_graph.specs.Laws.{StaysIn}
-use Rattle.pv_equations.specs.Flow.{To}
-use Rattle.pv_equations.specs.Equations.{Values, AreEquations, never_exp, tree_of, Back}
 use Rattle.pv_decide.specs.declared.aim.Scope.TheVariants as scope
 use Rattle.pv_decide.specs.declared.tree.Target.TheVariants as target
-use Rattle.pv_decide.specs.Sites.{dest_of}
-use Rattle.pv_decide.specs.Walks.{dead_of}
-use Rattle.pv_terms.specs.Reads.{Reads, AreNames, Stand}
-use Rattle.pv_terms.specs.Fold.{IsMaybeOf, ReadsMaybe}
-use Rattle.pv_terms.specs.Terms.{IsFlat, IsOfSort}
-use Rattle.pv_terms.specs.Laws.{depths, IsTiedName}
-use Rattle.pv_terms.proofs.Cited.{same_node, same_op, names_stand, extends_stand, tied_stand, stand_then, reads_stand}
-use Rattle.pv_runs.specs.Blocks.{numbered_dest}
-use Rattle.pv_block.specs.Sorted.{op_sort}
-use Rattle.pv_block.specs.Ran.{slot_of, slot_at, dest_at, FitsFrame, IsSortedExit}
-use Rattle.pv_block.specs.declared.ran.Leaving.{Leaving}
-use Rattle.pv_block.specs.declared.ran.State.{State}
-use Rattle.pv_build.specs.declared.slot.Slot.{Slot}
 use Rattle.pv_build.specs.declared.slot.Slot.TheVariants as slot
 use Rattle.pv_build.specs.declared.slot.Part.TheVariants as part
-use Rattle.pv_build.specs.declared.source.Given.{Given}
-use Rattle.pv_build.specs.declared.source.Source.{Source}
-use Rattle.pv_build.specs.declared.method.Method.{Method}
-use Rattle.pv_build.specs.declared.method.Theta.{Theta}
-use Rattle.pv_build.specs.Slots.{number}
-use Rattle.pv_build.specs.Sources.{HasNodeOf, Gives, FoldsTo, FoldsToOne}
-use Rattle.pv_build.specs.States.{HasSlot}
-use Rattle.pv_build.specs.Stages.{flow_in, loops_at, IsInside, HasBase, HasSlotAt, IsThetaOf, KeepsFirst}
-use Rattle.pv_build.specs.Giving.{IsExitFor, IsGivenFor}
-use Rattle.pv_build.specs.Closings.{dead_at, MayTie, TiesOne, Closing, depth_of, MayTieAll, IsTiedTheta, AreTied}
 use Rattle.pv_build.proofs.Persisting.{Persists, sort_on, reads_on}
-use Rattle.pv_build.proofs.Staged.{as_long, flat_inside, flat_beyond, base_grown}
+use Rattle.pv_build.proofs.Staged.{as_long, flat_inside, theta_inside, flat_beyond, base_grown}
+use Rattle.pv_build.proofs.Cells.{no_root}
 use Rattle.pv_build.proofs.Leading.{GoesInto, goes_into, cell_given}
 use Rattle.pv_build.proofs.GivenFor.{given_on, gives_slot, folds_slot}
 use Rattle.pv_build.proofs.Trees.{again_tree}
-use Rattle.pv_build.proofs.Looped.{solution, own_around, region_is, scope_is, loops_same}
+use Rattle.pv_build.proofs.Looped.{loops_same}
+use Rattle.pv_build.proofs.Around.{solution, header_own, loops_own, scope_is}
 use Rattle.pv_build.proofs.Cycles.{apart, stays}
 
 -- ---- what exits to the header have for the slot of a theta
@@ -56,20 +21,8 @@ use Rattle.pv_build.proofs.Cycles.{apart, stays}
 slot_sort : (f : Frame) (s : Slot) (t : OpSort) → HasSlot f s t → t ≢ R
 slot_sort f slot.Token t e r = absurd (let z : T ≡ R = sym e ∙ r in cc)
 slot_sort f slot.Heap t e r = absurd (let z : H ≡ R = sym e ∙ r in cc)
-slot_sort f (slot.Local k) t (u, at, known, e) r = of_sort u (sym e ∙ r)
-  where
-    of_sort : (u : Sort) → op_sort u ≡ R → ⊥
-    of_sort sort.Int q = absurd (cc)
-    of_sort sort.Long q = absurd (cc)
-    of_sort sort.Ref q = absurd (cc)
-    of_sort sort.Unknown q = absurd (cc)
-slot_sort f (slot.Place j) t (i, u, at, known, place, e) r = of_sort u (sym e ∙ r)
-  where
-    of_sort : (u : Sort) → op_sort u ≡ R → ⊥
-    of_sort sort.Int q = absurd (cc)
-    of_sort sort.Long q = absurd (cc)
-    of_sort sort.Ref q = absurd (cc)
-    of_sort sort.Unknown q = absurd (cc)
+slot_sort f (slot.Local k) t (u, at, known, e) r = no_root u (sym e ∙ r)
+slot_sort f (slot.Place j) t (i, u, at, known, place, e) r = no_root u (sym e ∙ r)
 slot_sort f slot.Fault t h r = absurd h
 slot_sort f slot.Result t h r = absurd h
 
@@ -107,16 +60,6 @@ dead_sort g never is f slot.Result t h = tt
 dead_sort g never is f slot.Heap t h = tt
 dead_sort g never is f (slot.Local k) t h = tt
 dead_sort g never is f (slot.Place j) t h = tt
-
--- ---- a theta is inside its depth, and those around it
-
-theta_inside : (e d : ℕ) → e ≤ d → IsInside e (op.Theta d)
-theta_inside e d le k = (
-  (λ is. let same : d ≡ k = (let z = is in cc) in omega (arith, le, same)),
-  (λ is. absurd (let z = is in cc)),
-  (λ is. absurd (let z = is in cc)),
-  (λ is. absurd (let z = is in cc)),
-)
 
 below_or_at : (j k : ℕ) → j < k + 1 → (j < k) ⊎ (j ≡ k)
 below_or_at j k lt = grind arith
@@ -157,7 +100,7 @@ module _ (c : Closing) (old : Graph) (again : Given) (never : ℕ) (thetas : Lis
           (λ o. hb.inside n x o ge)
           (λ q. ⊎_elim
           (λ flat. flat_inside e x.op flat)
-          (λ (t : IsTiedTheta c x). subst (λ (y : Node). IsInside e y.op) (sym t.2) (theta_inside e d inner))
+          (λ (t : IsTiedTheta c x). subst (λ (y : Node). IsInside e y.op) (sym t.2) (theta_inside d e (op.Theta d) inner refl))
           q)
           (so_far.each n x at);
     }
@@ -195,9 +138,9 @@ module _ (c : Closing) (old : Graph) (again : Given) (never : ℕ) (thetas : Lis
           let never_now = reads_on old g persists c.names c.names (λ h s n i. i) never never_exp may.never_reads in
           let folds = folds_slot m g c.names (Some c.place) target.Back again given_now loops v eqs are tt (number x.slot) (dead_at x.slot never) t exits (dead_reads g c never never_now x.slot) in
           let tree : tree_of (flow_in m) v (may.loop_.header ∷ loops_at m may.loop_.parent) Back (number x.slot) ≡ Some (v.again may.loop_.header (number x.slot)) =
-          again_tree m.typed.now.program m.typed.now.frames m.flow.now.blocks m.forest.now may.is.routine v eqs may.loop_.header (number x.slot) (loops_at m may.loop_.parent) (own_around m may.is c.place may.loop_ may.there) in
+          again_tree m.typed.now.program m.typed.now.frames m.flow.now.blocks m.forest.now may.is.routine v eqs may.loop_.header (number x.slot) (loops_at m may.loop_.parent) (header_own m may.is c.place may.loop_ may.there) in
           let whole : tree_of (flow_in m) v (loops_at m (Some c.place)) Back (number x.slot) ≡ Some (v.again c.header (number x.slot)) =
-          ap (λ (A : List ℕ). tree_of (flow_in m) v A Back (number x.slot)) (region_is m may.is c.place may.loop_ may.there) ∙ tree ∙ ap (λ (h : ℕ). Some (v.again h (number x.slot))) may.header in
+          ap (λ (A : List ℕ). tree_of (flow_in m) v A Back (number x.slot)) (loops_own m may.is c.place may.loop_ may.there) ∙ tree ∙ ap (λ (h : ℕ). Some (v.again h (number x.slot))) may.header in
           subst (FoldsTo g.nodes c.names again (number x.slot) (dead_at x.slot never)) whole folds
 
       -- ---- what a tie asks for

@@ -1,24 +1,9 @@
 -- The trees of a method give something, where it has loops too.
 use Rattle.std.proofs.Common.{◌≡◌, ◌≢◌, ℕ, zero, suc, ◌<◌, List, [], ◌∷◌, ◌++◌, length, Option, Some, None, inl, inr, ⊎_elim, refl, sym, ap, ◌∙◌, subst, subst₂, append-nil, append_assoc, arith}
-use Rattle.std.proofs.lemmas.Bool.{cases_eq}
-use Rattle.std.proofs.lemmas.List.{append_cancel_right}
-use Rattle.std.specs.Prelude.{slice_get}
-use Rattle.pv_frame.specs.declared.program.Program.{Program}
-use Rattle.pv_frame.specs.declared.frame.Frame.{Frame}
-use Rattle.pv_flow.specs.declared.block.Block.{Block}
-use Rattle.pv_flow.specs.Edges.{edges_of, FromEntry, entry, along}
-use Rattle.pv_flow.proofs.Cited.{edges_reach}
-use Rattle.pv_loops.specs.declared.forest.Forest.{Forest}
-use Rattle.pv_equations.specs.Exp.{Exp}
-use Rattle.pv_loops.specs.Ranks.{Heads}
-use Rattle.pv_equations.specs.Flow.{Part, put, Dest, To, Exit, Chain, Leave, Test, InChain, Flow, Edge, Shape}
-use Rattle.pv_equations.specs.Equations.{Target, Node, Back, Finish, Returning, Leaving, Place, On, Again, Header, Gone, Ended, Seen, Joins, IsChain, Values, outs, AtPlace, IsExit, IsTree, first_of_region, first_loops, tree_of, or_else, never_exp, Given, AreEquations}
-use Rattle.pv_equations.proofs.Cited.{seen_once, seen_to, Goes, move, Walk, stop, go, walk_then, IsNode, Walks, walk_around, header_back}
-use Rattle.pv_runs.specs.Blocks.{place_chain}
-use Rattle.pv_runs.specs.Methods.{flow_of}
-use Rattle.pv_runs.specs.Laws.{IsRanked}
-use Rattle.pv_runs.proofs.Cited.{program_clean, edge_exit, method_ranked, typed_chain}
-use Rattle.pv_build.specs.Routine.{IsRoutine}
+use Rattle.pv_build.proofs.Words.{cases_eq, append_cancel_right, slice_get, Program, Frame, Block, edges_of, FromEntry, entry, along, edges_reach, Forest, Exp, Heads, put, Dest, To, Exit, Chain, Leave, Test, InChain, Flow, Shape, Back, Finish, Returning, Place, On, Again, Header, Gone, Ended, Seen, Joins, IsChain, Values, outs, AtPlace, IsTree, first_of_region, first_loops, tree_of, or_else, never_exp, AreEquations, seen_once, seen_to, move, go, walk_then, IsNode, Walks, walk_around, header_back, place_chain, flow_of, IsRanked, program_clean, edge_exit, method_ranked, typed_chain, IsRoutine}
+use Rattle.pv_equations.specs.Flow.{Part, Edge}
+use Rattle.pv_equations.specs.Equations.{Target, Node, Leaving, IsExit, Given}
+use Rattle.pv_equations.proofs.Cited.{Goes, Walk, stop}
 
 -- ---- a tree gives something where an exit on its walks does
 

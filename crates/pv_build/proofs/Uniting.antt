@@ -1,12 +1,6 @@
 -- What blocks write together.
 use Rattle.std.proofs.Common.{◌≡◌, ℕ, ◌+◌, ◌<◌, Bool, false, List, length, take, get_or, Some, slice_get, sym, ap, ◌∙◌, subst}
-use Rattle.std.specs.Prelude.{◌||◌}
-use Rattle.std.specs.List.{list_any}
-use Rattle.std.proofs.lemmas.List.Folds.{list_any_more}
-use Rattle.std.proofs.lemmas.Option.{slice_get-get_or}
-use Rattle.pv_runs.specs.Held.{local_slot}
-use Rattle.pv_build.specs.declared.carrying.Writes.{Writes}
-use Rattle.pv_build.specs.Carried.{Marks, IsUnion}
+use Rattle.pv_build.proofs.Words.{◌||◌, list_any, list_any_more, slice_get-get_or, local_slot, Writes, Marks, IsUnion}
 
 union : (count : ℕ) (f g : ℕ → Bool) (a b both : Writes) → Marks count f a → Marks count g b → IsUnion a b both → Marks count (λ s. f s || g s) both
 union count f g a b both x y u = record {

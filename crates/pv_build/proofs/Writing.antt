@@ -1,28 +1,10 @@
 -- What a block writes, action by action.
 use Rattle.std.proofs.Common.{◌≡◌, ℕ, zero, suc, ◌+◌, ◌<◌, ◌≤◌, Bool, true, false, List, [], ◌∷◌, length, map, replicate, get_or, Option, Some, None, slice_get, slice_set, ◌⊎◌, inl, inr, refl, sym, ap, ◌∙◌, subst, arith, if◌then◌else◌}
-use Rattle.std.specs.Prelude.{◌||◌, ◌&&◌, ◌==◌, not, nat_lt, option_map, unwrap_or}
-use Rattle.std.proofs.lemmas.Bool.{cases_eq, ltb-true, eqb-true, eqb-false, or_right}
-use Rattle.std.proofs.lemmas.List.{get_or-set_same, get_or-set_other, length-map, length-replicate}
-use Rattle.std.proofs.Math.ListN.{length-set}
-use Rattle.pv_pool.specs.Readers.{◌>>=◌}
-use Rattle.pv_value.specs.declared.name.Sym.{Sym}
-use Rattle.pv_value.specs.declared.descriptor.JType.{JType}
-use Rattle.pv_frame.specs.declared.sort.Sort.{Sort}
+use Rattle.pv_build.proofs.Words.{◌||◌, ◌&&◌, ◌==◌, not, nat_lt, option_map, unwrap_or, cases_eq, ltb-true, eqb-true, eqb-false, or_right, get_or-set_same, get_or-set_other, length-map, length-replicate, length-set, ◌>>=◌, Sym, JType, Sort, Action, Program, Frame, is_wide, last_local, popped, moved, has_room, first_cleared, set_local, takes, some_of, if_some, popped_sorts, Held, cell_sort, local_cell, increased_cell, unset, push, with_result, local_cells, held_at, acted_on, acted, local_slot, acted_along, holds_wide, writes_local, writes_heap, writes, writes_along, mapped, bound, turns_local, Walk, Knows, Stores, IsOther, Acts, Walked}
 use Rattle.pv_frame.specs.declared.sort.Sort.TheVariants as sort
-use Rattle.pv_frame.specs.declared.action.Action.{Action}
 use Rattle.pv_frame.specs.declared.action.Action.TheVariants as act
-use Rattle.pv_frame.specs.declared.program.Program.{Program}
-use Rattle.pv_frame.specs.declared.frame.Frame.{Frame}
-use Rattle.pv_frame.specs.Stacks.{is_wide, last_local, popped, moved, has_room, first_cleared, set_local}
-use Rattle.pv_frame.specs.Effects.{takes}
 use Rattle.pv_frame.specs.Programs.{IsAt}
-use Rattle.pv_frame.proofs.Cited.{some_of, if_some, popped_sorts}
-use Rattle.pv_runs.specs.Held.{Cell, Held, cell_sort, local_cell, increased_cell, unset, push, with_result, local_cells, held_at, acted_on, acted, local_slot}
-use Rattle.pv_runs.specs.Blocks.{acted_along}
-use Rattle.pv_runs.specs.Carrying.{holds_wide, writes_local, writes_heap, writes, writes_along}
-use Rattle.pv_runs.proofs.Cited.{mapped, bound, turns_local}
-use Rattle.pv_build.specs.declared.carrying.Walk.{Walk}
-use Rattle.pv_build.specs.Carried.{Knows, Stores, IsOther, Acts, Walked}
+use Rattle.pv_runs.specs.Held.{Cell}
 use Rattle.pv_build.proofs.Storing.{store_changes, changed, replaced, not_replaced}
 
 -- ---- what an action does to the locals

@@ -10,7 +10,7 @@ use Rattle.pv_build.specs.declared.method.Method.{Method}
 use Rattle.pv_build.specs.declared.method.Made.{Made}
 use Rattle.pv_build.specs.declared.method.Stage.TheVariants as stage
 use Rattle.pv_build.specs.Unfolded.{IsBuilt}
-use Rattle.pv_build.specs.Stages.{loops_at, loops_around, IsStage, AreDone}
+use Rattle.pv_build.specs.Stages.{loops_at, loops_around, HasRun, IsStage, AreDone}
 use Rattle.pv_build.specs.Opening.{HeldAs, BeginsBlock, IsOuter}
 
 -- the loop of which block b is the header, if it is one
@@ -45,6 +45,15 @@ pub record Begun (m : Method) (g : Graph) (made : Made) (b : ℕ) (c : State) : 
   pub stage : IsStage m g made (loops_around m b)
   pub sorts : BeginsBlock m g b c
   pub reads : HeldAs m g made.names c (λ v. v.value b)
+
+-- the loop at this place may be opened: no block with its header has run, the loops around it are open, and it is entered with this
+pub record CanOpen (m : Method) (g : Graph) (made : Made) (i : ℕ) (c : State) : Type 0 where
+  pub loop_ : Loop
+  pub there : slice_get m.forest.now.loops.items i ≡ Some loop_
+  pub ahead : HasRun made loop_.header → ⊥
+  pub stage : IsStage m g made (loops_at m loop_.parent)
+  pub sorts : BeginsBlock m g loop_.header c
+  pub reads : HeldAs m g made.names c (λ v. v.entering loop_.header)
 
 -- the stage where this block is next, or where none is
 abbrev pub IsStageFor : Method → Graph → Made → Option ℕ → Type 0

@@ -29,13 +29,19 @@ use Rattle.pv_build.specs.declared.source.Source.{Source}
 use Rattle.pv_build.specs.declared.source.Source.TheVariants as source
 use Rattle.pv_build.specs.declared.source.Given.{Given}
 use Rattle.pv_build.specs.Sources.{IsTree}
-use Rattle.pv_build.specs.Stages.{flow_in, region_at, loops_at, loops_around, StandsAs, HasRun, IsClosed}
+use Rattle.pv_build.specs.Stages.{flow_in, region_at, loops_at, loops_around, IsLoopAt, IsMethod, IsStage, StandsAs, HasRun, IsClosed}
 
 -- ---- what is asked
 
 -- the region of a loop or of the whole method
 abbrev pub scope_at : Method → Option ℕ → Scope
 scope_at m at = scope_in m.forest.now (region_at at)
+
+-- what is made of the method stands where the open loops are those of the region
+pub record IsWalk (m : Method) (g : Graph) (made : Made) (at : Option ℕ) : Type 0 where
+  pub method : IsMethod m
+  pub stage : IsStage m g made (loops_at m at)
+  pub region : IsLoopAt m at
 
 -- the blocks of the region that come before the target in every order are done
 abbrev pub AreReadyFor : Method → Made → Option ℕ → Target → Type 0

@@ -1,7 +1,6 @@
 -- Where a loop is opened; private to this crate.
 use Rattle.std.specs.Prelude.{◌≡◌, ◌⊎◌, ℕ, List, ◌∷◌, Option, Some, slice_get}
 use Rattle.pv_flow.specs.declared.block.Block.{Block}
-use Rattle.pv_loops.specs.declared.forest.Loop.{Loop}
 use Rattle.pv_graph.specs.Graphs.{Graph}
 use Rattle.pv_loops.specs.Ranks.{Heads}
 use Rattle.pv_equations.specs.Exp.{Exp}
@@ -10,9 +9,8 @@ use Rattle.pv_terms.specs.declared.names.Named.{Named}
 use Rattle.pv_block.specs.declared.ran.State.{State}
 use Rattle.pv_block.specs.Ran.{BeginsAt}
 use Rattle.pv_build.specs.declared.method.Method.{Method}
-use Rattle.pv_build.specs.declared.method.Made.{Made}
 use Rattle.pv_build.specs.States.{ReadsState}
-use Rattle.pv_build.specs.Stages.{flow_in, loops_at, loops_around, HasRun}
+use Rattle.pv_build.specs.Stages.{flow_in, loops_at, loops_around}
 
 -- what is held stands for these slots, whatever solves the equations
 abbrev pub HeldAs : Method → Graph → List Named → State → (Values → ℕ → Exp) → Type 0
@@ -30,8 +28,3 @@ IsOuter m b at = ((loops_around m b ≡ loops_at m at) × (Heads (loops_around m
 pub record IsEnteredBy (m : Method) (g : Graph) (names : List Named) (b : ℕ) (c : State) : Type 0 where
   pub header : Heads (loops_around m b) b → HeldAs m g names c (λ v. v.entering b)
   pub other : (Heads (loops_around m b) b → ⊥) → HeldAs m g names c (λ v. v.value b)
-
--- the loop at this place has this header, and no block with this header has run
-pub record IsNextLoop (m : Method) (made : Made) (i : ℕ) (l : Loop) : Type 0 where
-  pub there : slice_get m.forest.now.loops.items i ≡ Some l
-  pub ahead : HasRun made l.header → ⊥

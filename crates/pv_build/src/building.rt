@@ -12,11 +12,11 @@ ghost use Rattle.pv_build.specs.Stages.{loops_at, loops_around, IsLoopAt, IsMeth
 ghost use Rattle.pv_build.specs.Opening.{BeginsBlock, IsEnteredBy, IsOuter};
 ghost use Rattle.pv_build.specs.Building.{IsOwnLoop, HasBlock, IsNext, IsLast, Begun, IsStageBefore, IsStageFor, IsNothing, IsBuiltOf};
 
-use crate::carrying::carried;
+use crate::carrying::slots_carried;
 use crate::closing::close;
 use crate::ending::root;
 use crate::entering::enter;
-use crate::giving::given;
+use crate::giving::tree_for;
 use crate::method::{Made, Method, Stage};
 use crate::opening::open;
 use crate::starting::start;
@@ -81,7 +81,7 @@ fn outer_loop(method: &Method, b: u32) -> Option<u32>
 }
 
 // What is held where a block is entered, in the region of the loops that are open.
-fn entered(
+fn state_at(
     alloc: Global,
     g: &mut Graph,
     method: &Method,
@@ -103,7 +103,7 @@ fn entered(
     if b == 0 {
         return start(alloc, g, &method.typed.program, frame);
     }
-    let given = given(alloc, g, method, made, at, Target::Node(b))?;
+    let given = tree_for(alloc, g, method, made, at, Target::Node(b))?;
     let never = over(alloc, g, Op::Never, &[])?;
     enter(alloc, g, &given, never, frame)
 }
@@ -125,7 +125,7 @@ fn begin(
     ensures keeps { KeepsFirst made.old.start g.old g.new }
 {
     let at = outer_loop(method, b);
-    let state = entered(alloc, g, method, made, at, b)?;
+    let state = state_at(alloc, g, method, made, at, b)?;
     match own_loop(method, b) {
         Some(i) => open(alloc, g, method, made, i, state),
         None => Ok(state),
@@ -240,8 +240,8 @@ fn finish(alloc: Global, g: &mut Graph, method: &Method, made: &Made) -> Result<
     ensures sort { IfOk result (λ r. IsOfSort g.new r R) }
     ensures grows { GrowsIn 0 g.old g.new }
 {
-    let ends = given(alloc, g, method, made, None, Target::Exit)?;
-    let returns = given(alloc, g, method, made, None, Target::Return)?;
+    let ends = tree_for(alloc, g, method, made, None, Target::Exit)?;
+    let returns = tree_for(alloc, g, method, made, None, Target::Return)?;
     let never = over(alloc, g, Op::Never, &[])?;
     let of = method.typed.program.desc.result;
     root(alloc, g, &ends, &returns, never, of)
@@ -302,7 +302,7 @@ pub(crate) fn build(
         flow,
         forest,
         trees: Trees::new(alloc, flow, forest)?,
-        carried: carried(alloc, typed, flow, forest)?,
+        carried: slots_carried(alloc, typed, flow, forest)?,
     };
     let count = flow.blocks.as_slice().len();
     let mut made = nothing(alloc, g.len(), count, forest.loops.len())?;

@@ -200,7 +200,7 @@ fn united(alloc: Global, blocks: &[Writes], members: &[u32], count: usize) -> Re
 }
 
 /// What each loop of a method carries.
-pub(crate) fn carried(
+pub(crate) fn slots_carried(
     alloc: Global,
     typed: &Typed,
     flow: &Flow,

@@ -13,7 +13,7 @@ ghost use Rattle.pv_build.specs.Closings.{dead_at, MayTie, TiesOne, Closing, May
 ghost use Rattle.pv_build.specs.declared.method.Opened.{Opened};
 
 use crate::entering::node_of;
-use crate::giving::given;
+use crate::giving::tree_for;
 use crate::method::{Closed, Made, Method, Opened, Stage, Theta};
 use crate::slot::Slot;
 use crate::source::Given;
@@ -94,7 +94,7 @@ fn tie_loop(
     ensures ties { IfOk result (λ token. TiesLoop method.now g.old made.now i g.new token) }
     ensures keeps { KeepsFirst made.now.start g.old g.new }
 {
-    let again = given(alloc, g, method, made, Some(i), Target::Back)?;
+    let again = tree_for(alloc, g, method, made, Some(i), Target::Back)?;
     let never = over(alloc, g, Op::Never, &[])?;
     let opened = opened_at(made, i);
     tie_all(alloc, g, &again, never, &opened.thetas)?;
@@ -117,7 +117,7 @@ fn ending(
     ensures sort { IfOk result (λ n. IsOfSort g.new n I) }
     ensures grows { GrowsIn (length (loops_at method.now (Some i))) g.old g.new }
 {
-    let left = given(alloc, g, method, made, Some(i), Target::Leave)?;
+    let left = tree_for(alloc, g, method, made, Some(i), Target::Leave)?;
     node_of(alloc, g, &left, Slot::Token, None)
 }
 

@@ -3,14 +3,13 @@
 ghost use Rattle.std.specs.Prelude.{◌≡◌, ◌≢◌, ◌<◌, ℕ, [], length, slice_get, Some, IfOk};
 ghost use Rattle.pv_graph.specs.declared.node.OpSort.TheVariants.{I};
 ghost use Rattle.pv_graph.specs.Ops.{sort_over};
-ghost use Rattle.pv_graph.specs.Graphs.{IsGraph};
 ghost use Rattle.pv_equations.specs.Exp.{Over, NoExp};
 ghost use Rattle.pv_decide.specs.Sites.{dest_of, Inside};
 ghost use Rattle.pv_decide.specs.Folds.{IsExitOf, IsTestOf, IsAimedAt, NodeFits, AreSound};
 ghost use Rattle.pv_decide.specs.Walks.{leaving, tests_of};
 ghost use Rattle.pv_terms.specs.Terms.{IsFlat, Grows};
 ghost use Rattle.pv_build.specs.Stages.{flow_in, region_at, loops_at, IsLoopAt, IsMethod, IsStage, HasRun, GrowsIn};
-ghost use Rattle.pv_build.specs.Giving.{scope_at, AreReadyFor, IsTargetIn, AreClosedFrom, IsIntFor, IsLeafFor, IsSourceFor, IsGivenFor};
+ghost use Rattle.pv_build.specs.Giving.{scope_at, IsWalk, AreReadyFor, IsTargetIn, AreClosedFrom, IsIntFor, IsLeafFor, IsSourceFor, IsGivenFor};
 ghost use Rattle.pv_build.specs.Leaves.{header_at, header_list, HasExitAt, IsExitAt, IsLeaveFor, HasLeft, Left, HasTested, Tested, AreSourcesFor};
 
 use crate::method::{Closed, Made, Method, Stage};
@@ -23,6 +22,15 @@ use pv_graph::{Graph, NodeId, Op};
 use pv_terms::over;
 use pv_value::Memory;
 use std::alloc::Global;
+
+/// A walk over the tree of the region of a loop, or of the whole method, for a target.
+#[derive(Clone, Copy)]
+struct RegionWalk<'a> {
+    method: &'a Method<'a>,
+    made: &'a Made,
+    at: Option<u32>,
+    target: Target,
+}
 
 // The region of a loop, or the whole method.
 fn region(at: Option<u32>) -> Region
@@ -134,19 +142,19 @@ fn left_op(header: Option<u32>, exit: Exit) -> Op
 fn leave_leaf(
     alloc: Global,
     g: &mut Graph,
-    method: &Method,
-    at: Option<u32>,
+    walk: &RegionWalk,
     b: u32,
     e: u32,
 ) -> Result<Source, Memory>
-    requires graph { IsGraph g.old }
-    requires method { IsMethod method.now }
-    requires region { IsLoopAt method.now at }
-    requires exit { IsExitOf method.now.trees.sites.items (scope_at method.now at) b e }
-    ensures leaf { IfOk result (λ k. IsLeaveFor method.now g.new at b e k) }
+    requires walk { IsWalk walk.now.method.now g.old walk.now.made.now walk.now.at }
+    requires exit { IsExitOf walk.now.method.now.trees.sites.items (scope_at walk.now.method.now walk.now.at) b e }
+    ensures leaf { IfOk result (λ k. IsLeaveFor walk.now.method.now g.new walk.now.at b e k) }
     ensures grows { Grows g.old g.new }
 {
-    let op = left_op(header_of(method, at), exit_of(method.flow, b, e));
+    let op = left_op(
+        header_of(walk.method, walk.at),
+        exit_of(walk.method.flow, b, e),
+    );
     let n = over(alloc, g, op, &[])?;
     Ok(Source::Value(n))
 }
@@ -155,98 +163,62 @@ fn leave_leaf(
 fn exit_leaf(
     alloc: Global,
     g: &mut Graph,
-    method: &Method,
-    made: &Made,
-    at: Option<u32>,
-    target: Target,
+    walk: &RegionWalk,
     b: u32,
     e: u32,
 ) -> Result<Source, Memory>
-    requires method { IsMethod method.now }
-    requires stage { IsStage method.now g.old made.now (loops_at method.now at) }
-    requires region { IsLoopAt method.now at }
-    requires done { HasRun made.now b }
-    requires exit { IsExitOf method.now.trees.sites.items (scope_at method.now at) b e }
-    requires aimed { IsAimedAt method.now.trees.sites.items (scope_at method.now at) target b e }
-    requires other { target ≢ Target.Leave }
-    ensures leaf { IfOk result (λ k. IsLeafFor method.now g.new made.now.names at target b e k) }
-    ensures grows { GrowsIn (length (loops_at method.now at)) g.old g.new }
+    requires walk { IsWalk walk.now.method.now g.old walk.now.made.now walk.now.at }
+    requires done { HasRun walk.now.made.now b }
+    requires exit { IsExitOf walk.now.method.now.trees.sites.items (scope_at walk.now.method.now walk.now.at) b e }
+    requires aimed { IsAimedAt walk.now.method.now.trees.sites.items (scope_at walk.now.method.now walk.now.at) walk.now.target b e }
+    requires other { walk.now.target ≢ Target.Leave }
+    ensures leaf { IfOk result (λ k. IsLeafFor walk.now.method.now g.new walk.now.made.now.names walk.now.at walk.now.target b e k) }
+    ensures grows { GrowsIn (length (loops_at walk.now.method.now walk.now.at)) g.old g.new }
 {
-    let left = closed_from(alloc, method, made, at, b)?;
-    let out = exit_outs(alloc, g, method.typed, &left, left_at(made, b, e))?;
+    let left = closed_from(alloc, walk.method, walk.made, walk.at, b)?;
+    let out = exit_outs(alloc, g, walk.method.typed, &left, left_at(walk.made, b, e))?;
     Ok(Source::Exit(out))
 }
 
 // What is given for a leaf.
-fn leaf(
-    alloc: Global,
-    g: &mut Graph,
-    method: &Method,
-    made: &Made,
-    at: Option<u32>,
-    target: Target,
-    b: u32,
-    e: u32,
-) -> Result<Source, Memory>
-    requires method { IsMethod method.now }
-    requires stage { IsStage method.now g.old made.now (loops_at method.now at) }
-    requires region { IsLoopAt method.now at }
-    requires done { HasRun made.now b }
-    requires exit { IsExitOf method.now.trees.sites.items (scope_at method.now at) b e }
-    requires aimed { IsAimedAt method.now.trees.sites.items (scope_at method.now at) target b e }
-    ensures leaf { IfOk result (λ k. IsLeafFor method.now g.new made.now.names at target b e k) }
-    ensures grows { GrowsIn (length (loops_at method.now at)) g.old g.new }
+fn leaf(alloc: Global, g: &mut Graph, walk: &RegionWalk, b: u32, e: u32) -> Result<Source, Memory>
+    requires walk { IsWalk walk.now.method.now g.old walk.now.made.now walk.now.at }
+    requires done { HasRun walk.now.made.now b }
+    requires exit { IsExitOf walk.now.method.now.trees.sites.items (scope_at walk.now.method.now walk.now.at) b e }
+    requires aimed { IsAimedAt walk.now.method.now.trees.sites.items (scope_at walk.now.method.now walk.now.at) walk.now.target b e }
+    ensures leaf { IfOk result (λ k. IsLeafFor walk.now.method.now g.new walk.now.made.now.names walk.now.at walk.now.target b e k) }
+    ensures grows { GrowsIn (length (loops_at walk.now.method.now walk.now.at)) g.old g.new }
 {
-    match target {
-        Target::Leave => leave_leaf(alloc, g, method, at, b, e),
-        _ => exit_leaf(alloc, g, method, made, at, target, b, e),
+    match walk.target {
+        Target::Leave => leave_leaf(alloc, g, walk, b, e),
+        _ => exit_leaf(alloc, g, walk, b, e),
     }
 }
 
 // What is given for a test.
-fn test(
-    alloc: Global,
-    g: &mut Graph,
-    method: &Method,
-    made: &Made,
-    at: Option<u32>,
-    b: u32,
-    t: u32,
-) -> Result<Source, Memory>
-    requires method { IsMethod method.now }
-    requires stage { IsStage method.now g.old made.now (loops_at method.now at) }
-    requires region { IsLoopAt method.now at }
-    requires done { HasRun made.now b }
-    requires test { IsTestOf method.now.trees.sites.items (scope_at method.now at) b t }
-    ensures test { IfOk result (λ k. IsIntFor method.now g.new made.now.names k (λ v. tests_of (flow_in method.now) v (loops_at method.now at) b t)) }
-    ensures grows { GrowsIn (length (loops_at method.now at)) g.old g.new }
+fn test(alloc: Global, g: &mut Graph, walk: &RegionWalk, b: u32, t: u32) -> Result<Source, Memory>
+    requires walk { IsWalk walk.now.method.now g.old walk.now.made.now walk.now.at }
+    requires done { HasRun walk.now.made.now b }
+    requires test { IsTestOf walk.now.method.now.trees.sites.items (scope_at walk.now.method.now walk.now.at) b t }
+    ensures test { IfOk result (λ k. IsIntFor walk.now.method.now g.new walk.now.made.now.names k (λ v. tests_of (flow_in walk.now.method.now) v (loops_at walk.now.method.now walk.now.at) b t)) }
+    ensures grows { GrowsIn (length (loops_at walk.now.method.now walk.now.at)) g.old g.new }
 {
-    let left = closed_from(alloc, method, made, at, b)?;
-    let out = value_outs(alloc, g, &left, tested_at(made, b, t))?;
+    let left = closed_from(alloc, walk.method, walk.made, walk.at, b)?;
+    let out = value_outs(alloc, g, &left, tested_at(walk.made, b, t))?;
     Ok(Source::Value(out))
 }
 
 // What is given for a node of a tree of the region.
-fn source(
-    alloc: Global,
-    g: &mut Graph,
-    method: &Method,
-    made: &Made,
-    at: Option<u32>,
-    target: Target,
-    node: TreeNode,
-) -> Result<Source, Memory>
-    requires method { IsMethod method.now }
-    requires stage { IsStage method.now g.old made.now (loops_at method.now at) }
-    requires region { IsLoopAt method.now at }
-    requires ready { AreReadyFor method.now made.now at target }
-    requires fits { (n : ℕ) × NodeFits method.now.trees.sites.items (scope_at method.now at) target n node }
-    ensures source { IfOk result (λ k. IsSourceFor method.now g.new made.now.names at target node k) }
-    ensures grows { GrowsIn (length (loops_at method.now at)) g.old g.new }
+fn source(alloc: Global, g: &mut Graph, walk: &RegionWalk, node: TreeNode) -> Result<Source, Memory>
+    requires walk { IsWalk walk.now.method.now g.old walk.now.made.now walk.now.at }
+    requires ready { AreReadyFor walk.now.method.now walk.now.made.now walk.now.at walk.now.target }
+    requires fits { (n : ℕ) × NodeFits walk.now.method.now.trees.sites.items (scope_at walk.now.method.now walk.now.at) walk.now.target n node }
+    ensures source { IfOk result (λ k. IsSourceFor walk.now.method.now g.new walk.now.made.now.names walk.now.at walk.now.target node k) }
+    ensures grows { GrowsIn (length (loops_at walk.now.method.now walk.now.at)) g.old g.new }
 {
     match node {
-        TreeNode::Leaf { block, exit } => leaf(alloc, g, method, made, at, target, block, exit),
-        TreeNode::Test { block, test: t, .. } => test(alloc, g, method, made, at, block, t),
+        TreeNode::Leaf { block, exit } => leaf(alloc, g, walk, block, exit),
+        TreeNode::Test { block, test: t, .. } => test(alloc, g, walk, block, t),
         TreeNode::Nothing | TreeNode::Dead => Ok(Source::Nothing),
     }
 }
@@ -255,30 +227,25 @@ fn source(
 fn sources(
     alloc: Global,
     g: &mut Graph,
-    method: &Method,
-    made: &Made,
-    at: Option<u32>,
-    target: Target,
+    walk: &RegionWalk,
     nodes: &[TreeNode],
 ) -> Result<Vec<Source>, Memory>
-    requires method { IsMethod method.now }
-    requires stage { IsStage method.now g.old made.now (loops_at method.now at) }
-    requires region { IsLoopAt method.now at }
-    requires ready { AreReadyFor method.now made.now at target }
-    requires fits { AreSound method.now.trees.sites.items (scope_at method.now at) target nodes.now }
-    ensures sources { IfOk result (λ ks. AreSourcesFor method.now g.new made.now.names at target nodes.now ks.items) }
-    ensures grows { GrowsIn (length (loops_at method.now at)) g.old g.new }
+    requires walk { IsWalk walk.now.method.now g.old walk.now.made.now walk.now.at }
+    requires ready { AreReadyFor walk.now.method.now walk.now.made.now walk.now.at walk.now.target }
+    requires fits { AreSound walk.now.method.now.trees.sites.items (scope_at walk.now.method.now walk.now.at) walk.now.target nodes.now }
+    ensures sources { IfOk result (λ ks. AreSourcesFor walk.now.method.now g.new walk.now.made.now.names walk.now.at walk.now.target nodes.now ks.items) }
+    ensures grows { GrowsIn (length (loops_at walk.now.method.now walk.now.at)) g.old g.new }
 {
     let mut sources = Vec::new(alloc);
     for node in nodes {
-        let next = source(alloc, g, method, made, at, target, *node)?;
+        let next = source(alloc, g, walk, *node)?;
         sources.push(next)?;
     }
     Ok(sources)
 }
 
 /// The tree of the region of a loop, or of the whole method, for a target, with what is given for its nodes.
-pub(crate) fn given(
+pub(crate) fn tree_for(
     alloc: Global,
     g: &mut Graph,
     method: &Method,
@@ -295,7 +262,13 @@ pub(crate) fn given(
     ensures grows { GrowsIn (length (loops_at method.now at)) g.old g.new }
 {
     let tree = method.trees.walk(alloc, region(at), target)?;
-    let sources = sources(alloc, g, method, made, at, target, &tree.nodes)?;
+    let walk = RegionWalk {
+        method,
+        made,
+        at,
+        target,
+    };
+    let sources = sources(alloc, g, &walk, &tree.nodes)?;
     Ok(Given {
         nodes: tree.nodes,
         sources,

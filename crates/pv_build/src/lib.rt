@@ -14,6 +14,7 @@
 //! (`ending`). `specs/Stages` has the invariant, `IsStage`: what is made of a method stands for what the equations
 //! say, each theta has its kids or is one of an open loop, and no node from before a loop leads into it. The other
 //! files of `specs/` but for `Structure`, `Unfolded`, `Conversion` and `Reasons` are private to this crate too.
+//! `proofs/Lib` lists the lemmas pass by pass, in this order; `proofs/Words` brings them the words of which they speak.
 //!
 //! The layer above uses `convert`: its root unfolds as whatever solves the equations of the method's flow
 //! says (`IsRootOf` in `specs/Conversion`), so that by the laws of `pv_runs` it has the outcomes of the

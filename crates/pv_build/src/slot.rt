@@ -1,12 +1,14 @@
 //! Slots of the equations, and their nodes where a block is left.
 
-ghost use Rattle.std.specs.Prelude.{◌≡◌, ◌<◌, ◌+◌, IfSome};
+ghost use Rattle.std.specs.Prelude.{◌≡◌, ◌<◌, ◌+◌, IfOk, IfSome};
 ghost use Rattle.pv_block.specs.Ran.{node_of_cell, local_node, stack_node, slot_of, ending_slot, slot_at};
 ghost use Rattle.pv_build.specs.Slots.{number, number_in};
+ghost use Rattle.pv_build.specs.Openings.{IsAboveSlots};
 
 use pv_block::{Cell, Ending, Leaving, State};
 use pv_frame::Sort;
 use pv_graph::NodeId;
+use pv_value::Memory;
 
 /// What a block computes from, and what it leaves.
 #[derive(Clone, Copy, Debug)]
@@ -28,6 +30,26 @@ pub(crate) enum Part {
 }
 
 impl Slot {
+    /// The slot with this number in the equations.
+    pub(crate) fn with_number(n: u32) -> Slot
+        ensures { number result ≡ n }
+    {
+        match n {
+            0 => Slot::Token,
+            1 => Slot::Fault,
+            2 => Slot::Result,
+            3 => Slot::Heap,
+            _ => {
+                let place = (n as usize - 4) / 2;
+                if n % 2 == 0 {
+                    Slot::Local(place)
+                } else {
+                    Slot::Place(place)
+                }
+            }
+        }
+    }
+
     /// The number of the slot in the equations, if it is small enough.
     pub(crate) fn number(self) -> Option<u32>
         ensures { IfSome result (λ n. n ≡ number self) }
@@ -95,7 +117,8 @@ fn of_place(stack: &[Cell], j: usize) -> Option<NodeId>
     of_cell(stack[stack.len() - 1 - j])
 }
 
-fn of_state(state: &State, slot: Slot) -> Option<NodeId>
+/// The node of a slot where it is known.
+pub(crate) fn of_state(state: &State, slot: Slot) -> Option<NodeId>
     ensures { result ≡ slot_of state.now (number slot) }
 {
     match slot {
@@ -105,6 +128,21 @@ fn of_state(state: &State, slot: Slot) -> Option<NodeId>
         Slot::Place(j) => of_place(state.stack.as_slice(), j),
         Slot::Fault | Slot::Result => None,
     }
+}
+
+/// A number above those of all slots whose nodes are known. 2^30 locals or places count as out of memory.
+pub(crate) fn number_limit(state: &State) -> Result<u32, Memory>
+    ensures { IfOk result (λ limit. IsAboveSlots state.now limit) }
+{
+    let most = state
+        .locals
+        .as_slice()
+        .len()
+        .max(state.stack.as_slice().len());
+    if most > 0x3FFF_FFFF {
+        return Err(Memory);
+    }
+    Ok(4 + 2 * most as u32)
 }
 
 fn of_ending(ending: Ending, slot: Slot) -> Option<NodeId>

@@ -1,55 +1,38 @@
 use Rattle.std.proofs.Common.{length}
-use Rattle.pv_build.specs.Stages.{IsBeyond, loops_at}
+use Rattle.pv_build.proofs.Words.{IfOk-weaker, IsBeyond, loops_at}
 use Rattle.pv_build.proofs.Staged.{first_kept, first_then}
 use Rattle.pv_build.proofs.Turns.{block_low}
-use Rattle.pv_build.proofs.Blocks.{three_ok, begun_plain, opens_next, opens_stage, opens_reads, opens_sorts, begun_open}
+use Rattle.pv_build.proofs.Blocks.{begun_plain, can_open}
 use Rattle.pv_build.proofs.building.begin.Goals as goal
 
 pub outer_loop-at-requires-clause-block : goal.outer_loop-at-requires-clause-block
 outer_loop-at-requires-clause-block c = block_low c.args.method.now c.requires.method c.requires.next.place c.args.b c.requires.next.at
 
-pub entered-requires-clause-stage : goal.entered-requires-clause-stage
-entered-requires-clause-stage c = c.requires.stage c.outer_loop-at.result c.outer_loop-at.ensures.outer
+pub state_at-requires-clause-stage : goal.state_at-requires-clause-stage
+state_at-requires-clause-stage c = c.requires.stage c.outer_loop-at.result c.outer_loop-at.ensures.outer
 
 pub own_loop-requires-clause-block : goal.own_loop-requires-clause-block
 own_loop-requires-clause-block c = block_low c.args.method.now c.requires.method c.requires.next.place c.args.b c.requires.next.at
 
-pub open-requires-clause-next : goal.open-requires-clause-next
-open-requires-clause-next c =
-    opens_next c.args.method.now c.requires.method c.args.made.now c.args.b c.outer_loop-at.result c.outer_loop-at.ensures.region c.outer_loop-at.ensures.outer c.args.g.now c.entered.new.g c.requires.stage c.entered.ensures.grows
-    c.in-Some.i c.in-Some.ensures c.requires.next
-
-pub open-requires-clause-stage : goal.open-requires-clause-stage
-open-requires-clause-stage c =
-    opens_stage c.args.method.now c.requires.method c.args.made.now c.args.b c.outer_loop-at.result c.outer_loop-at.ensures.region c.outer_loop-at.ensures.outer c.args.g.now c.entered.new.g c.requires.stage c.entered.ensures.grows
-    c.in-Some.i c.in-Some.ensures
-
-pub open-requires-clause-enters : goal.open-requires-clause-enters
-open-requires-clause-enters c =
-    opens_reads c.args.method.now c.requires.method c.args.made.now c.args.b c.outer_loop-at.result c.outer_loop-at.ensures.region c.outer_loop-at.ensures.outer c.args.g.now c.entered.new.g c.requires.stage c.entered.ensures.grows
-    c.in-Some.i c.in-Some.ensures c.in_ok-state.state c.in_ok-state.ensures.reads
-
-pub open-requires-clause-sorts : goal.open-requires-clause-sorts
-open-requires-clause-sorts c =
-    opens_sorts c.args.method.now c.requires.method c.args.made.now c.args.b c.outer_loop-at.result c.outer_loop-at.ensures.region c.outer_loop-at.ensures.outer c.args.g.now c.entered.new.g c.requires.stage c.entered.ensures.grows
-    c.in-Some.i c.in-Some.ensures c.in_ok-state.state c.in_ok-state.ensures.sorts
+pub open-requires-clause-can : goal.open-requires-clause-can
+open-requires-clause-can c =
+    can_open c.args.method.now c.requires.method c.args.made.now c.args.b c.outer_loop-at.result c.outer_loop-at.ensures.region c.outer_loop-at.ensures.outer c.args.g.now c.state_at.new.g c.requires.stage c.state_at.ensures.grows
+    c.in-Some.i c.in-Some.ensures c.requires.next c.in_ok-state.state c.in_ok-state.ensures.reads c.in_ok-state.ensures.sorts
 
 pub returns-in_err-state-clause-keeps : goal.returns-in_err-state-clause-keeps
-returns-in_err-state-clause-keeps c = first_kept (IsBeyond (length (loops_at c.args.method.now c.outer_loop-at.result))) c.args.made.now.start c.args.g.now c.entered.new.g c.entered.ensures.grows
+returns-in_err-state-clause-keeps c = first_kept (IsBeyond (length (loops_at c.args.method.now c.outer_loop-at.result))) c.args.made.now.start c.args.g.now c.state_at.new.g c.state_at.ensures.grows
 
 pub returns-in-Some-clause-begun : goal.returns-in-Some-clause-begun
-returns-in-Some-clause-begun c =
-    three_ok c.open.result _ _ _ _ (λ s reads sorts at_stage. begun_open c.args.method.now c.requires.method c.args.made.now c.args.b c.outer_loop-at.result c.outer_loop-at.ensures.region c.outer_loop-at.ensures.outer c.args.g.now c.entered.new.g c.requires.stage c.entered.ensures.grows
-    c.in-Some.i c.in-Some.ensures c.open.new.g c.open.new.made s reads sorts at_stage) c.open.ensures.reads c.open.ensures.sorts c.open.ensures.stage
+returns-in-Some-clause-begun c = IfOk-weaker c.open.result _ _ (λ s begun. begun c.args.b c.in-Some.ensures) c.open.ensures.begun
 
 pub returns-in-Some-clause-keeps : goal.returns-in-Some-clause-keeps
 returns-in-Some-clause-keeps c =
-    first_then c.args.made.now.start c.args.g.now c.entered.new.g c.open.new.g (first_kept (IsBeyond (length (loops_at c.args.method.now c.outer_loop-at.result))) c.args.made.now.start c.args.g.now c.entered.new.g c.entered.ensures.grows) c.open.ensures.keeps
+    first_then c.args.made.now.start c.args.g.now c.state_at.new.g c.open.new.g (first_kept (IsBeyond (length (loops_at c.args.method.now c.outer_loop-at.result))) c.args.made.now.start c.args.g.now c.state_at.new.g c.state_at.ensures.grows) c.open.ensures.keeps
 
 pub returns-in-None-clause-begun : goal.returns-in-None-clause-begun
 returns-in-None-clause-begun c =
-    begun_plain c.args.method.now c.requires.method c.args.made.now c.args.b c.outer_loop-at.result c.outer_loop-at.ensures.region c.outer_loop-at.ensures.outer c.args.g.now c.entered.new.g c.requires.stage c.entered.ensures.grows
+    begun_plain c.args.method.now c.requires.method c.args.made.now c.args.b c.outer_loop-at.result c.outer_loop-at.ensures.region c.outer_loop-at.ensures.outer c.args.g.now c.state_at.new.g c.requires.stage c.state_at.ensures.grows
     c.in_ok-state.state c.in-None.ensures c.in_ok-state.ensures.reads c.in_ok-state.ensures.sorts
 
 pub returns-in-None-clause-keeps : goal.returns-in-None-clause-keeps
-returns-in-None-clause-keeps c = first_kept (IsBeyond (length (loops_at c.args.method.now c.outer_loop-at.result))) c.args.made.now.start c.args.g.now c.entered.new.g c.entered.ensures.grows
+returns-in-None-clause-keeps c = first_kept (IsBeyond (length (loops_at c.args.method.now c.outer_loop-at.result))) c.args.made.now.start c.args.g.now c.state_at.new.g c.state_at.ensures.grows

@@ -1,7 +1,5 @@
 use Rattle.std.proofs.Common.{◌≡◌, ℕ, ◌+◌, ◌<◌, ◌≤◌, List, length, slice_get, refl, sym, ap, ◌∙◌, subst, rules, arith}
-use Rattle.std.proofs.lemmas.Option.{slice_get_read}
-use Rattle.pv_build.specs.Stages.{AreDone}
-use Rattle.pv_build.specs.Building.{IsStageFor}
+use Rattle.pv_build.proofs.Words.{slice_get_read, AreDone, IsStageFor}
 use Rattle.pv_build.proofs.Turns.{done_same}
 use Rattle.pv_build.proofs.Restaged.{first_for, first_same, first_on, past_end}
 use Rattle.pv_build.proofs.building.blocks.Goals as goal

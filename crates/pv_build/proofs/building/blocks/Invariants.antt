@@ -1,6 +1,5 @@
 use Rattle.std.proofs.Common.{◌≡◌, slice_get}
-use Rattle.pv_build.specs.Stages.{AreDone, KeepsFirst}
-use Rattle.pv_build.specs.Building.{IsStageFor}
+use Rattle.pv_build.proofs.Words.{AreDone, KeepsFirst, IsStageFor}
 use Rattle.pv_build.proofs.building.blocks.Given as goal
 
 abbrev pub invariant-loop-k : goal.invariant-loop-k

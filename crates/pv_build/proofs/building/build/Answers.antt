@@ -1,7 +1,5 @@
 use Rattle.std.proofs.Common.{◌≡◌, ℕ, List, length, refl, sym, ap, ◌∙◌, subst, arith}
-use Rattle.std.proofs.lemmas.Result.{IfOk-weaker}
-use Rattle.pv_flow.specs.declared.block.Block.{Block}
-use Rattle.pv_build.specs.Stages.{KeepsFirst}
+use Rattle.pv_build.proofs.Words.{IfOk-weaker, Block, KeepsFirst}
 use Rattle.pv_build.proofs.Flowing.{for_walks}
 use Rattle.pv_build.proofs.Restaged.{nothing_same, first_stage, first_done}
 use Rattle.pv_build.proofs.Finished.{built_keeps, built_enlarges, kept}
@@ -11,7 +9,7 @@ pub new-requires : goal.new-requires
 new-requires c = for_walks c.args.typed.now.program c.args.typed.now.frames c.args.flow.now.blocks c.args.forest.now c.requires.routine c.args.flow.now refl
 
 pub blocks-requires-clause-method : goal.blocks-requires-clause-method
-blocks-requires-clause-method c = record { routine = c.requires.routine; trees = c.in_ok-new.ensures; carries = c.in_ok-carried.ensures }
+blocks-requires-clause-method c = record { routine = c.requires.routine; trees = c.in_ok-new.ensures; carries = c.in_ok-slots_carried.ensures }
 
 pub blocks-requires-clause-stage : goal.blocks-requires-clause-stage
 blocks-requires-clause-stage c =

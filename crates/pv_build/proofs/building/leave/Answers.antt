@@ -1,6 +1,5 @@
 use Rattle.std.proofs.Common.{◌<◌, length, Some, refl, arith}
-use Rattle.std.specs.Vec.{with_item}
-use Rattle.pv_terms.specs.Terms.{IsFlat}
+use Rattle.pv_build.proofs.Words.{with_item, IsFlat}
 use Rattle.pv_build.proofs.Plain.{are_plain}
 use Rattle.pv_build.proofs.Staged.{first_kept, first_then}
 use Rattle.pv_build.proofs.Turns.{block_low, next_block, done_same}

@@ -1,6 +1,5 @@
 use Rattle.std.proofs.Common.{◌≡◌, ℕ, List, [], ◌∷◌, ◌++◌, Option, None, replicate, ap, ◌∙◌, arith}
-use Rattle.std.proofs.lemmas.List.{replicate_more}
-use Rattle.pv_block.specs.declared.ran.Ran.{Ran}
+use Rattle.pv_build.proofs.Words.{replicate_more, Ran}
 use Rattle.pv_build.proofs.building.no_blocks.Goals as goal
 
 pub loop-init : goal.loop-init

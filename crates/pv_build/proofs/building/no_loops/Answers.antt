@@ -1,6 +1,5 @@
 use Rattle.std.proofs.Common.{◌≡◌, ℕ, List, [], ◌∷◌, ◌++◌, replicate, ap, ◌∙◌, arith}
-use Rattle.std.proofs.lemmas.List.{replicate_more}
-use Rattle.pv_build.specs.declared.method.Stage.{Stage}
+use Rattle.pv_build.proofs.Words.{replicate_more, Stage}
 use Rattle.pv_build.specs.declared.method.Stage.TheVariants as stage
 use Rattle.pv_build.proofs.building.no_loops.Goals as goal
 

@@ -1,7 +1,5 @@
-use Rattle.std.proofs.Common.{◌≡◌, ℕ, ◌+◌, List, ◌∷◌, [], length, length-append, Some, slice_get, ap, sym, ◌∙◌, subst, arith}
-use Rattle.pv_flow.specs.declared.block.Block.{Block}
-use Rattle.pv_build.specs.declared.carrying.Writes.{Writes}
-use Rattle.pv_build.specs.Carried.{IsWritten}
+use Rattle.std.proofs.Common.{◌≡◌, ℕ, ◌+◌, List, [], ◌∷◌, length, length-append, Some, slice_get, ap, sym, ◌∙◌, subst, arith}
+use Rattle.pv_build.proofs.Words.{Block, Writes, IsWritten}
 use Rattle.pv_build.proofs.Carries.{written_more}
 use Rattle.pv_build.proofs.carrying.all_written.Goals as goal
 

@@ -1,7 +1,5 @@
 use Rattle.std.proofs.Common.{◌≡◌, ℕ, length, Some, slice_get}
-use Rattle.pv_flow.specs.declared.block.Block.{Block}
-use Rattle.pv_build.specs.declared.carrying.Writes.{Writes}
-use Rattle.pv_build.specs.Carried.{IsWritten}
+use Rattle.pv_build.proofs.Words.{Block, Writes, IsWritten}
 use Rattle.pv_build.proofs.carrying.all_written.Given as goal
 
 abbrev pub invariant-loop-block : goal.invariant-loop-block

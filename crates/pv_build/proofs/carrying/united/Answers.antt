@@ -1,6 +1,5 @@
 use Rattle.std.proofs.Common.{◌≡◌, ℕ, ◌<◌, length, take, take_all, get_or, Some, slice_get, sym, ap, ◌∙◌}
-use Rattle.std.specs.List.{list_any}
-use Rattle.std.proofs.lemmas.List.Elements.{Contains-get_or}
+use Rattle.pv_build.proofs.Words.{list_any, Contains-get_or}
 use Rattle.pv_build.proofs.Uniting.{block_at, marks_as, union_more}
 use Rattle.pv_build.proofs.carrying.united.Goals as goal
 

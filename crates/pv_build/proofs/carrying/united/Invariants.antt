@@ -1,7 +1,5 @@
 use Rattle.std.proofs.Common.{◌≡◌, ℕ, Bool, length, take, Some, slice_get}
-use Rattle.std.specs.List.{list_any}
-use Rattle.pv_build.specs.declared.carrying.Writes.{Writes}
-use Rattle.pv_build.specs.Carried.{Marks}
+use Rattle.pv_build.proofs.Words.{list_any, Writes, Marks}
 use Rattle.pv_build.proofs.carrying.united.Given as goal
 
 abbrev pub invariant-loop-member : goal.invariant-loop-member

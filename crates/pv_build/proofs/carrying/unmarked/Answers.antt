@@ -1,5 +1,5 @@
 use Rattle.std.proofs.Common.{◌≡◌, ℕ, Bool, false, List, [], ◌∷◌, ◌++◌, replicate, ap, ◌∙◌, arith}
-use Rattle.std.proofs.lemmas.List.{replicate_more}
+use Rattle.pv_build.proofs.Words.{replicate_more}
 use Rattle.pv_build.proofs.carrying.unmarked.Goals as goal
 
 pub loop-init : goal.loop-init

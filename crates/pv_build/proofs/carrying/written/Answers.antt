@@ -1,8 +1,5 @@
 use Rattle.std.proofs.Common.{◌≡◌, ◌+◌, Bool, ap, sym, ◌∙◌, subst}
-use Rattle.std.specs.Prelude.{◌||◌}
-use Rattle.pv_runs.specs.Held.{held_at}
-use Rattle.pv_runs.specs.Carrying.{writes_heap}
-use Rattle.pv_build.specs.Carried.{Walked}
+use Rattle.pv_build.proofs.Words.{◌||◌, held_at, writes_heap, Walked}
 use Rattle.pv_build.proofs.Carries.{walk_begins, walk_goes_on, walk_ends}
 use Rattle.pv_build.proofs.carrying.written.Goals as goal
 use Rattle.pv_build.proofs.carrying.written.Goals.{then-heap, else-heap}

@@ -1,7 +1,4 @@
-use Rattle.pv_frame.specs.declared.frame.Frame.{Frame}
-use Rattle.pv_frame.specs.Frames.{IsFrameAt}
-use Rattle.pv_runs.specs.Held.{held_at}
-use Rattle.pv_build.specs.Carried.{Walked}
+use Rattle.pv_build.proofs.Words.{Frame, IsFrameAt, held_at, Walked}
 use Rattle.pv_build.proofs.carrying.written.Given as goal
 
 abbrev pub invariant-loop-action : goal.invariant-loop-action

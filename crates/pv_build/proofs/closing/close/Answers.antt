@@ -1,8 +1,5 @@
 use Rattle.std.proofs.Common.{◌≡◌, length, Some, ap, ◌∙◌}
-use Rattle.std.proofs.lemmas.Option.{get_or_from_slice_get}
-use Rattle.pv_loops.specs.declared.forest.Loop.{Loop}
-use Rattle.pv_graph.proofs.Cited.{found}
-use Rattle.pv_build.specs.Stages.{loops_at, IsBeyond}
+use Rattle.pv_build.proofs.Words.{get_or_from_slice_get, Loop, found, loops_at, IsBeyond}
 use Rattle.pv_build.proofs.Looped.{deep}
 use Rattle.pv_build.proofs.Staged.{first_kept, first_then, stage_grown}
 use Rattle.pv_build.proofs.Shut.{stage_shut}

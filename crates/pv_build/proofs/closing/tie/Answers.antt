@@ -1,9 +1,5 @@
 use Rattle.std.proofs.Common.{ℕ, Option, Err, sym, ap, ◌∙◌, subst}
-use Rattle.pv_graph.specs.declared.fault.GraphFault.{GraphFault}
-use Rattle.pv_terms.specs.Terms.{IsFlat, IsOfSort}
-use Rattle.pv_terms.proofs.Cited.{on_err, grows_unchanged, sorted_within}
-use Rattle.pv_build.specs.Slots.{number}
-use Rattle.pv_build.specs.Sources.{Gives}
+use Rattle.pv_build.proofs.Words.{GraphFault, IsFlat, IsOfSort, on_err, grows_unchanged, sorted_within, number, Gives}
 use Rattle.pv_build.proofs.Staged.{first_kept, first_then}
 use Rattle.pv_build.proofs.closing.tie.Goals as goal
 

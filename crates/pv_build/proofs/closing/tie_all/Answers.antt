@@ -1,9 +1,6 @@
 use Rattle.std.proofs.Common.{◌≡◌, ℕ, ◌<◌, List, length, get_or, Some, slice_get, subst, arith}
-use Rattle.std.proofs.lemmas.Option.{slice_get-get_or}
-use Rattle.pv_terms.proofs.Cited.{on_err}
+use Rattle.pv_build.proofs.Words.{slice_get-get_or, on_err, Theta, AreTied}
 use Rattle.pv_build.specs.declared.slot.Slot.TheVariants as slot
-use Rattle.pv_build.specs.declared.method.Theta.{Theta}
-use Rattle.pv_build.specs.Closings.{AreTied}
 use Rattle.pv_build.proofs.Staged.{first_then}
 use Rattle.pv_build.proofs.Ties.{none_tied, may_tie, folds_one, one_more, tied_first}
 use Rattle.pv_build.proofs.closing.tie_all.Goals as goal

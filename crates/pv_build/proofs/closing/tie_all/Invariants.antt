@@ -1,4 +1,4 @@
-use Rattle.pv_build.specs.Closings.{Closing, MayTieAll, AreTied}
+use Rattle.pv_build.proofs.Words.{Closing, MayTieAll, AreTied}
 use Rattle.pv_build.proofs.closing.tie_all.Given as goal
 
 abbrev pub invariant-loop-x : goal.invariant-loop-x

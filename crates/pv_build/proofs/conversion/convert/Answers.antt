@@ -1,7 +1,5 @@
 use Rattle.std.proofs.Common.{sym, subst}
-use Rattle.pv_frame.specs.declared.program.Program.{Program}
-use Rattle.pv_frame.specs.Causes.{IsAccepted}
-use Rattle.pv_build.specs.Structure.{IsLaidOut}
+use Rattle.pv_build.proofs.Words.{Program, IsAccepted, IsLaidOut}
 use Rattle.pv_build.proofs.Laid.{is_routine, is_root}
 use Rattle.pv_build.proofs.conversion.convert.Goals as goal
 

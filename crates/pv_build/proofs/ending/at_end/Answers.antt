@@ -1,5 +1,4 @@
-use Rattle.std.proofs.lemmas.Result.{IfOk-weaker}
-use Rattle.pv_terms.proofs.Cited.{grows_then}
+use Rattle.pv_build.proofs.Words.{IfOk-weaker, grows_then}
 use Rattle.pv_build.proofs.Kept.{has_no_kids}
 use Rattle.pv_build.proofs.Folding.{some_or_else, none_or_else, some_sorted}
 use Rattle.pv_build.proofs.ending.at_end.Goals as goal

@@ -1,15 +1,6 @@
-use Rattle.std.proofs.Common.{[], None, refl, ap, ◌∙◌}
-use Rattle.std.proofs.lemmas.Result.{IfOk-weaker}
-use Rattle.pv_graph.specs.declared.node.Op.{Op}
+use Rattle.std.proofs.Common.{None, refl, ap, ◌∙◌, []}
+use Rattle.pv_build.proofs.Words.{IfOk-weaker, Op, T, F, H, R, sort_over, Over, NoExp, Then, three, or_else, never_exp, Grows, IsOfSort, grows_then, none_of, default_sort}
 use Rattle.pv_graph.specs.declared.node.Op.TheVariants as op
-use Rattle.pv_graph.specs.declared.node.OpSort.TheVariants.{T, F, H, R}
-use Rattle.pv_graph.specs.Ops.{sort_over}
-use Rattle.pv_equations.specs.Exp.{Over, NoExp, Then, three}
-use Rattle.pv_equations.specs.Equations.{or_else, never_exp}
-use Rattle.pv_terms.specs.Terms.{Grows, IsOfSort}
-use Rattle.pv_terms.proofs.Cited.{grows_then}
-use Rattle.pv_build.specs.Unfolded.{none_of}
-use Rattle.pv_build.specs.Ends.{default_sort}
 use Rattle.pv_build.proofs.Kept.{sort_kept, reads_kept, gives_kept, folds_kept}
 use Rattle.pv_build.proofs.Defaults.{default_has}
 use Rattle.pv_build.proofs.Rooting.{root_has, result_reads}

@@ -1,9 +1,6 @@
 use Rattle.std.proofs.Common.{refl, sym, subst}
-use Rattle.pv_frame.specs.declared.sort.Sort.{Sort}
+use Rattle.pv_build.proofs.Words.{Sort, T, IsOfSort, op_sort}
 use Rattle.pv_graph.specs.declared.node.Op.TheVariants as op
-use Rattle.pv_graph.specs.declared.node.OpSort.TheVariants.{T}
-use Rattle.pv_terms.specs.Terms.{IsOfSort}
-use Rattle.pv_block.specs.Sorted.{op_sort}
 use Rattle.pv_build.proofs.Kept.{has_no_kids}
 use Rattle.pv_build.proofs.Started.{known_of}
 use Rattle.pv_build.proofs.entering.cell.Goals as goal

@@ -1,13 +1,6 @@
 use Rattle.std.proofs.Common.{◌≡◌, ℕ, ◌+◌, List, [], ◌∷◌, length, length-append, get_or, Some, None, slice_get, sym, ap, ◌∙◌, subst, arith}
-use Rattle.std.proofs.lemmas.Option.{slice_get-get_or}
-use Rattle.pv_frame.specs.declared.sort.Sort.{Sort}
+use Rattle.pv_build.proofs.Words.{slice_get-get_or, Sort, grows_same, grows_then, Cell, op_sort, IsCellOf, number, number_in, CellGives, CellFoldsToOne}
 use Rattle.pv_frame.specs.declared.sort.Sort.TheVariants as sort
-use Rattle.pv_terms.proofs.Cited.{grows_same, grows_then}
-use Rattle.pv_block.specs.declared.held.Cell.{Cell}
-use Rattle.pv_block.specs.Sorted.{op_sort}
-use Rattle.pv_block.specs.Ran.{IsCellOf}
-use Rattle.pv_build.specs.Slots.{number, number_in}
-use Rattle.pv_build.specs.States.{CellGives, CellFoldsToOne}
 use Rattle.pv_build.proofs.Lists.{each_push, zip_each}
 use Rattle.pv_build.proofs.Kept.{gives_kept, folds_kept}
 use Rattle.pv_build.proofs.Stating.{EnterCell, enter_cell, enter_cell_kept}

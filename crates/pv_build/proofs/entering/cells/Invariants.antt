@@ -1,6 +1,5 @@
 use Rattle.std.proofs.Common.{◌≡◌, ℕ, length, Some, slice_get}
-use Rattle.pv_terms.specs.Terms.{Grows}
-use Rattle.pv_block.specs.declared.held.Cell.{Cell}
+use Rattle.pv_build.proofs.Words.{Grows, Cell}
 use Rattle.pv_build.proofs.Stating.{EnterCell}
 use Rattle.pv_build.proofs.entering.cells.Given as goal
 

@@ -1,14 +1,8 @@
 use Rattle.std.proofs.Common.{◌≡◌, ℕ, List, length, Some, None, sym, subst}
-use Rattle.pv_frame.specs.declared.sort.Sort.{Sort}
-use Rattle.pv_graph.specs.declared.node.OpSort.TheVariants.{T, H}
-use Rattle.pv_terms.specs.Terms.{Grows}
-use Rattle.pv_terms.proofs.Cited.{grows_then}
-use Rattle.pv_block.specs.declared.held.Cell.{Cell}
-use Rattle.pv_block.specs.Ran.{IsCellOf}
+use Rattle.pv_build.proofs.Words.{Sort, T, H, Grows, grows_then, Cell, IsCellOf, CellsGive, CellsFold, CellsFoldToSome, CellsRead, AreCellsOf}
 use Rattle.pv_build.specs.declared.slot.Part.TheVariants as part
-use Rattle.pv_build.specs.States.{CellsGive, CellsFold, CellsFoldToSome, CellsRead, AreCellsOf}
 use Rattle.pv_build.proofs.Kept.{sort_kept, reads_kept, cells_kept, gives_kept, folds_kept, cells_give_kept, cells_fold_kept}
-use Rattle.pv_build.proofs.Leading.{zip_length}
+use Rattle.pv_build.proofs.Lists.{zip_long}
 use Rattle.pv_build.proofs.Stating.{state_reads, cells_read_kept}
 use Rattle.pv_build.proofs.entering.enter.Goals as goal
 
@@ -74,7 +68,7 @@ returns-clause-reads c names base f =
     let stack : CellsRead c.cells-2.new.g.nodes names c.in_ok-stack.stack.items part.Stack (length c.as_slice-2.result.now) base =
     c.in_ok-stack.ensures.reads names base (subst (λ (sorts : List Sort). CellsFold c.cells.new.g.nodes names c.args.given.now part.Stack sorts base) (sym c.as_slice-2.ensures)
     (cells_fold_kept c.args.g.now c.cells.new.g three names c.args.given.now part.Stack c.args.frame.now.stack base f.stack)) in
-    let long : length c.as_slice-2.result.now ≡ length c.in_ok-stack.stack.items = sym (zip_length (IsCellOf c.cells-2.new.g) c.in_ok-stack.stack.items c.as_slice-2.result.now c.in_ok-stack.ensures.sorts) in
+    let long : length c.as_slice-2.result.now ≡ length c.in_ok-stack.stack.items = sym (zip_long (IsCellOf c.cells-2.new.g) c.in_ok-stack.stack.items c.as_slice-2.result.now c.in_ok-stack.ensures.sorts) in
     state_reads c.cells-2.new.g.nodes names (record { stack = c.into.result; locals = c.into-2.result; heap = c.in_ok-heap.heap; token = c.in_ok-token.token }) base
     (reads_kept c.node_of.new.g c.cells-2.new.g from_one names c.in_ok-token.token (base 0) (c.in_ok-token.ensures.reads names (base 0) f.token))
     (reads_kept c.node_of-2.new.g c.cells-2.new.g from_two names c.in_ok-heap.heap (base 3)

@@ -1,9 +1,6 @@
 use Rattle.std.proofs.Common.{◌≡◌, ℕ, ◌-◌, List, get_or, length, sym, ap, ◌∙◌, subst}
-use Rattle.pv_decide.specs.declared.tree.TreeNode.{TreeNode}
-use Rattle.pv_build.specs.declared.source.Source.{Source}
-use Rattle.pv_terms.specs.Fold.{IsOrdered, HaveOneSort, ReadsFold, FoldKeepsSort}
-use Rattle.pv_build.specs.Slots.{number}
-use Rattle.pv_build.specs.Sources.{given_nodes, MaybeReads, MaybeSorted}
+use Rattle.pv_build.proofs.Words.{TreeNode, Source, HaveOneSort, ReadsFold, FoldKeepsSort, number, given_nodes, MaybeReads, MaybeSorted}
+use Rattle.pv_terms.specs.Fold.{IsOrdered}
 use Rattle.pv_build.proofs.Folding.{given_length, have_one, root_reads, root_sorted}
 use Rattle.pv_build.proofs.entering.fold_slot.Goals as goal
 

@@ -1,5 +1,5 @@
 use Rattle.std.proofs.Common.{Some}
-use Rattle.pv_build.specs.Slots.{number}
+use Rattle.pv_build.proofs.Words.{number}
 use Rattle.pv_build.proofs.Folding.{not_none, some_read, some_sorted}
 use Rattle.pv_build.proofs.entering.node_of.Goals as goal
 

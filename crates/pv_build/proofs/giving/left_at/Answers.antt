@@ -1,6 +1,5 @@
 use Rattle.std.proofs.Common.{◌<◌, length, refl, sym, ◌∙◌, subst}
-use Rattle.std.proofs.lemmas.Option.{slice_get_read}
-use Rattle.pv_block.specs.declared.ran.Ran.{Ran}
+use Rattle.pv_build.proofs.Words.{slice_get_read, Ran}
 use Rattle.pv_build.proofs.Runs.{same_run}
 use Rattle.pv_build.proofs.giving.left_at.Goals as goal
 

@@ -1,8 +1,5 @@
 use Rattle.std.proofs.Common.{List, sym, ap, ◌∙◌}
-use Rattle.pv_block.specs.declared.held.Cell.{Cell}
-use Rattle.pv_block.specs.Ran.{local_node, stack_node, slot_of}
-use Rattle.pv_build.specs.declared.slot.Slot.{Slot}
-use Rattle.pv_build.specs.Slots.{number}
+use Rattle.pv_build.proofs.Words.{Cell, local_node, stack_node, slot_of, Slot, number}
 use Rattle.pv_build.proofs.Slotted.{turn_local, turn_stack}
 use Rattle.pv_build.proofs.slot.of_state.Goals as goal
 

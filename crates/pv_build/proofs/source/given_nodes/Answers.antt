@@ -1,7 +1,5 @@
 use Rattle.std.proofs.Common.{ℕ, List, [], ◌∷◌, ◌++◌, take, take_all, Option, unwrap_or, sym, ap, ◌∙◌}
-use Rattle.pv_build.specs.declared.source.Source.{Source}
-use Rattle.pv_build.specs.Slots.{number}
-use Rattle.pv_build.specs.Sources.{given_by, given_nodes}
+use Rattle.pv_build.proofs.Words.{Source, number, given_by, given_nodes}
 use Rattle.pv_build.proofs.Lists.{map_more}
 use Rattle.pv_build.proofs.source.given_nodes.Goals as goal
 

@@ -1,6 +1,5 @@
 use Rattle.std.proofs.Common.{◌≡◌, take}
-use Rattle.pv_build.specs.Slots.{number}
-use Rattle.pv_build.specs.Sources.{given_nodes}
+use Rattle.pv_build.proofs.Words.{number, given_nodes}
 use Rattle.pv_build.proofs.source.given_nodes.Given as goal
 
 abbrev pub invariant-loop-source : goal.invariant-loop-source

@@ -1,11 +1,6 @@
 use Rattle.std.proofs.Common.{◌≡◌, ℕ, ◌+◌, List, [], ◌∷◌, length, length-append, get_or, Some, slice_get, sym, ap, ◌∙◌, subst, arith}
-use Rattle.std.proofs.lemmas.Option.{slice_get-get_or}
-use Rattle.pv_frame.specs.declared.sort.Sort.{Sort}
+use Rattle.pv_build.proofs.Words.{slice_get-get_or, Sort, grows_same, grows_then, Cell, op_sort, IsCellOf}
 use Rattle.pv_frame.specs.declared.sort.Sort.TheVariants as sort
-use Rattle.pv_terms.proofs.Cited.{grows_same, grows_then}
-use Rattle.pv_block.specs.declared.held.Cell.{Cell}
-use Rattle.pv_block.specs.Sorted.{op_sort}
-use Rattle.pv_block.specs.Ran.{IsCellOf}
 use Rattle.pv_build.proofs.Lists.{each_push, zip_each}
 use Rattle.pv_build.proofs.Kept.{has_no_kids, no_depth}
 use Rattle.pv_build.proofs.Started.{StartCell, first_sort, start_cell, start_cell_kept}

@@ -1,6 +1,5 @@
 use Rattle.std.proofs.Common.{◌≡◌, ℕ, length, Some, slice_get}
-use Rattle.pv_terms.specs.Terms.{Grows}
-use Rattle.pv_block.specs.declared.held.Cell.{Cell}
+use Rattle.pv_build.proofs.Words.{Grows, Cell}
 use Rattle.pv_build.proofs.Started.{StartCell}
 use Rattle.pv_build.proofs.starting.first_cells.Given as goal
 

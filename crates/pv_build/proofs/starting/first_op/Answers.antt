@@ -1,4 +1,4 @@
-use Rattle.std.proofs.lemmas.Result.{IfOk-weaker}
+use Rattle.pv_build.proofs.Words.{IfOk-weaker}
 use Rattle.pv_build.proofs.Started.{first_none, first_some}
 use Rattle.pv_build.proofs.starting.first_op.Goals as goal
 

@@ -1,9 +1,6 @@
 use Rattle.std.proofs.Common.{List, [], ◌∷◌, ◌++◌, get_or, take, take_all, append-nil, append_assoc, sym, ap, ◌∙◌}
-use Rattle.pv_value.specs.declared.descriptor.JType.{JType}
+use Rattle.pv_build.proofs.Words.{JType, Op, param_ops, this_ops}
 use Rattle.pv_value.specs.declared.descriptor.JType.TheVariants as jtype
-use Rattle.pv_graph.specs.declared.node.Op.{Op}
-use Rattle.pv_runs.specs.Entries.{param_ops}
-use Rattle.pv_build.specs.States.{this_ops}
 use Rattle.pv_build.proofs.Started.{passed_is, params_more}
 use Rattle.pv_build.proofs.starting.passed.Goals as goal
 

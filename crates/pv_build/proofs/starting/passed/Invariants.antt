@@ -1,6 +1,5 @@
 use Rattle.std.proofs.Common.{◌≡◌, ◌++◌, take}
-use Rattle.pv_runs.specs.Entries.{param_ops}
-use Rattle.pv_build.specs.States.{this_ops}
+use Rattle.pv_build.proofs.Words.{param_ops, this_ops}
 use Rattle.pv_build.proofs.starting.passed.Given as goal
 
 abbrev pub invariant-loop-j : goal.invariant-loop-j

@@ -1,14 +1,6 @@
 use Rattle.std.proofs.Common.{List, [], refl, sym, ◌∙◌, subst}
-use Rattle.pv_frame.specs.declared.sort.Sort.{Sort}
-use Rattle.pv_graph.specs.declared.node.Op.{Op}
+use Rattle.pv_build.proofs.Words.{Sort, Op, T, H, Over, NoExp, Grows, grows_then, passed_ops, Cell, AreCellsOf, AreOpsOf, StartCellsRead}
 use Rattle.pv_graph.specs.declared.node.Op.TheVariants as op
-use Rattle.pv_graph.specs.declared.node.OpSort.TheVariants.{T, H}
-use Rattle.pv_equations.specs.Exp.{Over, NoExp}
-use Rattle.pv_terms.specs.Terms.{Grows}
-use Rattle.pv_terms.proofs.Cited.{grows_then}
-use Rattle.pv_runs.specs.Entries.{passed_ops}
-use Rattle.pv_block.specs.declared.held.Cell.{Cell}
-use Rattle.pv_build.specs.States.{AreCellsOf, AreOpsOf, StartCellsRead}
 use Rattle.pv_build.proofs.Kept.{has_no_kids, read_no_kids, sort_kept, reads_kept}
 use Rattle.pv_build.proofs.Beginning.{start_reads}
 use Rattle.pv_build.proofs.starting.start.Goals as goal

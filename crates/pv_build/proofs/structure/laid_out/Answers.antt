@@ -1,5 +1,5 @@
 use Rattle.std.proofs.Common.{rules, ◌≡◌, Err}
-use Rattle.pv_build.specs.Structure.{HasEdges, MeetsShape}
+use Rattle.pv_build.proofs.Words.{HasEdges, MeetsShape}
 use Rattle.pv_build.proofs.Structures.{is_shape, deep}
 use Rattle.pv_build.proofs.Laid.{too_many_blocks}
 use Rattle.pv_build.proofs.structure.laid_out.Goals as goal

@@ -1,11 +1,6 @@
 use Rattle.std.proofs.Common.{◌≡◌, ℕ, ◌+◌, List, [], ◌∷◌, length, length-append, get_or, Some, slice_get, sym, ap, ◌∙◌, subst, arith}
-use Rattle.std.proofs.lemmas.Option.{slice_get-get_or}
+use Rattle.pv_build.proofs.Words.{slice_get-get_or, IsFlatOrOut, grows_by_then, Cell, IsSortedCell, IsCellOut}
 use Rattle.pv_frame.specs.declared.sort.Sort.TheVariants as sort
-use Rattle.pv_terms.specs.Terms.{IsFlatOrOut}
-use Rattle.pv_terms.proofs.Cited.{grows_by_then}
-use Rattle.pv_block.specs.declared.held.Cell.{Cell}
-use Rattle.pv_block.specs.Sorted.{IsSortedCell}
-use Rattle.pv_build.specs.Outs.{IsCellOut}
 use Rattle.pv_build.proofs.Outgoing.{zip_pairs, all_get, sorted_grown, cells_push}
 use Rattle.pv_build.proofs.taking.cells_out.Goals as goal
 

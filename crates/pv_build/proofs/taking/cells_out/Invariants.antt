@@ -1,7 +1,5 @@
 use Rattle.std.proofs.Common.{◌≡◌, ℕ, length, Some, slice_get}
-use Rattle.pv_terms.specs.Terms.{IsFlatOrOut, GrowsBy}
-use Rattle.pv_block.specs.declared.held.Cell.{Cell}
-use Rattle.pv_build.specs.Outs.{IsCellOut}
+use Rattle.pv_build.proofs.Words.{IsFlatOrOut, GrowsBy, Cell, IsCellOut}
 use Rattle.pv_build.proofs.taking.cells_out.Given as goal
 
 abbrev pub invariant-loop-cell : goal.invariant-loop-cell

@@ -1,10 +1,7 @@
-use Rattle.pv_graph.specs.declared.node.Op.{Op}
+use Rattle.pv_build.proofs.Words.{Op, Graph, IsFlatOrOut, GrowsBy, grows_by_then, op_sort}
 use Rattle.pv_graph.specs.declared.node.OpSort.TheVariants as sorts
-use Rattle.pv_graph.specs.Graphs.{Graph}
-use Rattle.pv_terms.specs.Terms.{IsFlatOrOut, GrowsBy}
-use Rattle.pv_terms.proofs.Cited.{grows_by_then}
-use Rattle.pv_block.specs.Sorted.{op_sort}
-use Rattle.pv_build.proofs.Outgoing.{node_out, token_node_out, node_later, node_sooner, token_later, cell_value}
+use Rattle.pv_build.proofs.Outgoing.{node_out, token_node_out, node_later, node_sooner, token_later}
+use Rattle.pv_build.proofs.Cells.{no_root}
 use Rattle.pv_build.proofs.taking.end_out.Goals as goal
 
 pub out-requires-clause-ending : goal.out-requires-clause-ending
@@ -20,7 +17,7 @@ pub out-requires-2-clause-value : goal.out-requires-2-clause-value
 out-requires-2-clause-value c = (
   op_sort c.requires.sorted.0,
   c.out.ensures.grows.extends.sorts c.args.end.result (op_sort c.requires.sorted.0) (c.token_out.ensures.grows.extends.sorts c.args.end.result (op_sort c.requires.sorted.0) c.requires.sorted.1.result_is),
-  cell_value c.requires.sorted.0,
+  no_root c.requires.sorted.0,
 )
 
 pub returns-in_err-result-clause-grows : goal.returns-in_err-result-clause-grows

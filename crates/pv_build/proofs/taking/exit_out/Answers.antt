@@ -1,8 +1,5 @@
 use Rattle.std.proofs.Common.{sym, subst}
-use Rattle.pv_block.specs.declared.ran.Leaving.{Leaving}
-use Rattle.pv_block.specs.declared.ran.Leaving.TheVariants.{Goes, Returns, Throws}
-use Rattle.pv_block.specs.Ran.{IsSortedExit}
-use Rattle.pv_build.specs.Taken.{ReadsOutOf}
+use Rattle.pv_build.proofs.Words.{Leaving, Goes, Returns, Throws, IsSortedExit, ReadsOutOf}
 use Rattle.pv_build.proofs.Outgoing.{goes_sorted, goes_sorted_out, goes_out, returns_out, throws_out}
 use Rattle.pv_build.proofs.taking.exit_out.Goals as goal
 

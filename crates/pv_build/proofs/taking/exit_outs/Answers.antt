@@ -1,11 +1,5 @@
 use Rattle.std.proofs.Common.{◌+◌, ◌<◌, ◌≤◌, List, length, get_or, drop, sym, ◌∙◌, subst, arith}
-use Rattle.std.proofs.lemmas.List.{drop_all}
-use Rattle.std.proofs.lemmas.Option.{slice_get-get_or}
-use Rattle.pv_terms.specs.Terms.{IsFlatOrOut}
-use Rattle.pv_terms.proofs.Cited.{grows_by_then}
-use Rattle.pv_build.specs.declared.method.Closed.{Closed}
-use Rattle.pv_build.specs.Stages.{IsBeyond}
-use Rattle.pv_build.specs.Taken.{ReadsOutOfAll}
+use Rattle.pv_build.proofs.Words.{drop_all, slice_get-get_or, IsFlatOrOut, grows_by_then, Closed, IsBeyond, ReadsOutOfAll}
 use Rattle.pv_build.proofs.Outgoing.{all_get, rest_more, loops_grown, grows_out, none_left, more_left}
 use Rattle.pv_build.proofs.taking.exit_outs.Goals as goal
 

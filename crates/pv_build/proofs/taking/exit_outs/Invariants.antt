@@ -1,9 +1,5 @@
 use Rattle.std.proofs.Common.{◌≡◌, ℕ, drop}
-use Rattle.pv_graph.specs.Graphs.{Graph, IsGraph}
-use Rattle.pv_block.specs.declared.ran.Leaving.{Leaving}
-use Rattle.pv_block.specs.Ran.{dest_at, IsSortedExit}
-use Rattle.pv_build.specs.Stages.{GrowsIn}
-use Rattle.pv_build.specs.Taken.{AreSortedLoops, AreDeeper, ReadsOutOfAll}
+use Rattle.pv_build.proofs.Words.{Graph, IsGraph, Leaving, dest_at, IsSortedExit, GrowsIn, AreSortedLoops, AreDeeper, ReadsOutOfAll}
 use Rattle.pv_build.proofs.taking.exit_outs.Given as goal
 
 abbrev pub invariant-loop-c : goal.invariant-loop-c

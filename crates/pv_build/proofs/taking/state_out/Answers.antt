@@ -1,11 +1,5 @@
 use Rattle.std.proofs.Common.{List, sym, subst}
-use Rattle.pv_graph.specs.declared.node.Op.{Op}
-use Rattle.pv_graph.specs.Graphs.{Graph}
-use Rattle.pv_terms.specs.Terms.{IsFlatOrOut, GrowsBy}
-use Rattle.pv_terms.proofs.Cited.{grows_by_then}
-use Rattle.pv_block.specs.declared.held.Cell.{Cell}
-use Rattle.pv_block.specs.Sorted.{AreSorted}
-use Rattle.pv_build.specs.Outs.{AreCellsOut}
+use Rattle.pv_build.proofs.Words.{Op, Graph, IsFlatOrOut, GrowsBy, grows_by_then, Cell, AreSorted, AreCellsOut}
 use Rattle.pv_build.proofs.Outgoing.{loop_grown, sorted_grown, node_out, token_node_out, node_later, node_sooner, token_later, cells_later, cells_sooner}
 use Rattle.pv_build.proofs.taking.state_out.Goals as goal
 

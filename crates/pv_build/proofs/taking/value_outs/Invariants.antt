@@ -1,9 +1,5 @@
 use Rattle.std.proofs.Common.{ℕ, drop}
-use Rattle.pv_graph.specs.declared.node.OpSort.TheVariants.{I}
-use Rattle.pv_graph.specs.Graphs.{Graph, IsGraph}
-use Rattle.pv_terms.specs.Terms.{IsOfSort}
-use Rattle.pv_build.specs.Stages.{GrowsIn}
-use Rattle.pv_build.specs.Taken.{AreSortedLoops, AreDeeper, ReadsValueOut}
+use Rattle.pv_build.proofs.Words.{I, Graph, IsGraph, IsOfSort, GrowsIn, AreSortedLoops, AreDeeper, ReadsValueOut}
 use Rattle.pv_build.proofs.taking.value_outs.Given as goal
 
 abbrev pub invariant-loop-c : goal.invariant-loop-c

@@ -1,6 +1,5 @@
 use Rattle.std.proofs.Common.{ℕ, Bool, true, false, slice_set, sym, ap, ◌∙◌, subst, rules}
-use Rattle.pv_frame.specs.declared.action.Action.{Action}
-use Rattle.pv_build.specs.Carried.{Stores, IsOther, Acts}
+use Rattle.pv_build.proofs.Words.{Action, Stores, IsOther, Acts}
 use Rattle.pv_build.proofs.Writing.{acts_store, acts_increase, acts_other}
 use Rattle.pv_build.proofs.carrying.Walk.act.Goals as goal
 

@@ -1,5 +1,5 @@
 use Rattle.std.proofs.Common.{map, take_all, ap, ◌∙◌}
-use Rattle.pv_frame.specs.Stacks.{is_wide}
+use Rattle.pv_build.proofs.Words.{is_wide}
 use Rattle.pv_build.proofs.Writing.{knows_first}
 use Rattle.pv_build.proofs.carrying.Walk.start.Goals as goal
 

@@ -1,5 +1,5 @@
 use Rattle.std.proofs.Common.{◌≡◌, map, take}
-use Rattle.pv_frame.specs.Stacks.{is_wide}
+use Rattle.pv_build.proofs.Words.{is_wide}
 use Rattle.pv_build.proofs.carrying.Walk.start.Given as goal
 
 abbrev pub invariant-loop-sort : goal.invariant-loop-sort

@@ -1,5 +1,5 @@
 use Rattle.std.proofs.Common.{◌≡◌, ℕ, ◌<◌, ◌≤◌, false, length, get_or}
-use Rattle.std.specs.Prelude.{◌||◌}
+use Rattle.pv_build.proofs.Words.{◌||◌}
 use Rattle.pv_build.proofs.carrying.Writes.add.Given as goal
 
 abbrev pub invariant-loop-k : goal.invariant-loop-k

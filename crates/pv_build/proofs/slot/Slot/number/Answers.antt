@@ -1,6 +1,5 @@
 use Rattle.std.proofs.Common.{sym, ap, ◌∙◌}
-use Rattle.std.proofs.lemmas.Option.{IfSome_then}
-use Rattle.pv_build.specs.Slots.{number}
+use Rattle.pv_build.proofs.Words.{IfSome_then, number}
 use Rattle.pv_build.proofs.Numbers.{local_number, stack_number}
 use Rattle.pv_build.proofs.slot.Slot.number.Goals as goal
 

@@ -1,13 +1,8 @@
 use Rattle.std.proofs.Common.{List, sym, subst}
+use Rattle.pv_build.proofs.Words.{TreeNode, AreSound, IsTreeOf, IsSound, region_at, scope_at, AreSourcesFor}
 use Rattle.pv_decide.specs.declared.tree.Region.{Region}
-use Rattle.pv_decide.specs.declared.tree.TreeNode.{TreeNode}
-use Rattle.pv_decide.specs.Folds.{AreSound}
-use Rattle.pv_decide.specs.Trees.{IsTreeOf, IsSound}
-use Rattle.pv_build.specs.Stages.{region_at}
-use Rattle.pv_build.specs.Giving.{scope_at}
-use Rattle.pv_build.specs.Leaves.{AreSourcesFor}
 use Rattle.pv_build.proofs.Sourced.{sound_in, tree_gives, given_for}
-use Rattle.pv_build.proofs.giving.given.Goals as goal
+use Rattle.pv_build.proofs.giving.tree_for.Goals as goal
 
 pub sources-requires-clause-fits : goal.sources-requires-clause-fits
 sources-requires-clause-fits c =

@@ -1,8 +1,6 @@
 use Rattle.std.proofs.Common.{◌≡◌, ℕ, length, Some, slice_get}
-use Rattle.pv_loops.specs.declared.forest.Loop.{Loop}
-use Rattle.pv_build.specs.declared.carrying.Writes.{Writes}
-use Rattle.pv_build.specs.Carried.{IsCarried}
-use Rattle.pv_build.proofs.carrying.carried.Given as goal
+use Rattle.pv_build.proofs.Words.{Loop, Writes, IsCarried}
+use Rattle.pv_build.proofs.carrying.slots_carried.Given as goal
 
 abbrev pub invariant-loop-one : goal.invariant-loop-one
 invariant-loop-one l = record {

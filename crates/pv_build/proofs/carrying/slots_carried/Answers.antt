@@ -1,11 +1,7 @@
-use Rattle.std.proofs.Common.{◌≡◌, ℕ, ◌+◌, List, ◌∷◌, [], length, length-append, ◌<◌, Some, slice_get, ap, sym, ◌∙◌, subst, arith}
-use Rattle.std.specs.List.{Contains}
-use Rattle.pv_flow.specs.declared.block.Block.{Block}
-use Rattle.pv_loops.specs.declared.forest.Loop.{Loop}
-use Rattle.pv_build.specs.declared.carrying.Writes.{Writes}
-use Rattle.pv_build.specs.Carried.{AllRunThrough, AreWritten, Unites, IsCarried}
+use Rattle.std.proofs.Common.{◌≡◌, ℕ, ◌+◌, List, [], ◌∷◌, length, length-append, ◌<◌, Some, slice_get, ap, sym, ◌∙◌, subst, arith}
+use Rattle.pv_build.proofs.Words.{Contains, Block, Loop, Writes, AllRunThrough, AreWritten, Unites, IsCarried}
 use Rattle.pv_build.proofs.Carries.{run_through, loop_at, members_low, are_of_size, is_carried, carried_more}
-use Rattle.pv_build.proofs.carrying.carried.Goals as goal
+use Rattle.pv_build.proofs.carrying.slots_carried.Goals as goal
 
 pub all_written-requires : goal.all_written-requires
 all_written-requires c =

@@ -2,7 +2,7 @@
 use Rattle.std.proofs.Common.{◌≡◌, ◌≢◌, ℕ, zero, suc, ◌<◌, ◌≤◌, List, [], ◌∷◌, ◌++◌, length, map, get_or, drop, Option, Some, None, slice_get, inl, inr, ⊎_elim, refl, sym, ap, ◌∙◌, subst, arith}
 use Rattle.std.specs.List.{Contains}
 use Rattle.std.proofs.lemmas.List.{length-map}
-use Rattle.std.proofs.lemmas.Option.{slice_get_read, same_Some}
+use Rattle.std.proofs.lemmas.Option.{slice_get_within, slice_get_read, same_Some}
 use Rattle.pv_frame.proofs.Cited.{contains_first, contains_more, contains_cases, contains_none}
 use Rattle.pv_flow.specs.declared.block.Block.{Block}
 use Rattle.pv_flow.specs.Edges.{targets_of, edges_of}
@@ -10,6 +10,8 @@ use Rattle.pv_loops.specs.declared.forest.Loop.{Loop}
 use Rattle.pv_graph.proofs.Cited.{found}
 use Rattle.pv_graph.specs.Walks.{In}
 use Rattle.pv_loops.specs.Ranks.{Heads}
+use Rattle.pv_loops.specs.Forests as forests
+use Rattle.pv_loops.specs.Forests.{AreAround}
 use Rattle.pv_equations.specs.Equations.{Values, AreEquations}
 use Rattle.pv_equations.proofs.Cited.{solvable}
 use Rattle.pv_decide.specs.declared.aim.Scope.TheVariants as scope
@@ -73,6 +75,19 @@ module _ (m : Method) (is : IsMethod m) where
   -- a loop as it is read
   pub loop_read : (i : ℕ) → i < length m.forest.now.loops.items → (l : Loop) → l ≡ get_or m.forest.now.loops.items i l → slice_get m.forest.now.loops.items i ≡ Some l
   loop_read i low l e = slice_get_read m.forest.now.loops.items (length m.forest.now.loops.items) i l refl low e
+
+  parent_low : (p : ℕ) (l : Loop) (A : List ℕ) → AreAround m.forest.now.loops.items l A → l.parent ≡ Some p → p < length m.forest.now.loops.items
+  parent_low p _ _ (forests.outermost l e) q = absurd (cc)
+  parent_low p _ _ (forests.inner l o r a e at A) q =
+      let same : r ≡ p = same_Some r p (sym e ∙ q) in
+      slice_get_within m.forest.now.loops.items p o (subst (λ (k : ℕ). slice_get m.forest.now.loops.items k ≡ Some o) same at)
+
+  pub parent_at : (i : ℕ) (l : Loop) → slice_get m.forest.now.loops.items i ≡ Some l → IsLoopAt m l.parent
+  parent_at i l there = go l.parent refl
+    where
+      go : (at : Option ℕ) → l.parent ≡ at → IsLoopAt m at
+      go None e = tt
+      go (Some p) e = let x = is.routine.shaped.loops.loops i l there in parent_low p l x.around x.outer e
 
   pub no_loops : loops_at m None ≡ []
   no_loops = headers.up_none m.typed.now.program m.typed.now.frames m.flow.now.blocks m.forest.now is.routine

@@ -1,13 +1,7 @@
 -- Bodies of headers are the loops of a shape.
 use Rattle.std.proofs.Common.{◌≡◌, ◌≢◌, ℕ, zero, suc, ◌<◌, ◌≤◌, ◌-◌, List, length, get_or, refl, sym, ◌∙◌, ap, subst, arith, inl, inr, ⊎_elim}
-use Rattle.std.proofs.lemmas.Bool.{cases_eq, cases_lt}
-use Rattle.std.proofs.lemmas.List.{get_or_default}
-use Rattle.std.proofs.lemmas.List.Elements.{Contains-get_or}
-use Rattle.std.specs.List.{Contains}
-use Rattle.pv_loops.specs.Shapes.{Edge, IsReversed, IsShape}
-use Rattle.pv_loops.specs.Loops.{Region, Whole, Inside, EdgeOf, Way, edge, more, IsConnected, IsLargest, Enters, IsHeader, outermost, inner}
-use Rattle.pv_loops.specs.Bodies.{IsOrder, IsHead, Reaches, back, before, InBody, AreBody}
-use Rattle.pv_loops.specs.Laws.{OutermostBodies, InnerBodies}
+use Rattle.pv_loops.proofs.Words.{cases_eq, cases_lt, get_or_default, Contains-get_or, Contains, Edge, IsReversed, IsShape, Region, Whole, Inside, EdgeOf, Way, edge, more, IsConnected, IsLargest, Enters, IsHeader, outermost, IsOrder, IsHead, Reaches, back, before, InBody, AreBody, OutermostBodies, InnerBodies}
+use Rattle.pv_loops.specs.Loops.{inner}
 use Rattle.pv_loops.proofs.Grouping.{source_within}
 
 -- the edges of a region are edges of the shape

@@ -1,10 +1,6 @@
 -- Steps are taken while one applies: a shape in which none can be stuck is reduced to one node.
 use Rattle.std.proofs.Common.{◌≡◌, ◌≢◌, ℕ, zero, suc, ◌<◌, ◌≤◌, ◌+◌, List, [], ◌∷◌, length, refl, sym, subst, arith, ◌⊎◌, inl, inr, ⊎_elim}
-use Rattle.std.proofs.lemmas.Bool.{cases_eq, cases_lt}
-use Rattle.pv_loops.specs.declared.fault.TStep.{TStep}
-use Rattle.pv_loops.specs.declared.fault.TStep.TheVariants.{T1, T2}
-use Rattle.pv_loops.specs.Shapes.{targets, IsShape}
-use Rattle.pv_loops.specs.Steps.{Graph, graph_of, Applies, after, AllApply, after_all, ReduceToOne, IsReducible}
+use Rattle.pv_loops.proofs.Words.{cases_eq, cases_lt, TStep, T1, T2, targets, IsShape, Graph, graph_of, Applies, after, AllApply, after_all, ReduceToOne, IsReducible}
 use Rattle.pv_loops.proofs.Deciding.{Decided, both, all_three, all_four, either, implies, negated, some_below, all_below, contains_decided, count, count_le, count_less, count_more}
 use Rattle.pv_loops.proofs.Grouping.{source_within}
 

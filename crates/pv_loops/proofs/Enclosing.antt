@@ -1,10 +1,6 @@
 -- The bodies of headers and the headers around them, found by going over the nodes.
 use Rattle.std.proofs.Common.{◌≡◌, ◌≢◌, ℕ, zero, suc, ◌<◌, ◌≤◌, ◌+◌, List, [], ◌∷◌, length, get_or, sym, subst, arith, ◌⊎◌, inl, inr, ⊎_elim}
-use Rattle.std.proofs.lemmas.Bool.{cases_eq, cases_lt}
-use Rattle.std.specs.List.{Contains}
-use Rattle.pv_loops.specs.Shapes.{Edge, targets, IsShape, IsReversed}
-use Rattle.pv_loops.specs.Bodies.{IsOrder, IsHead, Reaches, back, before, InBody, AreBody}
-use Rattle.pv_loops.specs.Nests.{Encloses, alone, within}
+use Rattle.pv_loops.proofs.Words.{cases_eq, cases_lt, Contains, Edge, targets, IsShape, IsReversed, IsOrder, IsHead, Reaches, back, before, InBody, AreBody, Encloses, alone, within}
 use Rattle.pv_loops.proofs.Bodies.{head_of, body_in}
 use Rattle.pv_loops.proofs.Deciding.{Decided, both, all_three, either, negated, some_below, contains_decided, count, count_less, count_most, greatest, those, those_has, those_only}
 use Rattle.pv_loops.proofs.Grouping.{source_within}

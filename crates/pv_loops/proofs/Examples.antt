@@ -1,11 +1,6 @@
 -- Small shapes: one that is irreducible, with edges from the entry to 1 and 2 and between these both ways, and one with a loop.
 use Rattle.std.proofs.Common.{◌≡◌, ◌≢◌, ℕ, zero, suc, List, [], ◌∷◌, refl, sym, subst, arith, ◌⊎◌, inl, inr, ⊎_elim}
-use Rattle.pv_loops.specs.declared.fault.TStep.{TStep}
-use Rattle.pv_loops.specs.declared.fault.TStep.TheVariants.{T1, T2}
-use Rattle.pv_loops.specs.Shapes.{Edge}
-use Rattle.pv_loops.specs.Steps.{Applies, graph_of, Stuck, IsReducible, ReduceToOne}
-use Rattle.std.specs.List.{Contains}
-use Rattle.pv_loops.specs.Loops.{Whole, Way, edge, IsLoop, outermost}
+use Rattle.pv_loops.proofs.Words.{Contains, TStep, T1, T2, Edge, Applies, graph_of, Stuck, IsReducible, ReduceToOne, Whole, Way, edge, IsLoop, outermost}
 use Rattle.pv_loops.proofs.Grouping.{one_reducible}
 use Rattle.pv_loops.proofs.Bodies.{way_last}
 

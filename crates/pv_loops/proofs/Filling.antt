@@ -1,21 +1,7 @@
 -- The loops, filled header by header.
-use Rattle.std.proofs.Common.{◌≡◌, ◌≢◌, ℕ, ◌<◌, ◌≤◌, ◌+◌, List, [], ◌∷◌, ◌++◌, length, get_or, set, refl, sym, ◌∙◌, ap, subst, arith, ◌⊎◌, ⊎_elim, Option, Some, None}
-use Rattle.std.proofs.lemmas.Bool.{cases_eq, cases_lt}
-use Rattle.std.proofs.lemmas.List.{length-set, length-append, get_or_past}
-use Rattle.std.proofs.lemmas.Option.{none-some, same_Some, slice_get_within}
-use Rattle.std.proofs.lemmas.Cmp.{nat_eq_equiv}
-use Rattle.std.proofs.lemmas.List.Sorted.{Contains-permutation, IsPermutation-sym}
-use Rattle.std.proofs.lemmas.Map.Keys.{IsStrictlyIncreasing-from_distinct, IsDistinct-IsPermutation}
-use Rattle.std.specs.Prelude.{slice_get, nat_eq}
-use Rattle.std.specs.List.{IsDistinct}
-use Rattle.std.specs.List.Sorted.{IsPermutation, IsNonDecreasing}
-use Rattle.pv_loops.specs.declared.forest.Loop.{Loop}
-use Rattle.pv_loops.specs.declared.nest.Nest.{Nest}
-use Rattle.pv_loops.specs.declared.headers.Headers.{Headers}
-use Rattle.pv_loops.specs.Shapes.{IsShape, IsReversed}
-use Rattle.pv_loops.specs.Bodies.{IsOrder, IsHead, InBody, AreBody}
-use Rattle.pv_loops.specs.Nests.{AreHeaders, Encloses, alone, within, IsParent, IsFilled, IsHomeBefore, IsNested, IsMarked, KeepsHomes}
-use Rattle.pv_loops.specs.Forests.{HasDepth}
+use Rattle.std.proofs.Common.{◌≡◌, ◌≢◌, ℕ, ◌<◌, ◌≤◌, ◌+◌, List, [], ◌∷◌, ◌++◌, length, get_or, set, refl, sym, ◌∙◌, ap, subst, arith, ◌⊎◌, ⊎_elim, Option, Some, None, length-set, length-append, slice_get, nat_eq}
+use Rattle.pv_loops.proofs.Words.{cases_eq, cases_lt, get_or_past, none-some, same_Some, slice_get_within, nat_eq_equiv, Contains-permutation, IsPermutation-sym, IsStrictlyIncreasing-from_distinct, IsDistinct-IsPermutation, IsDistinct, IsPermutation, IsNonDecreasing}
+use Rattle.pv_loops.proofs.Words.{Loop, Nest, Headers, IsShape, IsReversed, IsOrder, IsHead, InBody, AreBody, AreHeaders, Encloses, alone, within, IsParent, IsFilled, IsHomeBefore, IsNested, IsMarked, KeepsHomes, HasDepth}
 use Rattle.pv_loops.proofs.Listing.{listed_at, listed_read, pushed_at, set_at, increases}
 use Rattle.pv_loops.proofs.Bodies.{head_of}
 use Rattle.pv_loops.proofs.Nesting.{same_head, enclosed_loop, low}

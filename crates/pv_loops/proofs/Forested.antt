@@ -1,19 +1,6 @@
 -- The forest of a reducible shape, whatever made it: its nodes can be ranked.
-use Rattle.std.proofs.Common.{◌≡◌, ◌≢◌, ℕ, suc, ◌<◌, ◌≤◌, List, ◌∷◌, length, get_or, sym, ◌∙◌, ap, subst, arith, ⊎_elim, Option, Some, None}
-use Rattle.std.proofs.lemmas.Bool.{cases_lt}
-use Rattle.std.proofs.lemmas.List.{get_or_past}
-use Rattle.std.proofs.lemmas.Option.{same_Some, get_or_from_slice_get}
-use Rattle.std.specs.Prelude.{slice_get}
-use Rattle.std.specs.List.{Contains}
-use Rattle.pv_loops.specs.declared.forest.Loop.{Loop}
-use Rattle.pv_loops.specs.declared.forest.Forest.{Forest}
-use Rattle.pv_loops.specs.declared.forest.TheConstants.{MAX_DEPTH}
-use Rattle.pv_loops.specs.Shapes.{IsShape, IsReversed}
-use Rattle.pv_loops.specs.Bodies.{IsOrder, IsHead, InBody, AreBody}
-use Rattle.pv_loops.specs.Nests.{Encloses}
-use Rattle.pv_loops.specs.Forests.{HasLoop, IsHome, IsForest, NestsUpTo}
-use Rattle.pv_loops.specs.Ranks.{headers_from, around}
-use Rattle.pv_loops.specs.Laws.{Ranking}
+use Rattle.std.proofs.Common.{◌≡◌, ◌≢◌, ℕ, suc, ◌<◌, ◌≤◌, List, ◌∷◌, length, get_or, sym, ◌∙◌, ap, subst, arith, ⊎_elim, Option, Some, None, slice_get}
+use Rattle.pv_loops.proofs.Words.{cases_lt, get_or_past, same_Some, get_or_from_slice_get, Contains, Loop, Forest, MAX_DEPTH, IsShape, IsReversed, IsOrder, IsHead, InBody, AreBody, Encloses, HasLoop, IsHome, IsForest, NestsUpTo, headers_from, around, Ranking}
 use Rattle.pv_loops.proofs.Bodies.{head_of, body_in}
 use Rattle.pv_loops.proofs.Descending.{reduces_to_one}
 use Rattle.pv_loops.proofs.Enclosing.{sources_of, reversed, body_of, enclosed}

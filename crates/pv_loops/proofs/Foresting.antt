@@ -1,16 +1,7 @@
 -- Filled loops are the forest of a shape.
-use Rattle.std.proofs.Common.{◌≡◌, ◌≢◌, ℕ, ◌<◌, ◌≤◌, List, [], ◌∷◌, length, get_or, refl, sym, ◌∙◌, ap, subst, arith, Option, Some, None}
-use Rattle.std.proofs.lemmas.Option.{slice_get_within, get_or_from_slice_get}
-use Rattle.std.specs.Prelude.{slice_get}
-use Rattle.pv_loops.specs.declared.forest.Loop.{Loop}
-use Rattle.pv_loops.specs.declared.forest.Forest.{Forest}
-use Rattle.pv_loops.specs.declared.nest.Nest.{Nest}
-use Rattle.pv_loops.specs.declared.headers.Headers.{Headers}
-use Rattle.pv_loops.specs.Shapes.{IsShape, IsReversed}
-use Rattle.pv_loops.specs.Loops.{IsLoop}
-use Rattle.pv_loops.specs.Bodies.{IsOrder, IsHead, InBody, AreBody}
-use Rattle.pv_loops.specs.Nests.{AreHeaders, Encloses, alone, within, IsParent, IsFilled, IsHomeBefore, IsNested}
-use Rattle.pv_loops.specs.Forests.{AreAround, outermost, inner, IsListed, HasLoop, IsHome, IsForest, NestsUpTo}
+use Rattle.std.proofs.Common.{◌≡◌, ◌≢◌, ℕ, ◌<◌, ◌≤◌, List, [], ◌∷◌, length, get_or, refl, sym, ◌∙◌, ap, subst, arith, Option, Some, None, slice_get}
+use Rattle.pv_loops.proofs.Words.{slice_get_within, get_or_from_slice_get, Loop, Forest, Nest, Headers, IsShape, IsReversed, IsLoop, IsOrder, IsHead, InBody, AreBody, AreHeaders, Encloses, alone, within, IsParent, IsFilled, IsHomeBefore, IsNested, AreAround, inner, IsListed, HasLoop, IsHome, IsForest, NestsUpTo}
+use Rattle.pv_loops.specs.Forests.{outermost}
 use Rattle.pv_loops.proofs.Bodies.{head_of}
 use Rattle.pv_loops.proofs.Listing.{listed_at, increases}
 use Rattle.pv_loops.proofs.Nesting.{meets, same_next, same_around, fewer_around, enclosed_head, enclosed_loop, IsEnclosed, loop_enclosed}

@@ -1,19 +1,7 @@
 -- A body while its nodes are gathered.
-use Rattle.std.proofs.Common.{◌≡◌, ◌≢◌, ℕ, ◌<◌, ◌≤◌, ◌+◌, List, [], ◌∷◌, ◌++◌, length, get_or, set, refl, sym, ◌∙◌, ap, subst, arith, ◌⊎◌, inl, inr, ⊎_elim, Option, Some, None, true, false, not, get_or-set_other, get_or-set_same}
-use Rattle.std.proofs.lemmas.Bool.{cases_eq, cases_Bool, eqb-true, eq-eqb, false≢true, true≢false}
-use Rattle.std.proofs.lemmas.Cmp.{nat_eq_equiv}
-use Rattle.std.proofs.lemmas.List.{length-set, length-append, get_or_append_left, get_or_default}
-use Rattle.std.proofs.lemmas.List.Elements.{Contains-append_left, Contains-push, Contains-push_cases, Contains-get_or}
-use Rattle.std.proofs.lemmas.Map.Keys.{IsDistinct-push}
-use Rattle.std.proofs.lemmas.Map.Steps.{length-le_from_distinct_below}
-use Rattle.std.proofs.lemmas.Map.Views.{Contains-from_any}
-use Rattle.std.proofs.lemmas.Option.{none-some, same_Some}
-use Rattle.std.specs.List.{Contains, IsDistinct, list_any}
-use Rattle.std.specs.Option.{option_eq}
-use Rattle.std.specs.Prelude.{nat_eq}
-use Rattle.pv_loops.specs.Shapes.{Edge, IsShape}
-use Rattle.pv_loops.specs.Bodies.{IsOrder, Reaches, back, before, InBody, AreBody}
-use Rattle.pv_loops.specs.Nests.{IsMarked, KeepsHomes, AddsMembers}
+use Rattle.std.proofs.Common.{◌≡◌, ◌≢◌, ℕ, ◌<◌, ◌≤◌, ◌+◌, List, [], ◌∷◌, ◌++◌, length, get_or, set, refl, sym, ◌∙◌, ap, subst, arith, ◌⊎◌, inl, inr, ⊎_elim, Option, Some, None, true, false, not, get_or-set_other, get_or-set_same, eqb-true, eq-eqb, true≢false, length-set, length-append, nat_eq}
+use Rattle.pv_loops.proofs.Words.{cases_eq, cases_Bool, false≢true, nat_eq_equiv, get_or_append_left, get_or_default, Contains-append_left, Contains-push, Contains-push_cases, Contains-get_or, IsDistinct-push, length-le_from_distinct_below, Contains-from_any, none-some, same_Some, Contains, IsDistinct, list_any, option_eq}
+use Rattle.pv_loops.proofs.Words.{Edge, IsShape, IsOrder, Reaches, back, before, InBody, AreBody, IsMarked, KeepsHomes, AddsMembers}
 use Rattle.pv_loops.proofs.Bodies.{body_low}
 
 none_distinct : IsDistinct nat_eq []

@@ -1,12 +1,6 @@
 -- Confluence: a shape that some steps reduce to one node has no stuck steps.
-use Rattle.std.proofs.Common.{◌≡◌, ◌≢◌, ℕ, ◌<◌, ◌≤◌, List, [], ◌∷◌, length, ◌⊎◌, inl, inr, ⊎_elim, refl, sym, ◌∙◌, ap, subst, eqb, cond, arith, get_or}
-use Rattle.std.proofs.lemmas.Bool.{cases_eq, cases_lt, eq-eqb, ne_eqb}
-use Rattle.std.proofs.lemmas.List.{get_or_past}
-use Rattle.pv_loops.specs.declared.fault.TStep.{TStep}
-use Rattle.pv_loops.specs.declared.fault.TStep.TheVariants.{T1, T2}
-use Rattle.pv_loops.specs.Shapes.{Edge}
-use Rattle.pv_loops.specs.Steps.{Graph, graph_of, Applies, after, AllApply, after_all, IsStuck, ReduceToOne, IsReducible}
-use Rattle.pv_loops.specs.Reductions.{Grouped}
+use Rattle.std.proofs.Common.{◌≡◌, ◌≢◌, ℕ, ◌<◌, ◌≤◌, List, [], ◌∷◌, length, ◌⊎◌, inl, inr, ⊎_elim, refl, sym, ◌∙◌, ap, subst, eqb, cond, arith, get_or, eq-eqb, ne_eqb}
+use Rattle.pv_loops.proofs.Words.{cases_eq, cases_lt, get_or_past, TStep, T1, T2, Edge, Graph, graph_of, Applies, after, AllApply, after_all, IsStuck, ReduceToOne, IsReducible, Grouped}
 
 -- the source of an edge is a node
 pub source_within : (s : List (List ℕ)) (x y : ℕ) → Edge s x y → x < length s

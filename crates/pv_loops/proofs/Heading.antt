@@ -1,12 +1,6 @@
 -- Headers, as the nodes are gone through.
-use Rattle.std.proofs.Common.{◌≡◌, ◌≢◌, ℕ, ◌<◌, ◌≤◌, ◌+◌, List, [], ◌∷◌, ◌++◌, length, get_or, refl, sym, ◌∙◌, ap, subst, arith, ⊎_elim, Option, Some, None}
-use Rattle.std.proofs.lemmas.Bool.{cases_eq, cases_lt}
-use Rattle.std.proofs.lemmas.List.{length-append, get_or_append_left, get_or_push, get_or_past}
-use Rattle.std.proofs.lemmas.Option.{none-some, same_Some}
-use Rattle.std.specs.List.Sorted.{IsStrictlyIncreasing}
-use Rattle.pv_loops.specs.declared.headers.Headers.{Headers}
-use Rattle.pv_loops.specs.Bodies.{IsHead}
-use Rattle.pv_loops.specs.Nests.{AreHeaders}
+use Rattle.std.proofs.Common.{◌≡◌, ◌≢◌, ℕ, ◌<◌, ◌≤◌, ◌+◌, List, [], ◌∷◌, ◌++◌, length, get_or, refl, sym, ◌∙◌, ap, subst, arith, ⊎_elim, Option, Some, None, length-append}
+use Rattle.pv_loops.proofs.Words.{cases_eq, cases_lt, get_or_append_left, get_or_push, get_or_past, none-some, same_Some, IsStrictlyIncreasing, Headers, IsHead, AreHeaders}
 use Rattle.pv_loops.proofs.Grouping.{source_within}
 
 -- the headers below n

@@ -1,11 +1,6 @@
 -- Rows of digits: of two the lesser in the order of a dictionary has no greater weight.
-use Rattle.std.proofs.Common.{◌≡◌, ◌≢◌, ℕ, suc, ◌<◌, ◌≤◌, ◌+◌, ◌-◌, ◌*◌, ◌^◌, List, [], ◌∷◌, ◌++◌, length, map, refl, sym, ◌∙◌, ap, subst, arith, ⊎_elim, false, true≢false, Ordering, Less, Equal}
-use Rattle.std.proofs.lemmas.Bool.{cases_eq, cases_lt}
-use Rattle.std.proofs.lemmas.List.{length-append, reverse-append}
-use Rattle.std.specs.Prelude.{reverse}
-use Rattle.std.specs.Ordering.{is_lt, nat_cmp, ordering_then}
-use Rattle.std.specs.Cmp.{nat_cmp_is}
-use Rattle.std.specs.Cmp.Lexicographic.{slice_cmp}
+use Rattle.std.proofs.Common.{◌≡◌, ◌≢◌, ℕ, suc, ◌<◌, ◌≤◌, ◌+◌, ◌-◌, ◌*◌, ◌^◌, List, [], ◌∷◌, ◌++◌, length, map, refl, sym, ◌∙◌, ap, subst, arith, ⊎_elim, false, true≢false, Ordering, Less, Equal, length-append, reverse}
+use Rattle.pv_loops.proofs.Words.{cases_eq, cases_lt, reverse-append, is_lt, nat_cmp, ordering_then, nat_cmp_is, slice_cmp}
 use Rattle.pv_loops.proofs.Weights.{weight, one_more, whole, lower_digit}
 
 module _ (place : ℕ → ℕ) (n : ℕ) (deepest : ℕ) where

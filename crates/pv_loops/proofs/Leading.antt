@@ -1,14 +1,6 @@
 -- The places of the loops from one outwards, and their headers.
-use Rattle.std.proofs.Common.{◌≡◌, ℕ, zero, suc, ◌<◌, ◌≤◌, ◌+◌, List, [], ◌∷◌, ◌++◌, length, map, get_or, refl, sym, ◌∙◌, ap, subst, arith, append_assoc, Option, Some, None}
-use Rattle.std.proofs.lemmas.List.{get_or-map, append-nil, length-map}
-use Rattle.std.proofs.lemmas.List.Elements.{All-cons}
-use Rattle.std.proofs.lemmas.Option.{slice_get_within, get_or_from_slice_get}
-use Rattle.std.specs.Prelude.{slice_get}
-use Rattle.std.specs.List.{All}
-use Rattle.pv_loops.specs.declared.forest.Loop.{Loop}
-use Rattle.pv_loops.specs.declared.forest.TheConstants.{MAX_DEPTH}
-use Rattle.pv_loops.specs.Outwards.{header_at, place_and, places_from, AreRows}
-use Rattle.pv_loops.specs.Ranks.{header_and, headers_from}
+use Rattle.std.proofs.Common.{◌≡◌, ℕ, zero, suc, ◌<◌, ◌≤◌, ◌+◌, List, [], ◌∷◌, ◌++◌, length, map, get_or, refl, sym, ◌∙◌, ap, subst, arith, append_assoc, Option, Some, None, append-nil, slice_get}
+use Rattle.pv_loops.proofs.Words.{get_or-map, length-map, All-cons, slice_get_within, get_or_from_slice_get, All, Loop, MAX_DEPTH, header_at, place_and, places_from, AreRows, header_and, headers_from}
 
 header_is : (loops : List Loop) (i : ℕ) (l : Loop) → slice_get loops i ≡ Some l → header_at loops i ≡ l.header
 header_is loops i l e = get_or-map (λ (k : Loop). k.header) loops i l 0 (slice_get_within loops i l e) ∙ ap (λ (k : Loop). k.header) (get_or_from_slice_get loops i l l e)

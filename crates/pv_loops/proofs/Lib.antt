@@ -1,3 +1,4 @@
+mod Words
 mod Grouping
 mod Rows
 mod Sources

@@ -1,13 +1,6 @@
 -- An order of the nodes of a shape that steps reduce to one node.
-use Rattle.std.proofs.Common.{◌≡◌, ◌≢◌, ℕ, zero, suc, ◌<◌, ◌≤◌, ◌+◌, ◌-◌, List, [], ◌∷◌, ◌++◌, length, get_or, refl, sym, ◌∙◌, ap, subst, cond, eqb, arith, ◌⊎◌, inl, inr, ⊎_elim}
-use Rattle.std.proofs.lemmas.Bool.{cases_eq, cases_lt, eq-eqb, ne_eqb}
-use Rattle.std.proofs.lemmas.List.{length-append, get_or_append_left, get_or-append-add, get_or_push}
-use Rattle.pv_loops.specs.declared.fault.TStep.{TStep}
-use Rattle.pv_loops.specs.declared.fault.TStep.TheVariants.{T1, T2}
-use Rattle.pv_loops.specs.Shapes.{Edge, IsShape, IsReversed}
-use Rattle.pv_loops.specs.Steps.{Graph, graph_of, Applies, after, AllApply, after_all, ReduceToOne}
-use Rattle.pv_loops.specs.Bodies.{IsOrder}
-use Rattle.pv_loops.specs.Reductions.{Grouped}
+use Rattle.std.proofs.Common.{◌≡◌, ◌≢◌, ℕ, zero, suc, ◌<◌, ◌≤◌, ◌+◌, ◌-◌, List, [], ◌∷◌, ◌++◌, length, get_or, refl, sym, ◌∙◌, ap, subst, cond, eqb, arith, ◌⊎◌, inl, inr, ⊎_elim, eq-eqb, ne_eqb, length-append, get_or-append-add}
+use Rattle.pv_loops.proofs.Words.{cases_eq, cases_lt, get_or_append_left, get_or_push, TStep, T1, T2, Edge, IsShape, IsReversed, Graph, graph_of, Applies, after, AllApply, after_all, ReduceToOne, IsOrder, Grouped}
 use Rattle.pv_loops.proofs.Grouping.{source_within, MergedLeaders, grouped_start, grouped_step, leaders_after, merged_by}
 use Rattle.pv_loops.proofs.Descending.{keeps_entry}
 

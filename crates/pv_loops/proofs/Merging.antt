@@ -1,9 +1,6 @@
 -- Groups as they are merged.
-use Rattle.std.proofs.Common.{◌≡◌, ◌≢◌, ℕ, ◌<◌, ◌≤◌, ◌+◌, ◌-◌, List, [], ◌++◌, length, set, get_or, sym, ◌∙◌, ap, subst, arith, ⊎_elim, get_or-set_other, get_or-set_same, length-append}
-use Rattle.std.proofs.lemmas.Bool.{cases_eq, cases_lt}
-use Rattle.std.proofs.lemmas.List.{length-set, get_or-append-add, get_or_append_left}
-use Rattle.pv_loops.specs.declared.groups.Groups.{Groups}
-use Rattle.pv_loops.specs.Groups.{leader_of, place_of, group_of, Leads, AreGroups, Relabels, Merges}
+use Rattle.std.proofs.Common.{◌≡◌, ◌≢◌, ℕ, ◌<◌, ◌≤◌, ◌+◌, ◌-◌, List, [], ◌++◌, length, set, get_or, sym, ◌∙◌, ap, subst, arith, ⊎_elim, get_or-set_other, get_or-set_same, length-append, length-set, get_or-append-add}
+use Rattle.pv_loops.proofs.Words.{cases_eq, cases_lt, get_or_append_left, Groups, leader_of, place_of, group_of, Leads, AreGroups, Relabels, Merges}
 
 -- the list of n is taken and put after that of p, and its nodes get the leader p
 pub merges : (old new : Groups) (n p : ℕ) → AreGroups old → Leads old n → Leads old p → n ≢ p

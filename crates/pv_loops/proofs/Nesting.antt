@@ -1,10 +1,7 @@
 -- Headers in one another, and the loops of a shape.
 use Rattle.std.proofs.Common.{◌≡◌, ◌≢◌, ℕ, suc, ◌<◌, ◌≤◌, List, [], ◌∷◌, length, get_or, refl, sym, ◌∙◌, ap, subst, arith, inl, inr, ⊎_elim}
-use Rattle.std.proofs.lemmas.Bool.{cases_eq, cases_lt}
-use Rattle.pv_loops.specs.Shapes.{IsShape, IsReversed}
-use Rattle.pv_loops.specs.Loops.{Whole, Inside, IsWithin, IsLoop, outermost, inner}
-use Rattle.pv_loops.specs.Bodies.{IsOrder, IsHead, InBody, AreBody}
-use Rattle.pv_loops.specs.Nests.{IsNext, IsAlone, Encloses, alone, within}
+use Rattle.pv_loops.proofs.Words.{cases_eq, cases_lt, IsShape, IsReversed, Whole, Inside, IsWithin, IsLoop, outermost, IsOrder, IsHead, InBody, AreBody, IsNext, IsAlone, Encloses, alone, within}
+use Rattle.pv_loops.specs.Loops.{inner}
 use Rattle.pv_loops.proofs.Bodies.{same, head_of, body_low, meet, inside_body, earliest, body_header, body_connected, inner_edges, outermost_bodies, inner_bodies}
 
 module _ (sources : List (List ℕ)) (order place : List ℕ) (S : IsShape sources) (O : IsOrder sources order place) where

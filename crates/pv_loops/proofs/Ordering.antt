@@ -1,30 +1,8 @@
 -- The order of a reduction is an order of the shape.
-use Rattle.std.proofs.Common.{◌≡◌, ◌≢◌, ℕ, ◌<◌, ◌≤◌, ◌+◌, ◌*◌, List, [], ◌∷◌, ◌++◌, length, map, reverse, get_or, sym, ◌∙◌, ap, subst, arith, inl, inr, ◌⊎◌, ⊎_elim, Some, None, true, false}
-use Rattle.std.proofs.lemmas.Bool.{cases_eq, cases_lt, eqb-true}
-use Rattle.std.proofs.lemmas.Bool.Decides.{eqb_tells, Decides-eqb}
-use Rattle.std.proofs.lemmas.Cmp.{nat_eq_equiv}
-use Rattle.std.proofs.Math.Dec.{eqb}
-use Rattle.std.proofs.lemmas.List.{get_or_default}
-use Rattle.std.proofs.lemmas.List.Elements.{Contains-get_or}
-use Rattle.std.proofs.lemmas.Option.{slice_get_within, get_or_from_slice_get}
-use Rattle.std.proofs.lemmas.Map.Keys.{IsDistinct-from_apart}
-use Rattle.std.proofs.lemmas.Map.Steps.{length-le_from_distinct_below, le-length_from_below}
-use Rattle.std.proofs.lemmas.Map.Views.{list_any-from_Contains, Contains-from_any}
-use Rattle.std.proofs.lemmas.List.Sorted.{IsNonDecreasingBy-from_all_adjacent, IsPermutation-sym, Contains-permutation, length_permutation}
-use Rattle.std.proofs.lemmas.Map.Keys.{IsDistinct-IsPermutation}
-use Rattle.std.proofs.lemmas.Map.Made.{AllPairs-from_IsDistinct}
-use Rattle.std.specs.Prelude.{slice_get, nat_eq}
-use Rattle.std.specs.Global.{Vec}
-use Rattle.std.specs.List.{Contains, AllPairs, IsDistinct}
-use Rattle.std.specs.List.Sorted.{IsNonDecreasingBy, IsPermutation, IsSortedByKey}
-use Rattle.std.specs.Cmp.Lexicographic.{slice_cmp}
-use Rattle.std.specs.Ordering.{is_lt, nat_cmp}
-use Rattle.pv_loops.specs.declared.forest.Forest.{Forest}
-use Rattle.pv_loops.specs.Shapes.{IsShape, IsReversed}
-use Rattle.pv_loops.specs.Bodies.{IsOrder}
-use Rattle.pv_loops.specs.declared.forest.TheConstants.{MAX_DEPTH}
-use Rattle.pv_loops.specs.Keys.{key_at, AreKeys}
-use Rattle.pv_loops.specs.Ranks.{around, Heads, IsOrdered, IsArranged, IsRanking}
+use Rattle.std.proofs.Common.{◌≡◌, ◌≢◌, ℕ, ◌<◌, ◌≤◌, ◌+◌, ◌*◌, List, [], ◌∷◌, ◌++◌, length, map, reverse, get_or, sym, ◌∙◌, ap, subst, arith, inl, inr, ◌⊎◌, ⊎_elim, Some, None, true, false, eqb-true, slice_get, nat_eq}
+use Rattle.pv_loops.proofs.Words.{cases_eq, cases_lt, eqb_tells, Decides-eqb, nat_eq_equiv, eqb, get_or_default, Contains-get_or, slice_get_within, get_or_from_slice_get, IsDistinct-from_apart, length-le_from_distinct_below, le-length_from_below, list_any-from_Contains, Contains-from_any, IsNonDecreasingBy-from_all_adjacent, IsPermutation-sym}
+use Rattle.pv_loops.proofs.Words.{Contains-permutation, length_permutation, IsDistinct-IsPermutation, AllPairs-from_IsDistinct, Vec, Contains, AllPairs, IsDistinct, IsNonDecreasingBy, IsPermutation, IsSortedByKey, slice_cmp, is_lt, nat_cmp}
+use Rattle.pv_loops.proofs.Words.{Forest, IsShape, IsReversed, IsOrder, MAX_DEPTH, key_at, AreKeys, around, Heads, IsOrdered, IsArranged, IsRanking}
 use Rattle.pv_loops.proofs.Bodies.{same}
 use Rattle.pv_loops.proofs.Weights.{unit, weigh, positive}
 use Rattle.pv_loops.proofs.Keyed.{digits, digits_reverse, not_less}

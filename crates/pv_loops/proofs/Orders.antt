@@ -1,13 +1,6 @@
 -- A shape that is reduced to one group is in order.
 use Rattle.std.proofs.Common.{◌≡◌, ◌≢◌, ℕ, ◌<◌, List, [], ◌∷◌, length, get_or, refl, sym, ◌∙◌, subst, arith, ⊎_elim}
-use Rattle.std.proofs.lemmas.Bool.{cases_eq}
-use Rattle.pv_loops.specs.declared.groups.Groups.{Groups}
-use Rattle.pv_loops.specs.declared.reduction.Reduction.{Reduction}
-use Rattle.pv_loops.specs.Shapes.{IsReversed, IsShape}
-use Rattle.pv_loops.specs.Steps.{IsReducible}
-use Rattle.pv_loops.specs.Groups.{leader_of, place_of, group_of, Leads, AreGroups}
-use Rattle.pv_loops.specs.Reductions.{Reduced, AreRest}
-use Rattle.pv_loops.specs.Bodies.{IsOrder}
+use Rattle.pv_loops.proofs.Words.{cases_eq, Groups, Reduction, IsReversed, IsShape, IsReducible, leader_of, place_of, group_of, Leads, AreGroups, Reduced, AreRest, IsOrder}
 use Rattle.pv_loops.proofs.Grouping.{source_within, one_reducible}
 
 -- sources are a shape too

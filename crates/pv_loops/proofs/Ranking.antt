@@ -1,12 +1,6 @@
 -- The nodes are ranked by the places of the headers around them, the outermost first, and then their own.
-use Rattle.std.proofs.Common.{◌≡◌, ◌≢◌, ℕ, zero, suc, ◌<◌, ◌≤◌, ◌+◌, ◌^◌, List, [], ◌∷◌, ◌++◌, length, get_or, refl, sym, ◌∙◌, ap, subst, arith, inl, inr, ◌⊎◌, ⊎_elim}
-use Rattle.std.proofs.lemmas.Bool.{cases_eq, cases_lt}
-use Rattle.std.proofs.lemmas.List.{append-nil, append_assoc, get_or_past}
-use Rattle.pv_loops.specs.Shapes.{Edge, IsShape, IsReversed}
-use Rattle.pv_loops.specs.Bodies.{IsOrder, IsHead, Reaches, back, before, InBody}
-use Rattle.pv_loops.specs.declared.forest.TheConstants.{MAX_DEPTH}
-use Rattle.pv_loops.specs.Nests.{Encloses, alone, within}
-use Rattle.pv_loops.specs.Ranks.{Heads, IsAlong, LeadsBack, turns, passes, IsRanking}
+use Rattle.std.proofs.Common.{◌≡◌, ◌≢◌, ℕ, zero, suc, ◌<◌, ◌≤◌, ◌+◌, ◌^◌, List, [], ◌∷◌, ◌++◌, length, get_or, refl, sym, ◌∙◌, ap, subst, arith, inl, inr, ◌⊎◌, ⊎_elim, append-nil, append_assoc}
+use Rattle.pv_loops.proofs.Words.{cases_eq, cases_lt, get_or_past, Edge, IsShape, IsReversed, IsOrder, IsHead, Reaches, back, before, InBody, MAX_DEPTH, Encloses, alone, within, Heads, IsAlong, LeadsBack, turns, passes, IsRanking}
 use Rattle.pv_loops.proofs.Grouping.{source_within}
 use Rattle.pv_loops.proofs.Bodies.{same, head_of, body_in, body_zero, closed}
 use Rattle.pv_loops.proofs.Listing.{rest, last_of, Fork, fork, fork_back}

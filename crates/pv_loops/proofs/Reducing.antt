@@ -1,16 +1,6 @@
 -- One merge of a reduction: its steps apply, and the groups stay in order.
 use Rattle.std.proofs.Common.{◌≡◌, ◌≢◌, ℕ, ◌<◌, ◌≤◌, List, [], ◌∷◌, ◌++◌, length, refl, sym, ◌∙◌, ap, subst, arith, inl, inr, ⊎_elim, ◌↔◌, Bool, true, false}
-use Rattle.std.proofs.lemmas.List.{get_or_past}
-use Rattle.std.proofs.lemmas.Bool.{cases_eq, cases_lt, false≢true}
-use Rattle.std.specs.List.{Contains}
-use Rattle.pv_loops.specs.declared.fault.TStep.{TStep}
-use Rattle.pv_loops.specs.declared.fault.TStep.TheVariants.{T1, T2}
-use Rattle.pv_loops.specs.declared.groups.Groups.{Groups}
-use Rattle.pv_loops.specs.declared.reduction.Reduction.{Reduction}
-use Rattle.pv_loops.specs.Shapes.{Edge, targets, IsReversed}
-use Rattle.pv_loops.specs.Steps.{Graph, graph_of, Applies, after, AllApply, after_all, merge_steps}
-use Rattle.pv_loops.specs.Groups.{leader_of, place_of, group_of, Leads, AreGroups, Merges}
-use Rattle.pv_loops.specs.Reductions.{Grouped, Tracks, AreOrdered, Reduced, IsOnlySource}
+use Rattle.pv_loops.proofs.Words.{get_or_past, cases_eq, cases_lt, false≢true, Contains, TStep, T1, T2, Groups, Reduction, Edge, targets, IsReversed, Graph, graph_of, Applies, after, AllApply, after_all, merge_steps, leader_of, place_of, group_of, Leads, AreGroups, Merges, Grouped, Tracks, AreOrdered, Reduced, IsOnlySource}
 use Rattle.pv_loops.proofs.Grouping.{MergedLeaders, grouped_T1, grouped_T2, source_within}
 
 -- steps after steps

@@ -1,10 +1,6 @@
 -- Sources of edges, as the lists of targets are gone through.
-use Rattle.std.proofs.Common.{◌≡◌, ◌≢◌, ℕ, ◌<◌, ◌≤◌, ◌+◌, List, [], ◌∷◌, ◌++◌, length, set, get_or, take, sym, ◌∙◌, ap, subst, arith, ◌⊎◌, ◌↔◌, inl, inr, ⊎_elim, get_or-set_other, get_or-set_same}
-use Rattle.std.proofs.lemmas.Bool.{cases_eq, cases_lt}
-use Rattle.std.proofs.lemmas.List.{take_more, length-set}
-use Rattle.std.proofs.lemmas.List.Elements.{Contains-append_left, Contains-push, Contains-push_cases}
-use Rattle.std.specs.List.{Contains}
-use Rattle.pv_loops.specs.Shapes.{Edge, targets, AddsSources, IsReversed}
+use Rattle.std.proofs.Common.{◌≡◌, ◌≢◌, ℕ, ◌<◌, ◌≤◌, ◌+◌, List, [], ◌∷◌, ◌++◌, length, set, get_or, take, sym, ◌∙◌, ap, subst, arith, ◌⊎◌, ◌↔◌, inl, inr, ⊎_elim, get_or-set_other, get_or-set_same, length-set}
+use Rattle.pv_loops.proofs.Words.{cases_eq, cases_lt, take_more, Contains-append_left, Contains-push, Contains-push_cases, Contains, Edge, targets, AddsSources, IsReversed}
 use Rattle.pv_loops.proofs.Grouping.{source_within}
 
 -- one more number in one list

@@ -1,16 +1,6 @@
 -- The last steps of a reduction that ends in two or more nodes: T1 for each leader.
-use Rattle.std.proofs.Common.{◌≡◌, ◌≢◌, ℕ, ◌<◌, ◌≤◌, ◌+◌, List, [], ◌∷◌, ◌++◌, length, get_or, refl, sym, ◌∙◌, ap, subst, arith, ⊎_elim}
-use Rattle.std.proofs.lemmas.Bool.{cases_eq, cases_lt}
-use Rattle.std.proofs.lemmas.List.{get_or_push, get_or_append_left, length-append}
-use Rattle.std.specs.List.{Contains}
-use Rattle.pv_loops.specs.declared.fault.TStep.{TStep}
-use Rattle.pv_loops.specs.declared.fault.TStep.TheVariants.{T1, T2}
-use Rattle.pv_loops.specs.declared.groups.Groups.{Groups}
-use Rattle.pv_loops.specs.declared.reduction.Reduction.{Reduction}
-use Rattle.pv_loops.specs.Shapes.{Edge, targets, IsReversed, IsShape}
-use Rattle.pv_loops.specs.Steps.{Graph, graph_of, Applies, AllApply, after_all, Stuck}
-use Rattle.pv_loops.specs.Groups.{leader_of, Leads, AreGroups}
-use Rattle.pv_loops.specs.Reductions.{Grouped, Reduced, Reduces, IsOnlySource, AreRest, NoneMerges}
+use Rattle.std.proofs.Common.{◌≡◌, ◌≢◌, ℕ, ◌<◌, ◌≤◌, ◌+◌, List, [], ◌∷◌, ◌++◌, length, get_or, refl, sym, ◌∙◌, ap, subst, arith, ⊎_elim, length-append}
+use Rattle.pv_loops.proofs.Words.{cases_eq, cases_lt, get_or_push, get_or_append_left, Contains, TStep, T1, T2, Groups, Reduction, Edge, targets, IsReversed, IsShape, Graph, graph_of, Applies, AllApply, after_all, Stuck, leader_of, Leads, AreGroups, Grouped, Reduced, Reduces, IsOnlySource, AreRest, NoneMerges}
 use Rattle.pv_loops.proofs.Grouping.{grouped_T1, source_within}
 use Rattle.pv_loops.proofs.Reducing.{apply_append, after_append}
 

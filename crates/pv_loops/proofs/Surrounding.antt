@@ -1,17 +1,7 @@
 -- The headers of the loops around a node.
-use Rattle.std.proofs.Common.{◌≡◌, ◌≢◌, ℕ, zero, suc, ◌<◌, ◌≤◌, List, [], ◌∷◌, ◌++◌, length, get_or, refl, sym, ◌∙◌, ap, subst, arith, inl, ⊎_elim, Option, Some, None}
-use Rattle.std.proofs.lemmas.Bool.{cases_eq, cases_lt}
-use Rattle.std.proofs.lemmas.List.{get_or_past, length-append}
-use Rattle.std.specs.Prelude.{slice_get}
-use Rattle.pv_loops.specs.declared.forest.Loop.{Loop}
-use Rattle.pv_loops.specs.declared.nest.Nest.{Nest}
-use Rattle.pv_loops.specs.declared.forest.TheConstants.{MAX_DEPTH}
-use Rattle.pv_loops.specs.declared.headers.Headers.{Headers}
-use Rattle.pv_loops.specs.Shapes.{IsShape, IsReversed}
-use Rattle.pv_loops.specs.Bodies.{IsOrder, IsHead, InBody}
-use Rattle.pv_loops.specs.Nests.{AreHeaders, Encloses, alone, within, IsHomeBefore, IsNested}
-use Rattle.pv_loops.specs.Forests.{AreAround, outermost, inner}
-use Rattle.pv_loops.specs.Ranks.{header_and, headers_from}
+use Rattle.std.proofs.Common.{◌≡◌, ◌≢◌, ℕ, zero, suc, ◌<◌, ◌≤◌, List, [], ◌∷◌, ◌++◌, length, get_or, refl, sym, ◌∙◌, ap, subst, arith, inl, ⊎_elim, Option, Some, None, length-append, slice_get}
+use Rattle.pv_loops.proofs.Words.{cases_eq, cases_lt, get_or_past, Loop, Nest, MAX_DEPTH, Headers, IsShape, IsReversed, IsOrder, IsHead, InBody, AreHeaders, Encloses, alone, within, IsHomeBefore, IsNested, AreAround, inner, header_and, headers_from}
+use Rattle.pv_loops.specs.Forests.{outermost}
 use Rattle.pv_loops.proofs.Bodies.{head_of, body_in}
 use Rattle.pv_loops.proofs.Listing.{rest, listed_at}
 use Rattle.pv_loops.proofs.Nesting.{meets, inside, enclosed_head}

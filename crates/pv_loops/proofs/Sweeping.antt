@@ -1,16 +1,6 @@
 -- The search for the one group with edges into a leader.
-use Rattle.std.proofs.Common.{◌≡◌, ◌≢◌, ℕ, ◌<◌, ◌≤◌, ◌+◌, List, [], ◌∷◌, ◌++◌, length, get_or, refl, sym, ◌∙◌, ap, subst, arith, ◌⊎◌, inl, inr, ⊎_elim, Option, Some, None}
-use Rattle.std.proofs.lemmas.Bool.{cases_eq, cases_lt}
-use Rattle.std.proofs.lemmas.List.Elements.{Contains-get_or}
-use Rattle.std.proofs.lemmas.List.{get_or_push, get_or_append_left, length-append}
-use Rattle.std.specs.List.{All, Contains}
-use Rattle.pv_loops.specs.declared.groups.Groups.{Groups}
-use Rattle.pv_loops.specs.Shapes.{Edge, targets, IsShape, IsReversed}
-use Rattle.pv_loops.specs.Groups.{leader_of, place_of, Leads, AreGroups, Merges}
-use Rattle.pv_loops.specs.Reductions.{IsOnlySource, AreOthers, AreRest, NoneMerges, Reduces, Reduced, Tracks}
-use Rattle.pv_loops.specs.declared.reduction.Reduction.{Reduction}
-use Rattle.pv_loops.specs.declared.fault.TStep.{TStep}
-use Rattle.pv_loops.specs.Steps.{graph_of, AllApply, after_all}
+use Rattle.std.proofs.Common.{◌≡◌, ◌≢◌, ℕ, ◌<◌, ◌≤◌, ◌+◌, List, [], ◌∷◌, ◌++◌, length, get_or, refl, sym, ◌∙◌, ap, subst, arith, ◌⊎◌, inl, inr, ⊎_elim, Option, Some, None, length-append}
+use Rattle.pv_loops.proofs.Words.{cases_eq, cases_lt, Contains-get_or, get_or_push, get_or_append_left, All, Contains, Groups, Edge, targets, IsShape, IsReversed, leader_of, place_of, Leads, AreGroups, Merges, IsOnlySource, AreOthers, AreRest, NoneMerges, Reduces, Reduced, Tracks, Reduction, TStep, graph_of, AllApply, after_all}
 use Rattle.pv_loops.proofs.Grouping.{source_within}
 use Rattle.pv_loops.proofs.Merging.{stays}
 

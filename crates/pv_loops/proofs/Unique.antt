@@ -1,17 +1,7 @@
 -- Two forests of a shape are the same.
-use Rattle.std.proofs.Common.{◌≡◌, ◌≢◌, ℕ, zero, suc, ◌<◌, ◌≤◌, ◌+◌, List, ◌∷◌, length, map, get_or, refl, sym, ◌∙◌, ap, subst, arith, ⊎_elim, ◌↔◌, Option, Some, None}
-use Rattle.std.proofs.lemmas.Bool.{cases_eq, cases_lt}
-use Rattle.std.proofs.lemmas.Grind.{same_number_lists}
-use Rattle.std.proofs.lemmas.List.{get_or-map, length-map, get_or_default, same_lists}
-use Rattle.std.proofs.lemmas.List.Elements.{Contains-get_or}
-use Rattle.std.proofs.lemmas.Option.{none-some, same_Some, slice_get_within, get_or_from_slice_get}
-use Rattle.std.specs.Prelude.{slice_get}
-use Rattle.std.specs.List.{Contains}
-use Rattle.std.specs.List.Sorted.{IsStrictlyIncreasing}
-use Rattle.pv_loops.specs.declared.forest.Loop.{Loop}
-use Rattle.pv_loops.specs.declared.forest.Forest.{Forest}
-use Rattle.pv_loops.specs.Forests.{AreAround, outermost, inner, IsHome, IsForest, IsSameLoop}
-use Rattle.pv_loops.specs.Laws.{OneForest}
+use Rattle.std.proofs.Common.{◌≡◌, ◌≢◌, ℕ, zero, suc, ◌<◌, ◌≤◌, ◌+◌, List, ◌∷◌, length, map, get_or, refl, sym, ◌∙◌, ap, subst, arith, ⊎_elim, ◌↔◌, Option, Some, None, slice_get}
+use Rattle.pv_loops.proofs.Words.{cases_eq, cases_lt, same_number_lists, get_or-map, length-map, get_or_default, same_lists, Contains-get_or, none-some, same_Some, slice_get_within, get_or_from_slice_get, Contains, IsStrictlyIncreasing, Loop, Forest, AreAround, inner, IsHome, IsForest, IsSameLoop, OneForest}
+use Rattle.pv_loops.specs.Forests.{outermost}
 use Rattle.pv_loops.proofs.Listing.{rest, listed_at, increases}
 
 -- a number that stands at i in xs isn't before i in ys, where the lists agree before i

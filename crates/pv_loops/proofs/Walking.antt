@@ -1,9 +1,6 @@
 -- A walk in depth.
-use Rattle.std.proofs.Common.{◌≡◌, ℕ, ◌<◌, List, [], ◌∷◌, ◌++◌, length, get_or, refl, sym, subst, arith}
-use Rattle.std.proofs.lemmas.List.{length-append, get_or_append_left, get_or_push}
-use Rattle.std.proofs.lemmas.List.Elements.{All-push}
-use Rattle.std.specs.List.{All, Contains}
-use Rattle.pv_loops.specs.Shapes.{IsShape, targets}
+use Rattle.std.proofs.Common.{◌≡◌, ℕ, ◌<◌, List, [], ◌∷◌, ◌++◌, length, get_or, refl, sym, subst, arith, length-append}
+use Rattle.pv_loops.proofs.Words.{get_or_append_left, get_or_push, All-push, All, Contains, IsShape, targets}
 
 -- a node of a path, with how many of its edges are followed
 abbrev pub AreNodes : ℕ → List (ℕ × ℕ) → Type 0

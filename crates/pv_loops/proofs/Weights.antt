@@ -1,8 +1,6 @@
 -- A node is weighed by the places of the headers around it, the outermost first, and then its own: digits to the base n, for at most `deepest` headers and one node.
-use Rattle.std.proofs.Common.{◌≡◌, ℕ, zero, suc, ◌<◌, ◌≤◌, ◌+◌, ◌-◌, ◌*◌, ◌^◌, List, [], ◌∷◌, ◌++◌, length, ◌∙◌, ap, subst, arith}
-use Rattle.std.proofs.lemmas.List.{length-append, append-nil}
-use Rattle.std.proofs.lemmas.Nat.{mul-le}
-use Rattle.std.proofs.Math.Nat.{pow-zero, pow-succ', add-mul}
+use Rattle.std.proofs.Common.{◌≡◌, ℕ, zero, suc, ◌<◌, ◌≤◌, ◌+◌, ◌-◌, ◌*◌, ◌^◌, List, [], ◌∷◌, ◌++◌, length, ◌∙◌, ap, subst, arith, length-append, append-nil}
+use Rattle.pv_loops.proofs.Words.{mul-le, pow-zero, pow-succ', add-mul}
 
 module _ (place : ℕ → ℕ) (n : ℕ) (deepest : ℕ) where
   -- what a digit below k headers counts

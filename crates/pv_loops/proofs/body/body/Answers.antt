@@ -1,6 +1,5 @@
 use Rattle.std.proofs.Common.{◌≡◌, ℕ, ◌<◌, List, [], ◌∷◌, ◌++◌, length, get_or, set, sym, ◌∙◌, ap, subst, arith, Some}
-use Rattle.std.proofs.lemmas.List.{get_or_default}
-use Rattle.pv_loops.specs.Nests.{AddsMembers}
+use Rattle.pv_loops.proofs.Words.{get_or_default, AddsMembers}
 use Rattle.pv_loops.proofs.Sweeping.{sources_nodes}
 use Rattle.pv_loops.proofs.Gathering.{Gathering, gathering_start, gathering_more, gathered_few, gathered_all}
 use Rattle.pv_loops.proofs.body.body.Goals as goal

@@ -1,16 +1,5 @@
-use Rattle.std.proofs.Common.{◌≡◌, ◌<◌, ℕ, List, [], length, get_or, sym, ◌∙◌, ap, subst, arith, None}
-use Rattle.std.specs.Global.{Vec}
-use Rattle.std.specs.List.{All}
-use Rattle.std.specs.List.Sorted.{IsSortedByKey}
-use Rattle.std.specs.Cmp.Lexicographic.{slice_cmp}
-use Rattle.std.specs.Ordering.{nat_cmp}
-use Rattle.std.proofs.lemmas.Option.{slice_get_within}
-use Rattle.std.specs.Prelude.{slice_get, Some}
-use Rattle.pv_loops.specs.declared.forest.TheConstants.{MAX_DEPTH}
-use Rattle.pv_loops.specs.declared.forest.Loop.{Loop}
-use Rattle.pv_loops.specs.Bodies.{IsHead}
-use Rattle.pv_loops.specs.Keys.{key_at, AreKeys}
-use Rattle.pv_loops.specs.Nests.{IsNested, AreHeaders}
+use Rattle.std.proofs.Common.{◌≡◌, ◌<◌, ℕ, List, [], length, get_or, sym, ◌∙◌, ap, subst, arith, None, slice_get, Some}
+use Rattle.pv_loops.proofs.Words.{Vec, All, IsSortedByKey, slice_cmp, nat_cmp, slice_get_within, MAX_DEPTH, Loop, IsHead, key_at, AreKeys, IsNested, AreHeaders}
 use Rattle.pv_loops.proofs.Bodies.{head_of}
 use Rattle.pv_loops.proofs.Orders.{reversed_shape}
 use Rattle.pv_loops.proofs.Foresting.{forest_is, nests_up_to}

@@ -1,9 +1,5 @@
-use Rattle.std.proofs.Common.{ℕ, List, [], ◌≡◌, ◌∙◌, sym, subst, ap, arith}
-use Rattle.std.proofs.lemmas.Bool.{eqb-true}
-use Rattle.pv_loops.specs.declared.groups.Groups.{Groups}
-use Rattle.pv_loops.specs.Groups.{group_of}
-use Rattle.pv_loops.specs.Reductions.{AreRest}
-use Rattle.pv_loops.specs.Bodies.{IsOrder}
+use Rattle.std.proofs.Common.{ℕ, List, [], ◌≡◌, ◌∙◌, sym, subst, ap, arith, eqb-true}
+use Rattle.pv_loops.proofs.Words.{Groups, group_of, AreRest, IsOrder}
 use Rattle.pv_loops.proofs.Orders.{reversed_shape, one_reduces, one_ordered, none_left}
 use Rattle.pv_loops.proofs.order.ordered.Goals as goal
 

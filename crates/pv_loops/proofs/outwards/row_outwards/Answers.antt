@@ -1,5 +1,5 @@
 use Rattle.std.proofs.Common.{ℕ, ◌+◌, List, length, refl, sym, subst}
-use Rattle.std.proofs.lemmas.Option.{slice_get_past, slice_get_read}
+use Rattle.pv_loops.proofs.Words.{slice_get_past, slice_get_read}
 use Rattle.pv_loops.proofs.Leading.{Walked, starts, ends_none, ends_past, ends_deep, goes}
 use Rattle.pv_loops.proofs.outwards.row_outwards.Goals as goal
 

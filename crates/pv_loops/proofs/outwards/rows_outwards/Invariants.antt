@@ -1,6 +1,5 @@
 use Rattle.std.proofs.Common.{◌≡◌, map, take}
-use Rattle.pv_loops.specs.declared.forest.TheConstants.{MAX_DEPTH}
-use Rattle.pv_loops.specs.Outwards.{places_from}
+use Rattle.pv_loops.proofs.Words.{MAX_DEPTH, places_from}
 use Rattle.pv_loops.proofs.outwards.rows_outwards.Given as goal
 
 abbrev pub invariant-loop-home : goal.invariant-loop-home

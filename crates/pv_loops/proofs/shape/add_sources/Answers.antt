@@ -1,5 +1,5 @@
 use Rattle.std.proofs.Common.{ℕ, List, take, refl, subst, sym, arith, ◌+◌}
-use Rattle.pv_loops.specs.Shapes.{AddsSources}
+use Rattle.pv_loops.proofs.Words.{AddsSources}
 use Rattle.pv_loops.proofs.Sources.{adds_more}
 use Rattle.pv_loops.proofs.shape.add_sources.Goals as goal
 

@@ -1,6 +1,5 @@
 use Rattle.std.proofs.Common.{◌≡◌, ◌<◌, ℕ, List, length, get_or, subst, arith}
-use Rattle.std.proofs.lemmas.List.Elements.{Contains-get_or}
-use Rattle.std.specs.List.{Contains}
+use Rattle.pv_loops.proofs.Words.{Contains-get_or, Contains}
 use Rattle.pv_loops.proofs.Sources.{AreSourcesBelow, sources_more, sources_all}
 use Rattle.pv_loops.proofs.shape.sources.Goals as goal
 

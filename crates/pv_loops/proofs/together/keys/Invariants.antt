@@ -1,6 +1,5 @@
 use Rattle.std.proofs.Common.{◌≡◌, ◌∷◌, ◌<◌, ℕ, [], map, get_or, length}
-use Rattle.pv_loops.specs.Outwards.{header_at}
-use Rattle.pv_loops.specs.Keys.{key_at, IsKey}
+use Rattle.pv_loops.proofs.Words.{header_at, key_at, IsKey}
 use Rattle.pv_loops.proofs.together.keys.Given as goal
 
 abbrev pub invariant-loop-x : goal.invariant-loop-x

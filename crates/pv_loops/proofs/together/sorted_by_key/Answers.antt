@@ -1,9 +1,5 @@
 use Rattle.std.proofs.Common.{◌≡◌, is_lt, rules}
-use Rattle.std.proofs.lemmas.Fn.{always_returns_same}
-use Rattle.std.proofs.lemmas.List.Sorted.{ranks_by}
-use Rattle.std.specs.Cmp.Lexicographic.{slice_cmp, nat_list_cmp_total}
-use Rattle.std.specs.Ordering.{nat_cmp}
-use Rattle.pv_loops.specs.Keys.{key_at}
+use Rattle.pv_loops.proofs.Words.{always_returns_same, ranks_by, slice_cmp, nat_list_cmp_total, nat_cmp, key_at}
 use Rattle.pv_loops.proofs.together.sorted_by_key.Goals as goal
 
 pub returns-clause-sorted : goal.returns-clause-sorted

@@ -1,6 +1,5 @@
 use Rattle.std.proofs.Common.{◌<◌, ℕ, List, length, map, sym, ◌∙◌, ap, subst}
-use Rattle.std.specs.List.{All}
-use Rattle.pv_loops.specs.Outwards.{header_at}
+use Rattle.pv_loops.proofs.Words.{All, header_at}
 use Rattle.pv_loops.proofs.Leading.{row_headers, row_within}
 use Rattle.pv_loops.proofs.forest.Forest.around.Goals as goal
 

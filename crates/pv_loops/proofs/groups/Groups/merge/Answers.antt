@@ -1,6 +1,5 @@
 use Rattle.std.proofs.Common.{◌≡◌, ◌≢◌, ℕ, List, [], ◌++◌, length, set, get_or, refl, subst, sym, ap, ◌∙◌, get_or-set_other}
-use Rattle.pv_loops.specs.declared.groups.Groups.{Groups}
-use Rattle.pv_loops.specs.Groups.{group_of, Relabels}
+use Rattle.pv_loops.proofs.Words.{Groups, group_of, Relabels}
 use Rattle.pv_loops.proofs.Merging.{merges}
 use Rattle.pv_loops.proofs.groups.Groups.merge.Goals as goal
 

@@ -1,8 +1,5 @@
 use Rattle.std.proofs.Common.{◌≡◌, ◌↔◌, ◌≤◌, ℕ, ◌+◌, List, [], ◌∷◌, ◌++◌, true, length, get_or, sym, ◌∙◌, ap, subst, arith, Option, Some}
-use Rattle.std.proofs.lemmas.Bool.{false≢true}
-use Rattle.std.specs.List.{Contains}
-use Rattle.pv_loops.specs.declared.headers.Headers.{Headers}
-use Rattle.pv_loops.specs.Bodies.{IsHead}
+use Rattle.pv_loops.proofs.Words.{false≢true, Contains, Headers, IsHead}
 use Rattle.pv_loops.proofs.Sweeping.{sources_nodes}
 use Rattle.pv_loops.proofs.Heading.{Heading, heading_skip, heading_more, heading_all}
 use Rattle.pv_loops.proofs.headers.Headers.find.Goals as goal

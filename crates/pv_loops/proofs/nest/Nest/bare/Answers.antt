@@ -1,6 +1,5 @@
 use Rattle.std.proofs.Common.{◌≡◌, ℕ, List, length, get_or, ◌∙◌, ap, subst, arith, replicate, None, Option}
-use Rattle.std.proofs.lemmas.List.{get_or-replicate, length-replicate}
-use Rattle.pv_loops.specs.declared.forest.TheConstants.{MAX_DEPTH}
+use Rattle.pv_loops.proofs.Words.{get_or-replicate, length-replicate, MAX_DEPTH}
 use Rattle.pv_loops.proofs.Filling.{Baring, bare_nested}
 use Rattle.pv_loops.proofs.nest.Nest.bare.Goals as goal
 

@@ -1,6 +1,5 @@
 use Rattle.std.proofs.Common.{◌≡◌, ℕ, List, length, get_or, sym, ◌∙◌, ap, subst, arith}
-use Rattle.pv_loops.specs.declared.forest.TheConstants.{MAX_DEPTH}
-use Rattle.pv_loops.specs.Nests.{IsNested}
+use Rattle.pv_loops.proofs.Words.{MAX_DEPTH, IsNested}
 use Rattle.pv_loops.proofs.nest.Nest.fill.Goals as goal
 
 pub nest-requires-clause-nested : goal.nest-requires-clause-nested

@@ -1,5 +1,4 @@
-use Rattle.pv_loops.specs.Nests.{IsNested}
-use Rattle.pv_loops.specs.declared.forest.TheConstants.{MAX_DEPTH}
+use Rattle.pv_loops.proofs.Words.{IsNested, MAX_DEPTH}
 use Rattle.pv_loops.proofs.nest.Nest.fill.Given as goal
 
 abbrev pub invariant-loop-h : goal.invariant-loop-h

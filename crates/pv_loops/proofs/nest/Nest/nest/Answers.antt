@@ -1,10 +1,5 @@
 use Rattle.std.proofs.Common.{◌≡◌, ◌≢◌, ℕ, ◌≤◌, ◌+◌, List, length, get_or, refl, sym, ◌∙◌, subst, arith, Option, Some, None}
-use Rattle.std.proofs.lemmas.List.{with_items_is}
-use Rattle.std.proofs.lemmas.List.Sorted.{IsNonDecreasingBy-from_sort}
-use Rattle.pv_loops.specs.declared.forest.Loop.{Loop}
-use Rattle.pv_loops.specs.declared.forest.TheConstants.{MAX_DEPTH}
-use Rattle.std.specs.Vec.{with_item, with_items}
-use Rattle.pv_loops.specs.Nests.{Encloses, KeepsHomes}
+use Rattle.pv_loops.proofs.Words.{with_items_is, IsNonDecreasingBy-from_sort, with_item, with_items, Loop, MAX_DEPTH, Encloses, KeepsHomes}
 use Rattle.pv_loops.proofs.Listing.{read_at}
 use Rattle.pv_loops.proofs.Filling.{head_here, nested_skip, nested_more, depth_alone, depth_parent, filled_now, home_unused, too_deep}
 use Rattle.pv_loops.proofs.nest.Nest.nest.Goals as goal

@@ -1,6 +1,5 @@
 use Rattle.std.proofs.Common.{◌≡◌, ℕ, ◌<◌, length, ◌∙◌, subst, arith}
-use Rattle.pv_loops.specs.Groups.{leader_of}
-use Rattle.pv_loops.specs.Reductions.{AreOthers}
+use Rattle.pv_loops.proofs.Words.{leader_of, AreOthers}
 use Rattle.pv_loops.proofs.Sweeping.{first_rest, reduced_start}
 use Rattle.pv_loops.proofs.reduction.Reduction.collapse.Goals as goal
 

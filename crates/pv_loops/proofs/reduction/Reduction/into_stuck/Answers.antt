@@ -1,8 +1,5 @@
 use Rattle.std.proofs.Common.{◌≡◌, ℕ, ◌+◌, [], ◌↔◌, true, length, get_or, sym, ◌∙◌, ap, subst, arith, List, Vec, Global}
-use Rattle.std.proofs.lemmas.Bool.{false≢true}
-use Rattle.std.specs.List.{Contains}
-use Rattle.pv_loops.specs.declared.fault.TStep.{TStep}
-use Rattle.pv_loops.specs.Groups.{leader_of}
+use Rattle.pv_loops.proofs.Words.{false≢true, Contains, TStep, leader_of}
 use Rattle.pv_loops.proofs.Sweeping.{sources_nodes}
 use Rattle.pv_loops.proofs.Sticking.{AreLeaders, leaders_from_rest, Dropping, dropped_more, dropped_same, dropped_all}
 use Rattle.pv_loops.proofs.reduction.Reduction.into_stuck.Goals as goal

@@ -1,6 +1,5 @@
 use Rattle.std.proofs.Common.{ℕ, List, sym, subst, ◌≡◌, ◌↔◌, true}
-use Rattle.std.specs.List.{Contains}
-use Rattle.pv_loops.specs.Groups.{leader_of}
+use Rattle.pv_loops.proofs.Words.{Contains, leader_of}
 use Rattle.pv_loops.proofs.Merging.{merged_groups}
 use Rattle.pv_loops.proofs.Reducing.{reduced_merge}
 use Rattle.pv_loops.proofs.Sweeping.{sources_nodes, only_leads}

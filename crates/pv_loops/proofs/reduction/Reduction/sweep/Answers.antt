@@ -1,8 +1,5 @@
 use Rattle.std.proofs.Common.{ℕ, List, ◌+◌, get_or, refl, sym, subst, ap, ◌∙◌, arith, Vec, Global}
-use Rattle.pv_loops.specs.declared.reduction.Reduction.{Reduction}
-use Rattle.pv_loops.specs.Shapes.{targets}
-use Rattle.pv_loops.specs.Groups.{Leads}
-use Rattle.pv_loops.specs.Reductions.{IsOnlySource}
+use Rattle.pv_loops.proofs.Words.{Reduction, targets, Leads, IsOnlySource}
 use Rattle.pv_loops.proofs.Sweeping.{sources_nodes, only_leads, Sweeping, sweeping_kept, sweeping_merged, swept_none, SweptTo}
 use Rattle.pv_loops.proofs.reduction.Reduction.sweep.Goals as goal
 use Rattle.pv_loops.proofs.reduction.Reduction.sweep.Goals.{in-None+in_ok-push-in-None, in-Some+in_ok-merge-in-Some}

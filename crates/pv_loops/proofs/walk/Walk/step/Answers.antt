@@ -1,7 +1,5 @@
-use Rattle.std.proofs.Common.{ℕ, ◌<◌, ◌+◌, length, sym, ◌∙◌, subst, arith, true}
-use Rattle.std.proofs.lemmas.List.{length-set}
-use Rattle.std.proofs.lemmas.List.Elements.{All-push}
-use Rattle.std.specs.List.{All}
+use Rattle.std.proofs.Common.{ℕ, ◌<◌, ◌+◌, length, sym, ◌∙◌, subst, arith, true, length-set}
+use Rattle.pv_loops.proofs.Words.{All-push, All}
 use Rattle.pv_loops.proofs.Walking.{popped, pushed, target_in}
 use Rattle.pv_loops.proofs.walk.Walk.step.Goals as goal
 

@@ -37,6 +37,9 @@ pub negated : (P : Type 0) → Decided P → Decided (P → ⊥)
 negated P (inl p) = inr (λ f. f p)
 negated P (inr p) = inl p
 
+pub differ : (a b : ℕ) → Decided (a ≢ b)
+differ a b = negated (a ≡ b) (cases_eq a b)
+
 -- whether a number below n has the property
 pub some_below : (P : ℕ → Type 0) → ((a : ℕ) → Decided (P a)) → (n : ℕ) → Decided ((a : ℕ) × (a < n) × P a)
 some_below P d zero = inr (λ r. let lt = r.1 in omega (arith, lt))

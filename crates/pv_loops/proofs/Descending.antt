@@ -1,7 +1,7 @@
 -- Steps are taken while one applies: a shape in which none can be stuck is reduced to one node.
 use Rattle.std.proofs.Common.{◌≡◌, ◌≢◌, ℕ, zero, suc, ◌<◌, ◌≤◌, ◌+◌, List, [], ◌∷◌, length, refl, sym, subst, arith, ◌⊎◌, inl, inr, ⊎_elim}
 use Rattle.pv_loops.proofs.Words.{cases_eq, cases_lt, TStep, T1, T2, targets, IsShape, Graph, graph_of, Applies, after, AllApply, after_all, ReduceToOne, IsReducible}
-use Rattle.pv_loops.proofs.Deciding.{Decided, both, all_three, all_four, either, implies, negated, some_below, all_below, contains_decided, count, count_le, count_less, count_more}
+use Rattle.pv_loops.proofs.Deciding.{differ, Decided, both, all_three, all_four, either, implies, negated, some_below, all_below, contains_decided, count, count_le, count_less, count_more}
 use Rattle.pv_loops.proofs.Grouping.{source_within}
 
 -- a graph of nodes below n, with tests for its nodes and edges
@@ -10,9 +10,6 @@ record IsFinite (n : ℕ) (g : Graph) : Type 0 where
   arrow : (a b : ℕ) → Decided (g.Arrow a b)
   within : (a : ℕ) → g.Node a → a < n
   ends : (a b : ℕ) → g.Arrow a b → g.Node a × g.Node b
-
-differ : (a b : ℕ) → Decided (a ≢ b)
-differ a b = negated (a ≡ b) (cases_eq a b)
 
 finite_shape : (s : List (List ℕ)) → IsShape s → IsFinite (length s) (graph_of s)
 finite_shape s S = record {

@@ -2,7 +2,7 @@
 use Rattle.std.proofs.Common.{◌≡◌, ◌≢◌, ℕ, zero, suc, ◌<◌, ◌≤◌, ◌+◌, List, [], ◌∷◌, length, get_or, sym, subst, arith, ◌⊎◌, inl, inr, ⊎_elim}
 use Rattle.pv_loops.proofs.Words.{cases_eq, cases_lt, Contains, Edge, targets, IsShape, IsReversed, IsOrder, IsHead, Reaches, back, before, InBody, AreBody, Encloses, alone, within}
 use Rattle.pv_loops.proofs.Bodies.{head_of, body_in}
-use Rattle.pv_loops.proofs.Deciding.{Decided, both, all_three, either, negated, some_below, contains_decided, count, count_less, count_most, greatest, those, those_has, those_only}
+use Rattle.pv_loops.proofs.Deciding.{differ, Decided, both, all_three, either, negated, some_below, contains_decided, count, count_less, count_most, greatest, those, those_has, those_only}
 use Rattle.pv_loops.proofs.Grouping.{source_within}
 use Rattle.pv_loops.proofs.Merged.{table, length-table, get_or-table}
 use Rattle.pv_loops.proofs.Nesting.{low, same_head}
@@ -30,9 +30,6 @@ reversed s S = record {
 
 below : (a n : ℕ) → Decided (a ≤ n)
 below a n = ⊎_elim (λ (h : n < a). inr (λ le. omega arith)) (λ (h : a ≤ n). inl h) (cases_lt n a)
-
-differ : (a b : ℕ) → Decided (a ≢ b)
-differ a b = negated (a ≡ b) (cases_eq a b)
 
 module _ (sources : List (List ℕ)) (order place : List ℕ) (S : IsShape sources) (O : IsOrder sources order place) where
   abbrev P : ℕ → ℕ

@@ -11,15 +11,6 @@ pub record Baring (headers : List ℕ) (loops : List Loop) (n : ℕ) : Type 0 wh
   pub size : length loops ≡ n
   pub header : (i : ℕ) (l : Loop) → slice_get loops i ≡ Some l → l.header ≡ get_or headers i 0
 
-pub baring_more : (headers : List ℕ) (loops : List Loop) (n : ℕ) (l : Loop) → l.header ≡ get_or headers n 0 → Baring headers loops n → Baring headers (loops ++ l ∷ []) (n + 1)
-baring_more headers loops n l is B = record {
-  size = omega (arith, length-append loops (l ∷ []), B.size);
-  header = λ i k e. ⊎_elim
-      (λ (q : (i < length loops) × (slice_get loops i ≡ Some k)). B.header i k q.1)
-      (λ (q : (i ≡ length loops) × (k ≡ l)). ap (λ (v : Loop). v.header) q.1 ∙ is ∙ ap (λ v. get_or headers v 0) (sym (q.0 ∙ B.size)))
-      (pushed_at loops l i k e);
-}
-
 pub bare_nested : (sources : List (List ℕ)) (place headers : List ℕ) (most count : ℕ) (f : Nest) → length sources ≡ count → length f.home.items ≡ count → ((x : ℕ) → x < count → get_or f.home.items x None ≡ None) → Baring headers f.loops.items (length headers)
     → IsNested sources place headers most 0 f
 bare_nested sources place headers most count f size homes none B = record {

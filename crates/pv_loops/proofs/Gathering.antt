@@ -71,16 +71,6 @@ pub record Adding (i : ℕ) (place : List ℕ) (h : ℕ) (nodes : List ℕ) (t :
   pub marked : IsMarked i home added
   pub keeps : KeepsHomes i start home
 
-pub adding_start : (i : ℕ) (place : List ℕ) (h : ℕ) (nodes : List ℕ) (home : List (Option ℕ)) (body : List ℕ) → IsMarked i home body → Adding i place h nodes 0 home home body body
-adding_start i place h nodes home body M = record {
-  longer = omega arith;
-  prefix = λ k lt. refl;
-  new = λ x c. inl c;
-  done = λ k lt. absurd (omega arith);
-  marked = M;
-  keeps = record { size = refl; kept = λ x ne. refl };
-}
-
 pub adding_skip : (i : ℕ) (place : List ℕ) (h : ℕ) (nodes : List ℕ) (t : ℕ) (start home : List (Option ℕ)) (body added : List ℕ)
     → (get_or place h 0 ≤ get_or place (get_or nodes t 0) 0 → get_or home (get_or nodes t 0) None ≡ Some i) → Adding i place h nodes t start home body added → Adding i place h nodes (t + 1) start home body added
 adding_skip i place h nodes t start home body added there A = record {

@@ -2,6 +2,7 @@
 use Rattle.std.proofs.Common.{◌≡◌, ◌≢◌, ℕ, ◌<◌, ◌≤◌, ◌+◌, List, [], ◌∷◌, ◌++◌, length, get_or, refl, sym, ◌∙◌, ap, subst, arith, ⊎_elim, Option, Some, None, length-append}
 use Rattle.pv_loops.proofs.Words.{cases_eq, cases_lt, get_or_append_left, get_or_push, get_or_past, none-some, same_Some, IsStrictlyIncreasing, Headers, IsHead, AreHeaders}
 use Rattle.pv_loops.proofs.Grouping.{source_within}
+use Rattle.pv_loops.proofs.Listing.{length_more, front_more, last_more, by_last}
 
 -- the headers below n
 pub record Heading (sources : List (List ℕ)) (place nodes : List ℕ) (at : List (Option ℕ)) (n : ℕ) : Type 0 where
@@ -12,17 +13,6 @@ pub record Heading (sources : List (List ℕ)) (place nodes : List ℕ) (at : Li
   pub heads : (k : ℕ) → k < length nodes → IsHead sources place (get_or nodes k 0)
   pub found : (x i : ℕ) → get_or at x None ≡ Some i → (i < length nodes) × (get_or nodes i 0 ≡ x)
   pub all : (x : ℕ) → x < n → IsHead sources place x → get_or at x None ≢ None
-
-pub heading_none : (sources : List (List ℕ)) (place : List ℕ) → Heading sources place [] [] 0
-heading_none sources place = record {
-  size = refl;
-  fewer = omega arith;
-  below = λ k h. absurd (omega arith);
-  ascend = λ k h. absurd (omega arith);
-  heads = λ k h. absurd (omega arith);
-  found = λ x i e. absurd (none-some i e);
-  all = λ x h. absurd (omega arith);
-}
 
 module _ (sources : List (List ℕ)) (place nodes : List ℕ) (at : List (Option ℕ)) (n : ℕ) (H : Heading sources place nodes at n) where
   -- one more place at the end
@@ -50,16 +40,16 @@ module _ (sources : List (List ℕ)) (place nodes : List ℕ) (at : List (Option
   heading_more head = record {
     size = omega (arith, length-append at (Some (length nodes) ∷ []), H.size);
     fewer = omega (arith, len, H.fewer);
-    below = λ k h. by_last (λ v. v < n + 1) k h (λ l. let b = H.below k l in omega (arith, b)) (omega arith);
+    below = λ k h. by_last nodes n (λ v. v < n + 1) k h (λ l. let b = H.below k l in omega (arith, b)) (omega arith);
     ascend = λ k h. ⊎_elim
-        (λ (lt : k + 1 < length nodes). let a = H.ascend k lt in let p = front k (omega (arith, lt)) in let q = front (k + 1) lt in omega (arith, a, p, q))
-        (λ (ge : length nodes ≤ k + 1). let at_end : k + 1 ≡ length nodes = omega (arith, ge, h, len) in let b = H.below k (omega (arith, at_end)) in let p = front k (omega (arith, at_end)) in
-        let q = ap (λ v. get_or more v 0) at_end ∙ last in omega (arith, b, p, q))
+        (λ (lt : k + 1 < length nodes). let a = H.ascend k lt in let p = front_more nodes n k (omega (arith, lt)) in let q = front_more nodes n (k + 1) lt in omega (arith, a, p, q))
+        (λ (ge : length nodes ≤ k + 1). let at_end : k + 1 ≡ length nodes = omega (arith, ge, h, len) in let b = H.below k (omega (arith, at_end)) in let p = front_more nodes n k (omega (arith, at_end)) in
+        let q = ap (λ v. get_or more v 0) at_end ∙ last_more nodes n in omega (arith, b, p, q))
         (cases_lt (k + 1) (length nodes));
-    heads = λ k h. by_last (λ v. IsHead sources place v) k h (λ l. H.heads k l) head;
+    heads = λ k h. by_last nodes n (λ v. IsHead sources place v) k h (λ l. H.heads k l) head;
     found = last_place (Some (length nodes)) (λ x o. (i : ℕ) → o ≡ Some i → (i < length more) × (get_or more i 0 ≡ x))
-        (λ x _ i e. let f = H.found x i e in let lt = f.0 in (omega (arith, lt, len), front i f.0 ∙ f.1))
-        (λ i e. let q = same_Some (length nodes) i e in (omega (arith, len, q), ap (λ v. get_or more v 0) (sym q) ∙ last));
+        (λ x _ i e. let f = H.found x i e in let lt = f.0 in (omega (arith, lt, len), front_more nodes n i f.0 ∙ f.1))
+        (λ i e. let q = same_Some (length nodes) i e in (omega (arith, len, q), ap (λ v. get_or more v 0) (sym q) ∙ last_more nodes n));
     all = last_place (Some (length nodes)) (λ x o. x < n + 1 → IsHead sources place x → o ≢ None) (λ x ne lt h. H.all x (omega arith) h) (λ _ _ e. none-some (length nodes) (sym e));
   }
     where
@@ -67,19 +57,7 @@ module _ (sources : List (List ℕ)) (place nodes : List ℕ) (at : List (Option
       more = nodes ++ n ∷ []
 
       len : length more ≡ length nodes + 1
-      len = length-append nodes (n ∷ [])
-
-      front : (k : ℕ) → k < length nodes → get_or more k 0 ≡ get_or nodes k 0
-      front k lt = get_or_append_left nodes (n ∷ []) 0 k lt
-
-      last : get_or more (length nodes) 0 ≡ n
-      last = get_or_push nodes n 0 (length nodes) refl
-
-      by_last : (P : ℕ → Type 0) (k : ℕ) → k < length more → (k < length nodes → P (get_or nodes k 0)) → P n → P (get_or more k 0)
-      by_last P k lt a b = ⊎_elim
-          (λ (l : k < length nodes). subst P (sym (front k l)) (a l))
-          (λ (l : length nodes ≤ k). let e : k ≡ length nodes = omega (arith, len) in subst P (sym (ap (λ v. get_or more v 0) e ∙ last)) b)
-          (cases_lt k (length nodes))
+      len = length_more nodes n
 
 pub heading_all : (sources : List (List ℕ)) (place : List ℕ) (headers : Headers) (n : ℕ) → n ≡ length sources → Heading sources place headers.nodes.items headers.at.items n → AreHeaders sources place headers
 heading_all sources place headers n is H = record {

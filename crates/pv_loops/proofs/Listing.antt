@@ -77,6 +77,24 @@ fork (x ∷ us) vs = ⊎_elim
     q)
     (fork us vs)
 
+-- a list with one number more
+module _ (xs : List ℕ) (y : ℕ) where
+  pub length_more : length (xs ++ y ∷ []) ≡ length xs + 1
+  length_more = length-append xs (y ∷ [])
+
+  pub front_more : (k : ℕ) → k < length xs → get_or (xs ++ y ∷ []) k 0 ≡ get_or xs k 0
+  front_more k lt = get_or_append_left xs (y ∷ []) 0 k lt
+
+  pub last_more : get_or (xs ++ y ∷ []) (length xs) 0 ≡ y
+  last_more = get_or_push xs y 0 (length xs) refl
+
+  -- what holds of each of its numbers, by whether it's the last
+  pub by_last : (P : ℕ → Type 0) (k : ℕ) → k < length (xs ++ y ∷ []) → (k < length xs → P (get_or xs k 0)) → P y → P (get_or (xs ++ y ∷ []) k 0)
+  by_last P k lt a b = ⊎_elim
+      (λ (l : k < length xs). subst P (sym (front_more k l)) (a l))
+      (λ (l : length xs ≤ k). let e : k ≡ length xs = omega (arith, length_more) in subst P (sym (ap (λ v. get_or (xs ++ y ∷ []) v 0) e ∙ last_more)) b)
+      (cases_lt k (length xs))
+
 -- there is an element at each place
 pub listed_at : {X : Type 0} (xs : List X) (i : ℕ) → i < length xs → (x : X) × (slice_get xs i ≡ Some x)
 listed_at {X} xs i lt = ⊎_elim

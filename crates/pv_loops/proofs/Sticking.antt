@@ -3,6 +3,7 @@ use Rattle.std.proofs.Common.{◌≡◌, ◌≢◌, ℕ, ◌<◌, ◌≤◌, ◌
 use Rattle.pv_loops.proofs.Words.{cases_eq, cases_lt, get_or_push, get_or_append_left, Contains, TStep, T1, T2, Groups, Reduction, Edge, targets, IsReversed, IsShape, Graph, graph_of, Applies, AllApply, after_all, Stuck, leader_of, Leads, AreGroups, Grouped, Reduced, Reduces, IsOnlySource, AreRest, NoneMerges}
 use Rattle.pv_loops.proofs.Grouping.{grouped_T1, source_within}
 use Rattle.pv_loops.proofs.Reducing.{apply_append, after_append}
+use Rattle.pv_loops.proofs.Listing.{length_more, front_more, last_more, by_last}
 
 -- all leaders, each once
 pub record AreLeaders (g : Groups) (leaders : List ℕ) : Type 0 where
@@ -12,13 +13,13 @@ pub record AreLeaders (g : Groups) (leaders : List ℕ) : Type 0 where
 
 pub leaders_from_rest : (g : Groups) (rest : List ℕ) → Leads g 0 → AreRest g rest → AreLeaders g (rest ++ 0 ∷ [])
 leaders_from_rest g rest zero R = record {
-  leads = λ k h. by_last (λ v. Leads g v) k h (λ l. R.leads k l) zero;
-  distinct = λ j k less h. by_last (λ v. get_or more j 0 ≢ v) k h
-      (λ l e. R.distinct j k less l (sym (front j (omega arith)) ∙ e))
-      (λ e. R.nonzero j (omega (arith, len)) (sym (front j (omega (arith, len))) ∙ e));
+  leads = λ k h. by_last rest 0 (λ v. Leads g v) k h (λ l. R.leads k l) zero;
+  distinct = λ j k less h. by_last rest 0 (λ v. get_or more j 0 ≢ v) k h
+      (λ l e. R.distinct j k less l (sym (front_more rest 0 j (omega arith)) ∙ e))
+      (λ e. R.nonzero j (omega (arith, len)) (sym (front_more rest 0 j (omega (arith, len))) ∙ e));
   all = λ x l. ⊎_elim
-      (λ (e : x ≡ 0). (length rest, omega (arith, len), last ∙ sym e))
-      (λ (ne : x ≢ 0). let a = R.all x l ne in let lt = a.1 in (a.0, omega (arith, len, lt), front a.0 a.1 ∙ a.2))
+      (λ (e : x ≡ 0). (length rest, omega (arith, len), last_more rest 0 ∙ sym e))
+      (λ (ne : x ≢ 0). let a = R.all x l ne in let lt = a.1 in (a.0, omega (arith, len, lt), front_more rest 0 a.0 a.1 ∙ a.2))
       (cases_eq x 0);
 }
   where
@@ -26,19 +27,7 @@ leaders_from_rest g rest zero R = record {
     more = rest ++ 0 ∷ []
 
     len : length more ≡ length rest + 1
-    len = length-append rest (0 ∷ [])
-
-    front : (k : ℕ) → k < length rest → get_or more k 0 ≡ get_or rest k 0
-    front k lt = get_or_append_left rest (0 ∷ []) 0 k lt
-
-    last : get_or more (length rest) 0 ≡ 0
-    last = get_or_push rest 0 0 (length rest) refl
-
-    by_last : (P : ℕ → Type 0) (k : ℕ) → k < length more → (k < length rest → P (get_or rest k 0)) → P 0 → P (get_or more k 0)
-    by_last P k lt a b = ⊎_elim
-        (λ (l : k < length rest). subst P (sym (front k l)) (a l))
-        (λ (l : length rest ≤ k). let e : k ≡ length rest = omega (arith, len) in subst P (sym (ap (λ v. get_or more v 0) e ∙ last)) b)
-        (cases_lt k (length rest))
+    len = length_more rest 0
 
 -- the first i leaders have no edge to themselves any more
 pub record DroppedTo (s : List (List ℕ)) (g : Groups) (steps : List TStep) (leaders : List ℕ) (i : ℕ) : Type 0 where
@@ -50,14 +39,6 @@ pub record DroppedTo (s : List (List ℕ)) (g : Groups) (steps : List TStep) (le
 -- .. whatever the shape
 abbrev pub Dropping : List (List ℕ) → Reduction → List TStep → List ℕ → ℕ → Type 0
 Dropping sources start steps leaders i = (s : List (List ℕ)) → IsReversed s sources → Reduced s start → DroppedTo s start.groups steps leaders i
-
-pub dropped_none : (sources : List (List ℕ)) (start : Reduction) (leaders : List ℕ) → Dropping sources start start.steps.items leaders 0
-dropped_none sources start leaders = λ s rev R. record {
-  applies = R.applies;
-  grouped = R.tracks.grouped;
-  none = λ k h. absurd (omega arith);
-  still = λ x y e lx ly _. subst (λ v. (after_all (graph_of s) start.steps.items).Arrow v y) lx (R.tracks.all x y e ly);
-}
 
 -- a leader with a source in its own group
 pub dropped_more : (sources : List (List ℕ)) (start : Reduction) (steps : List TStep) (leaders : List ℕ) (i : ℕ) → (leader_of start.groups 0 ≡ 0 → AreLeaders start.groups leaders) → i < length leaders

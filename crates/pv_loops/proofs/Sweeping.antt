@@ -3,6 +3,7 @@ use Rattle.std.proofs.Common.{◌≡◌, ◌≢◌, ℕ, ◌<◌, ◌≤◌, ◌
 use Rattle.pv_loops.proofs.Words.{cases_eq, cases_lt, Contains-get_or, get_or_push, get_or_append_left, All, Contains, Groups, Edge, targets, IsShape, IsReversed, leader_of, place_of, Leads, AreGroups, Merges, IsOnlySource, AreOthers, AreRest, NoneMerges, Reduces, Reduced, Tracks, Reduction, TStep, graph_of, AllApply, after_all}
 use Rattle.pv_loops.proofs.Grouping.{source_within}
 use Rattle.pv_loops.proofs.Merging.{stays}
+use Rattle.pv_loops.proofs.Listing.{length_more, front_more, last_more, by_last}
 
 -- sources are nodes
 pub sources_nodes : (sources : List (List ℕ)) (n count : ℕ) (xs : List ℕ) → IsShape sources → length sources ≡ count → xs ≡ targets sources n → All (λ x. x < count) xs
@@ -48,41 +49,29 @@ swept_none g sources rest R = record {
 pub swept_kept : (g : Groups) (sources : List (List ℕ)) (rest kept : List ℕ) (i : ℕ) → AreApart rest → i < length rest → ((p : ℕ) → IsOnlySource g (targets sources (get_or rest i 0)) (get_or rest i 0) p → ⊥)
     → SweptTo g sources rest kept i → SweptTo g sources rest (kept ++ get_or rest i 0 ∷ []) (i + 1)
 swept_kept g sources rest kept i R h none S = record {
-  leads = λ k lt. by_last (λ v. Leads g v) k lt (λ l. S.leads k l) (S.ahead i (omega arith) h);
-  nonzero = λ k lt. by_last (λ v. v ≢ 0) k lt (λ l. S.nonzero k l) (R.0 i h);
-  distinct = λ j k less lt. by_last (λ v. get_or more j 0 ≢ v) k lt
-      (λ l e. S.distinct j k less l (sym (front j (omega arith)) ∙ e))
-      (λ e. S.apart j i (omega (arith, len)) (omega arith) h (sym (front j (omega (arith, len))) ∙ e));
+  leads = λ k lt. by_last kept (get_or rest i 0) (λ v. Leads g v) k lt (λ l. S.leads k l) (S.ahead i (omega arith) h);
+  nonzero = λ k lt. by_last kept (get_or rest i 0) (λ v. v ≢ 0) k lt (λ l. S.nonzero k l) (R.0 i h);
+  distinct = λ j k less lt. by_last kept (get_or rest i 0) (λ v. get_or more j 0 ≢ v) k lt
+      (λ l e. S.distinct j k less l (sym (front_more kept (get_or rest i 0) j (omega arith)) ∙ e))
+      (λ e. S.apart j i (omega (arith, len)) (omega arith) h (sym (front_more kept (get_or rest i 0) j (omega (arith, len))) ∙ e));
   ahead = λ k le lt. S.ahead k (omega arith) lt;
-  apart = λ j k lt le lt'. by_last (λ v. v ≢ get_or rest k 0) j lt (λ l. S.apart j k l (omega arith) lt') (R.1 i k (omega arith) lt');
+  apart = λ j k lt le lt'. by_last kept (get_or rest i 0) (λ v. v ≢ get_or rest k 0) j lt (λ l. S.apart j k l (omega arith) lt') (R.1 i k (omega arith) lt');
   all = λ x l nz. ⊎_elim
-      (λ (a : (k : ℕ) × (k < length kept) × (get_or kept k 0 ≡ x)). let lt = a.1 in inl (a.0, omega (arith, len, lt), front a.0 a.1 ∙ a.2))
+      (λ (a : (k : ℕ) × (k < length kept) × (get_or kept k 0 ≡ x)). let lt = a.1 in inl (a.0, omega (arith, len, lt), front_more kept (get_or rest i 0) a.0 a.1 ∙ a.2))
       (λ (a : (k : ℕ) × (i ≤ k) × (k < length rest) × (get_or rest k 0 ≡ x)). ⊎_elim
-      (λ (e : a.0 ≡ i). inl (length kept, omega (arith, len), last ∙ ap (λ v. get_or rest v 0) (sym e) ∙ a.3))
+      (λ (e : a.0 ≡ i). inl (length kept, omega (arith, len), last_more kept (get_or rest i 0) ∙ ap (λ v. get_or rest v 0) (sym e) ∙ a.3))
       (λ (ne : a.0 ≢ i). let le = a.1 in inr (a.0, omega (arith, le), a.2, a.3))
       (cases_eq a.0 i))
       (S.all x l nz);
   fewer = omega (arith, len, S.fewer);
-  ends = λ e k p lt. by_last (λ v. IsOnlySource g (targets sources v) v p → ⊥) k lt (λ l. S.ends (omega (arith, len)) k p l) (none p);
+  ends = λ e k p lt. by_last kept (get_or rest i 0) (λ v. IsOnlySource g (targets sources v) v p → ⊥) k lt (λ l. S.ends (omega (arith, len)) k p l) (none p);
 }
   where
     more : List ℕ
     more = kept ++ get_or rest i 0 ∷ []
 
     len : length more ≡ length kept + 1
-    len = length-append kept (get_or rest i 0 ∷ [])
-
-    front : (k : ℕ) → k < length kept → get_or more k 0 ≡ get_or kept k 0
-    front k lt = get_or_append_left kept (get_or rest i 0 ∷ []) 0 k lt
-
-    last : get_or more (length kept) 0 ≡ get_or rest i 0
-    last = get_or_push kept (get_or rest i 0) 0 (length kept) refl
-
-    by_last : (P : ℕ → Type 0) (k : ℕ) → k < length more → (k < length kept → P (get_or kept k 0)) → P (get_or rest i 0) → P (get_or more k 0)
-    by_last P k lt a b = ⊎_elim
-        (λ (l : k < length kept). subst P (sym (front k l)) (a l))
-        (λ (l : length kept ≤ k). let e : k ≡ length kept = omega (arith, len) in subst P (sym (ap (λ v. get_or more v 0) e ∙ last)) b)
-        (cases_lt k (length kept))
+    len = length_more kept (get_or rest i 0)
 
 pub swept_merged : (g new : Groups) (sources : List (List ℕ)) (rest kept : List ℕ) (i p : ℕ) → AreApart rest → i < length rest → AreGroups g → Leads g p → get_or rest i 0 ≢ p → Merges g new (get_or rest i 0) p
     → SweptTo g sources rest kept i → SweptTo new sources rest kept (i + 1)

@@ -40,41 +40,28 @@ keys-requires-clause-rows c x lt =
     subst (λ (k : List Loop). All (λ i. i < length k) (get_or c.in_ok-rows.rows x [])) (c.deref-3.ensures.value ∙ sym c.deref-5.ensures.value)
     (row_within c.deref-3.result.now c.deref-4.result.now c.in_ok-rows.rows c.in_ok-rows.ensures x (omega (arith, lt, long)))
 
-pub returns-clause-forest : goal.returns-clause-forest
-returns-clause-forest c =
-    forest_is c.args.shape.now c.in_ok-sources.sources c.in_ok-order.order.nodes.items c.in_ok-order.order.place.items c.in_ok-sources.ensures (reversed_shape c.args.shape.now c.in_ok-sources.sources c.requires c.in_ok-sources.ensures)
-    c.in_ok-order.ensures.order c.in_ok-headers.headers (subst (λ (l : List ℕ). AreHeaders c.in_ok-sources.sources l c.in_ok-headers.headers) c.deref.ensures.value c.in_ok-headers.ensures) MAX_DEPTH _ c.in_ok-fill.ensures.filled
-
-pub returns-clause-ordered : goal.returns-clause-ordered
-returns-clause-ordered c =
-    let S = reversed_shape c.args.shape.now c.in_ok-sources.sources c.requires c.in_ok-sources.ensures in
-    ordered_is c.args.shape.now c.in_ok-sources.sources c.in_ok-order.order.nodes.items c.in_ok-order.order.place.items c.in_ok-sources.ensures S c.in_ok-order.ensures.order _
-    (surrounds c.args.shape.now c.in_ok-sources.sources c.in_ok-order.order.nodes.items c.in_ok-order.order.place.items c.in_ok-sources.ensures S
-    c.in_ok-order.ensures.order c.in_ok-headers.headers (subst (λ (l : List ℕ). AreHeaders c.in_ok-sources.sources l c.in_ok-headers.headers) c.deref.ensures.value c.in_ok-headers.ensures) _ c.in_ok-fill.ensures.filled)
-    c.in_ok-fill.ensures.filled.homes c.sorted_by_key.ensures.permutation c.in_ok-keys.keys.items
-    (subst (λ (p : List ℕ). AreKeys c.fill.new.self.loops.items p c.in_ok-rows.rows c.in_ok-keys.keys.items) c.deref-6.ensures.value
-    (subst (λ (k : List Loop). AreKeys k c.deref-6.result.now c.in_ok-rows.rows c.in_ok-keys.keys.items) c.deref-5.ensures.value c.in_ok-keys.ensures))
-    (subst (λ (k : List (Vec ℕ)). IsSortedByKey (key_at k) (slice_cmp nat_cmp) c.sorted_by_key.result.items) c.deref-7.ensures.value c.sorted_by_key.ensures.sorted)
-
-pub returns-clause-arranged : goal.returns-clause-arranged
-returns-clause-arranged c =
-    let S = reversed_shape c.args.shape.now c.in_ok-sources.sources c.requires c.in_ok-sources.ensures in
-    arranged_is c.args.shape.now c.in_ok-sources.sources c.in_ok-order.order.nodes.items c.in_ok-order.order.place.items c.in_ok-sources.ensures S c.in_ok-order.ensures.order _
-    (surrounds c.args.shape.now c.in_ok-sources.sources c.in_ok-order.order.nodes.items c.in_ok-order.order.place.items c.in_ok-sources.ensures S
-    c.in_ok-order.ensures.order c.in_ok-headers.headers (subst (λ (l : List ℕ). AreHeaders c.in_ok-sources.sources l c.in_ok-headers.headers) c.deref.ensures.value c.in_ok-headers.ensures) _ c.in_ok-fill.ensures.filled)
-    c.in_ok-fill.ensures.filled.homes c.sorted_by_key.ensures.permutation c.in_ok-keys.keys.items
-    (subst (λ (p : List ℕ). AreKeys c.fill.new.self.loops.items p c.in_ok-rows.rows c.in_ok-keys.keys.items) c.deref-6.ensures.value
-    (subst (λ (k : List Loop). AreKeys k c.deref-6.result.now c.in_ok-rows.rows c.in_ok-keys.keys.items) c.deref-5.ensures.value c.in_ok-keys.ensures))
-    (subst (λ (k : List (Vec ℕ)). IsSortedByKey (key_at k) (slice_cmp nat_cmp) c.sorted_by_key.result.items) c.deref-7.ensures.value c.sorted_by_key.ensures.sorted)
-
-pub returns-clause-ranked : goal.returns-clause-ranked
-returns-clause-ranked c =
-    let S = reversed_shape c.args.shape.now c.in_ok-sources.sources c.requires c.in_ok-sources.ensures in
-    ranking_from c.args.shape.now c.in_ok-sources.sources c.in_ok-order.order.nodes.items c.in_ok-order.order.place.items c.in_ok-sources.ensures S c.in_ok-order.ensures.order _
-    (surrounds c.args.shape.now c.in_ok-sources.sources c.in_ok-order.order.nodes.items c.in_ok-order.order.place.items c.in_ok-sources.ensures S
-    c.in_ok-order.ensures.order c.in_ok-headers.headers (subst (λ (l : List ℕ). AreHeaders c.in_ok-sources.sources l c.in_ok-headers.headers) c.deref.ensures.value c.in_ok-headers.ensures) _ c.in_ok-fill.ensures.filled)
-    (λ x. at_most MAX_DEPTH c.fill.new.self.loops.items (get_or c.fill.new.self.home.items x None))
-
-pub returns-clause-shallow : goal.returns-clause-shallow
-returns-clause-shallow c = nests_up_to c.args.shape.now c.in_ok-sources.sources c.in_ok-order.order.nodes.items c.in_ok-order.order.place.items c.in_ok-sources.ensures (reversed_shape c.args.shape.now c.in_ok-sources.sources c.requires c.in_ok-sources.ensures)
-    c.in_ok-order.ensures.order c.in_ok-headers.headers (subst (λ (l : List ℕ). AreHeaders c.in_ok-sources.sources l c.in_ok-headers.headers) c.deref.ensures.value c.in_ok-headers.ensures) MAX_DEPTH _ c.in_ok-fill.ensures.filled
+pub returns : goal.returns
+returns c =
+    let shape = c.args.shape.now in
+    let sources = c.in_ok-sources.sources in
+    let order = c.in_ok-order.order.nodes.items in
+    let place = c.in_ok-order.order.place.items in
+    let rev = c.in_ok-sources.ensures in
+    let S = reversed_shape shape sources c.requires rev in
+    let O = c.in_ok-order.ensures.order in
+    let headers = c.in_ok-headers.headers in
+    let H = subst (λ (l : List ℕ). AreHeaders sources l headers) c.deref.ensures.value c.in_ok-headers.ensures in
+    let N = c.in_ok-fill.ensures.filled in
+    let around = surrounds shape sources order place rev S O headers H _ N in
+    let keys = subst (λ (p : List ℕ). AreKeys c.fill.new.self.loops.items p c.in_ok-rows.rows c.in_ok-keys.keys.items) c.deref-6.ensures.value
+    (subst (λ (k : List Loop). AreKeys k c.deref-6.result.now c.in_ok-rows.rows c.in_ok-keys.keys.items) c.deref-5.ensures.value c.in_ok-keys.ensures) in
+    let sorted = subst (λ (k : List (Vec ℕ)). IsSortedByKey (key_at k) (slice_cmp nat_cmp) c.sorted_by_key.result.items) c.deref-7.ensures.value c.sorted_by_key.ensures.sorted in record {
+      reducible = c.in_ok-order.ensures.reducible;
+      forest = forest_is shape sources order place rev S O headers H MAX_DEPTH _ N;
+      ordered = ordered_is shape sources order place rev S O _ around N.homes c.sorted_by_key.ensures.permutation c.in_ok-keys.keys.items keys sorted;
+      arranged = arranged_is shape sources order place rev S O _ around N.homes c.sorted_by_key.ensures.permutation c.in_ok-keys.keys.items keys sorted;
+      ranked = ranking_from shape sources order place rev S O _ around (λ x. at_most MAX_DEPTH c.fill.new.self.loops.items (get_or c.fill.new.self.home.items x None));
+      shallow = nests_up_to shape sources order place rev S O headers H MAX_DEPTH _ N;
+      irreducible = tt;
+      deep = tt;
+    }

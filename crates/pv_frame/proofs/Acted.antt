@@ -1,21 +1,7 @@
 -- What the instructions of a code do, one after the other.
-use Rattle.std.proofs.Common.{◌≡◌, ℕ, ◌+◌, ◌≤◌, ◌<◌, List, [], ◌∷◌, ◌++◌, length, get_or, take, drop, refl, sym, ap, ◌∙◌, subst}
-use Rattle.std.specs.List.{AllZip, AllByRecursion}
-use Rattle.std.proofs.lemmas.List.{take_more, take_all, drop_more, take-append-drop}
-use Rattle.std.proofs.lemmas.Slice.Zip.{all_zipped_more}
-use Rattle.pv_pool.specs.declared.entry.Entry.{Entry}
-use Rattle.pv_insn.specs.declared.insn.Placed.{Placed}
-use Rattle.pv_frame.specs.declared.used.Use.{Use}
-use Rattle.pv_frame.specs.declared.action.Action.{Action}
-use Rattle.pv_frame.specs.declared.cause.CauseKind.{CauseKind}
-use Rattle.pv_frame.specs.Actions.{IsUse, Acts}
-use Rattle.pv_frame.specs.Programs.{Does}
-use Rattle.pv_frame.specs.Causes.{IsCauseOf, HasNoCause, cause}
-use Rattle.std.specs.Prelude.{Err}
-use Rattle.pv_frame.specs.declared.stop.Stop.{Stop}
+use Rattle.std.proofs.Common.{◌≡◌, ℕ, ◌+◌, ◌≤◌, ◌<◌, List, [], ◌∷◌, ◌++◌, length, get_or, take, drop, refl, sym, ap, ◌∙◌, subst, take_all, take-append-drop, Err}
+use Rattle.pv_frame.proofs.Words.{AllZip, AllByRecursion, take_more, drop_more, all_zipped_more, Entry, Placed, Use, Action, CauseKind, IsUse, Acts, Does, IsCauseOf, HasNoCause, cause, Stop, refused_at, IsActionOr, AreActing, IsFirstOf, OnCause}
 use Rattle.pv_frame.specs.declared.stop.Stop.TheVariants as stop
-use Rattle.pv_frame.specs.Stops.{refused_at}
-use Rattle.pv_frame.specs.Acting.{IsActionOr, AreActing, IsFirstOf, OnCause}
 use Rattle.pv_frame.proofs.ActionLaws.{clean}
 
 abbrev pub Names : List Entry → Placed → Use → Type 0
@@ -24,9 +10,6 @@ Names pool p u = IsUse pool p.insn u
 -- the instructions so far
 pub record ActingSoFar (pool : List Entry) (code : List Placed) (i : ℕ) (uses : List Use) (actions : List Action) : Type 0 where
   pub so_far : AreActing pool (take i code) uses actions
-
-pub acting_starts : (pool : List Entry) (code : List Placed) → ActingSoFar pool code 0 [] []
-acting_starts pool code = record { so_far = record { names = tt; acts = tt } }
 
 take_one : (code : List Placed) (i : ℕ) (p : Placed) → i < length code → p ≡ get_or code i p → take (i + 1) code ≡ take i code ++ p ∷ []
 take_one code i p lt is = take_more code i p lt ∙ ap (λ (x : Placed). take i code ++ x ∷ []) (sym is)
@@ -39,9 +22,6 @@ acting_on pool code i uses actions p u a lt is names acts s = record {
     acts = subst (λ (l : List Placed). AllZip (Does pool) l (actions ++ a ∷ [])) (sym (take_one code i p lt is)) (all_zipped_more (Does pool) (take i code) actions p a s.so_far.acts (u, (names, acts)));
   };
 }
-
-pub acting_done : (pool : List Entry) (code : List Placed) (i : ℕ) (uses : List Use) (actions : List Action) → length code ≤ i → ActingSoFar pool code i uses actions → AreActing pool code uses actions
-acting_done pool code i uses actions le s = subst (λ (l : List Placed). AreActing pool l uses actions) (take_all i code le) s.so_far
 
 all_clean : (pool : List Entry) (code : List Placed) (actions : List Action) → AllZip (Does pool) code actions → AllByRecursion (HasNoCause pool) code
 all_clean pool [] [] all = tt

@@ -1,22 +1,8 @@
 -- Laws of actions, as the functions that find them need them.
-use Rattle.std.proofs.Common.{◌≡◌, ℕ, ◌+◌, ◌≤◌, ◌<◌, ℤ, pos, ◌+ℤ◌, List, [], ◌∷◌, ◌++◌, length, get_or, drop, refl, sym, ap, ◌∙◌, subst, inl, inr, arith, append_assoc, ◌^◌, ◌≤ℤ◌, w32, w64, FitsSigned, to_z, of_z}
-use Rattle.std.proofs.lemmas.Int.{ints, to_z-of_z, to_z_pos}
-use Rattle.std.proofs.lemmas.List.{drop_more, drop_all, append-nil}
-use Rattle.std.specs.Prelude.{◌⊎◌, ◌==◌, option_map, IsSome, if◌then◌else◌, true, false, Option, Some, None}
-use Rattle.std.specs.Option.{option_or}
-use Rattle.std.proofs.Common.{rules}
-use Rattle.pv_value.specs.declared.name.Sym.{Sym}
-use Rattle.pv_value.specs.declared.descriptor.JType.{JType}
-use Rattle.pv_value.specs.declared.descriptor.Descriptor.{Descriptor}
-use Rattle.pv_value.specs.Descriptors.{IsFieldType, IsMethodType}
-use Rattle.pv_value.specs.declared.receiver.Form.{Form}
-use Rattle.pv_pool.specs.declared.constant.Member.{Member}
-use Rattle.pv_insn.specs.declared.insn.Case.{Case}
-use Rattle.pv_frame.specs.declared.action.Action.{Action}
+use Rattle.std.proofs.Common.{◌≡◌, ℕ, ◌+◌, ◌≤◌, ◌<◌, ℤ, pos, ◌+ℤ◌, List, [], ◌∷◌, ◌++◌, length, get_or, drop, refl, sym, ap, ◌∙◌, subst, inl, inr, arith, append_assoc, ◌^◌, ◌≤ℤ◌, w32, w64, FitsSigned, to_z, of_z, append-nil, ◌⊎◌, ◌==◌, option_map, IsSome, if◌then◌else◌, true, false, Option, Some, None, rules}
+use Rattle.pv_frame.proofs.Words.{ints, to_z-of_z, to_z_pos, drop_more, drop_all, option_or, Sym, JType, Descriptor, IsFieldType, IsMethodType, Form, Member, Case, Action, cases_from, row_of, field_rows, form_rows, MayName, IsFloatless, IsFloatlessMethod, UsesMember, AccessesFields, NamesWell, IsCauseWith}
 use Rattle.pv_frame.specs.declared.cause.CauseKind.TheVariants as kind
 use Rattle.pv_frame.specs.declared.used.Use.TheVariants as used
-use Rattle.pv_frame.specs.Actions.{cases_from, row_of, field_rows, form_rows, MayName, IsFloatless, IsFloatlessMethod, UsesMember}
-use Rattle.pv_frame.specs.Causes.{AccessesFields, NamesWell, IsCauseWith}
 use Rattle.pv_frame.proofs.ActionLaws.{apart, not_static}
 use Rattle.pv_frame.proofs.Complete.{field_row}
 use Rattle.pv_frame.proofs.FrameLaws.{some_of, no_some}

@@ -1,33 +1,12 @@
 -- An instruction with a use does one thing, and has then no cause; a method has one program.
-use Rattle.std.proofs.Common.{◌≡◌, ℕ, ◌≤◌, true, false, refl, List, [], ◌∷◌, Some, ◌∙◌, ap, sym, subst, inl, inr, arith, lit≤}
-use Rattle.std.specs.Prelude.{◌==◌, ◌||◌, if◌then◌else◌, option_map, IsTrue, Bool, None}
-use Rattle.std.specs.List.{AllZip, AllByRecursion}
-use Rattle.std.proofs.lemmas.Bool.{eqb-true}
-use Rattle.pv_value.specs.declared.name.Sym.{Sym}
-use Rattle.pv_value.specs.declared.descriptor.JType.{JType}
-use Rattle.pv_value.specs.declared.descriptor.Descriptor.{Descriptor}
-use Rattle.pv_value.specs.declared.descriptor.JType.TheVariants.{Z, B, C, S, I, J, F, D, A}
-use Rattle.pv_value.specs.Descriptors.{IsLetter, IsFieldType, IsMethodType}
-use Rattle.pv_value.specs.declared.receiver.Form.{Form}
-use Rattle.pv_value.specs.declared.receiver.Form.TheVariants.{Virtual, Special, Interface}
-use Rattle.pv_value.specs.Receivers.{receiver_sym, with_receiver}
-use Rattle.pv_value.proofs.Cited.{field_type_once, method_type_once}
-use Rattle.pv_pool.specs.declared.entry.Entry.{Entry}
-use Rattle.pv_pool.specs.declared.constant.Constant.{Constant}
+use Rattle.std.proofs.Common.{◌≡◌, ℕ, ◌≤◌, true, false, refl, List, [], ◌∷◌, Some, ◌∙◌, ap, sym, subst, inl, inr, arith, lit≤, ◌==◌, ◌||◌, if◌then◌else◌, option_map, IsTrue, Bool, None, eqb-true}
+use Rattle.pv_frame.proofs.Words.{AllZip, AllByRecursion, Sym, JType, Descriptor, Z, B, C, S, I, J, F, D, A, IsLetter, IsFieldType, IsMethodType, Form, Virtual, Special, Interface, receiver_sym, with_receiver, field_type_once, method_type_once, Entry, Constant, Member, Insn, Placed}
+use Rattle.pv_frame.proofs.Words.{Use, CauseKind, Action, field_rows, form_rows, class_rows, row_of, names_class, IsUse, IsFloatless, IsFloatlessMethod, LoadsConstant, MayName, AccessesField, CallsStatic, CallsOn, UsesMember, ActsWith, Acts, Does, HasFloatType, AccessesFields, IsCauseWith, IsCauseOf}
 use Rattle.pv_pool.specs.declared.constant.Constant.TheVariants as constant
-use Rattle.pv_pool.specs.declared.constant.Member.{Member}
-use Rattle.pv_insn.specs.declared.insn.Insn.{Insn}
 use Rattle.pv_insn.specs.declared.insn.Insn.TheVariants as insn
-use Rattle.pv_insn.specs.declared.insn.Placed.{Placed}
-use Rattle.pv_frame.specs.declared.used.Use.{Use}
 use Rattle.pv_frame.specs.declared.used.Use.TheVariants as used
-use Rattle.pv_frame.specs.declared.cause.CauseKind.{CauseKind}
 use Rattle.pv_frame.specs.declared.cause.CauseKind.TheVariants as kind
-use Rattle.pv_frame.specs.declared.action.Action.{Action}
 use Rattle.pv_frame.specs.declared.action.Action.TheVariants as act
-use Rattle.pv_frame.specs.Actions.{field_rows, form_rows, class_rows, row_of, names_class, IsUse, IsFloatless, IsFloatlessMethod, LoadsConstant, MayName, AccessesField, CallsStatic, CallsOn, UsesMember, ActsWith, Acts}
-use Rattle.pv_frame.specs.Programs.{Does}
-use Rattle.pv_frame.specs.Causes.{HasFloatType, AccessesFields, IsCauseWith, IsCauseOf}
 use Rattle.pv_frame.proofs.FrameLaws.{some_of, no_some}
 
 -- ---- one action
@@ -123,15 +102,8 @@ one_list pool (i ∷ placed) (x ∷ a) (y ∷ b) p q =
 
 -- no text is both a field descriptor and a method descriptor
 no_letter : (b : ℕ) (t : JType) → b ≡ 40 → IsLetter b t → ⊥
-no_letter b Z e h = omega arith
-no_letter b B e h = omega arith
-no_letter b C e h = omega arith
-no_letter b S e h = omega arith
-no_letter b I e h = omega arith
-no_letter b J e h = omega arith
-no_letter b F e h = omega arith
-no_letter b D e h = omega arith
 no_letter b A e h = h
+no_letter b t e h = omega arith
 
 first_of_list : (a b : ℕ) (x y : List ℕ) → a ∷ x ≡ b ∷ y → a ≡ b
 first_of_list a b x y e = cc
@@ -176,18 +148,12 @@ clean_member opcode m a kind.Constant p h = h.1
 clean_member opcode m a k p h = elim h [ ]
 
 clean_constant : (pool : List Entry) (opcode : ℕ) (c : Constant) (a : Action) (k : CauseKind) → LoadsConstant pool opcode c a → IsCauseWith opcode (used.Constant c) k → ⊥
-clean_constant pool opcode (constant.Int n) a kind.Code p h = h p.0
-clean_constant pool opcode (constant.Text i) a kind.Code p h = h p.0
-clean_constant pool opcode (constant.Long n) a kind.Code p h = h p.0
-clean_constant pool opcode (constant.Int n) a kind.Float p h = h.1
-clean_constant pool opcode (constant.Text i) a kind.Float p h = h.1
-clean_constant pool opcode (constant.Long n) a kind.Float p h = h.1
-clean_constant pool opcode (constant.Int n) a kind.Constant p h = h.1
-clean_constant pool opcode (constant.Text i) a kind.Constant p h = h.1
-clean_constant pool opcode (constant.Long n) a kind.Constant p h = h.1
 clean_constant pool opcode constant.Float a k p h = elim p [ ]
 clean_constant pool opcode constant.Double a k p h = elim p [ ]
 clean_constant pool opcode (constant.Other tag) a k p h = elim p [ ]
+clean_constant pool opcode c a kind.Code p h = h p.0
+clean_constant pool opcode c a kind.Float p h = h.1
+clean_constant pool opcode c a kind.Constant p h = h.1
 clean_constant pool opcode c a k p h = elim h [ ]
 
 -- checkcast and instanceof have a row, and no other opcode
@@ -224,10 +190,4 @@ clean_with pool opcode used.None a k p h = elim p [ ]
 pub clean : (pool : List Entry) (i : Insn) (a : Action) (k : CauseKind) → (u : Use) → IsUse pool i u → Acts pool i u a → IsCauseOf pool i k → ⊥
 clean pool (insn.Pool opcode i) a k u is p h = clean_with pool opcode u a k p (subst (λ (x : Use). IsCauseWith opcode x k) (sym is) h)
 clean pool (insn.Refused opcode) a k u is p h = elim p [ ]
-clean pool (insn.Plain opcode) a k u is p h = h
-clean pool (insn.Push opcode n) a k u is p h = h
-clean pool (insn.Local opcode n) a k u is p h = h
-clean pool (insn.Iinc n by) a k u is p h = h
-clean pool (insn.Branch opcode target) a k u is p h = h
-clean pool (insn.Table default low targets) a k u is p h = h
-clean pool (insn.Lookup default cases) a k u is p h = h
+clean pool i a k u is p h = h

@@ -1,41 +1,14 @@
 -- Answers: a method has one, and each is found where nothing comes before it.
-use Rattle.std.proofs.Common.{◌≡◌, ℕ, ◌≤◌, ◌<◌, ◌^◌, refl, List, [], ◌∷◌, length, get_or, Some, ◌∙◌, ap, sym, subst, arith}
-use Rattle.std.specs.Prelude.{Result, Ok, Err, slice_get}
-use Rattle.std.proofs.lemmas.Option.{slice_get_read, slice_get_within}
-use Rattle.std.specs.List.{AllZip}
-use Rattle.std.proofs.lemmas.Slice.Zip.{AllZip-long}
-use Rattle.pv_value.specs.declared.descriptor.Descriptor.{Descriptor}
-use Rattle.pv_value.specs.Descriptors.{IsMethodType}
-use Rattle.pv_value.proofs.Cited.{method_type_once}
-use Rattle.pv_pool.specs.declared.entry.Entry.{Entry}
-use Rattle.pv_class.specs.declared.file.ClassFile.{ClassFile}
-use Rattle.pv_class.specs.declared.file.Method.{Method}
-use Rattle.pv_class.specs.declared.file.Code.{Code}
-use Rattle.pv_insn.specs.declared.insn.Placed.{Placed}
-use Rattle.pv_insn.specs.declared.fault.CodeFault.{CodeFault}
+use Rattle.std.proofs.Common.{inl, inr, lit≤, ◌≡◌, ℕ, ◌≤◌, ◌<◌, ◌^◌, refl, List, [], ◌∷◌, length, get_or, Some, ◌∙◌, ap, sym, subst, arith, Result, Ok, Err, slice_get}
+use Rattle.pv_frame.proofs.Words.{slice_get_read, slice_get_within, AllZip, AllZip-long, Descriptor, IsMethodType, method_type_once, Entry, ClassFile, Method, Code, Placed, CodeFault, IsPlaced, IsCode, IsBad, IsBytes, code_once, good_or_bad, few}
+use Rattle.pv_frame.proofs.Words.{Use, Action, CauseKind, Cause, Refused, Program, Typed, IsUse, IsFloatlessMethod, is_instance, Does, IsProgramOf, HasFrames, IsInferred, address_of, IsFirst, cause, Row, handler, synchronized, long_code, slots, float, bad_code, instruction, untyped, IsRefused, AreActing, IsFirstOf, OnCause, HasCode, IsTyping, IsAnswer, Said, IsOnly, IsPlain, IsEarly}
+use Rattle.pv_frame.proofs.Words.{refused_for, IsCoded}
 use Rattle.pv_insn.specs.declared.fault.CodeFault.TheVariants as fault
-use Rattle.pv_insn.specs.Codes.{IsPlaced, IsCode}
-use Rattle.pv_insn.specs.Faults.{IsBad}
 use Rattle.pv_insn.specs.Answers as decoded
-use Rattle.pv_insn.proofs.Cited.{IsBytes, code_once, good_or_bad, few}
-use Rattle.pv_frame.specs.declared.used.Use.{Use}
-use Rattle.pv_frame.specs.declared.action.Action.{Action}
-use Rattle.pv_frame.specs.declared.cause.CauseKind.{CauseKind}
 use Rattle.pv_frame.specs.declared.cause.CauseKind.TheVariants as kind
-use Rattle.pv_frame.specs.declared.cause.Cause.{Cause}
-use Rattle.pv_frame.specs.declared.cause.Refused.{Refused}
 use Rattle.pv_frame.specs.declared.cause.Refused.TheVariants as refused
-use Rattle.pv_frame.specs.declared.program.Program.{Program}
-use Rattle.pv_frame.specs.declared.typed.Typed.{Typed}
-use Rattle.pv_frame.specs.Actions.{IsUse, IsFloatlessMethod}
-use Rattle.pv_frame.specs.Programs.{is_instance, Does, IsProgramOf}
-use Rattle.pv_frame.specs.Frames.{HasFrames, IsInferred}
-use Rattle.pv_frame.specs.Causes.{address_of, IsFirst, cause, Row, handler, synchronized, long_code, slots, float, bad_code, instruction, untyped, IsRefused}
-use Rattle.pv_frame.specs.Acting.{AreActing, IsFirstOf, OnCause}
-use Rattle.pv_frame.specs.Answers.{HasCode, IsTyping, IsAnswer, Said, IsOnly}
-use Rattle.pv_frame.specs.Rows.{IsPlain, IsEarly, refused_for, IsCoded}
 use Rattle.pv_frame.proofs.FrameLaws.{some_of}
-use Rattle.pv_frame.proofs.CauseLaws.{HasBytes, one_program, accepted_or_refused, one_cause, all_clean}
+use Rattle.pv_frame.proofs.CauseLaws.{HasBytes, rows_from, one_program, accepted_or_refused, one_cause, all_clean}
 use Rattle.pv_frame.proofs.Inferred.{inferred_once}
 
 -- ---- one answer
@@ -90,74 +63,19 @@ module _ (file : ClassFile) (m : Method) (code : Code) (source : List ℕ) (d : 
 
   -- an early cause
   pub early_refused : (k : CauseKind) → IsEarly m code d k → IsRefused file m (cause k 0)
-  early_refused kind.Handler h = refused_at_row 1 _ (handler h) before
-    where
-      before : (k : ℕ) (e : Cause) → Row file m code k e → 1 ≤ k
-      before k e (handler g) = omega arith
-      before k e (synchronized g) = omega arith
-      before k e (long_code g) = omega arith
-      before k e (slots g) = omega arith
-      before k e (float x t g) = omega arith
-      before k e (bad_code f at b a) = omega arith
-      before k e (instruction kk at f) = omega arith
-      before k e (untyped p i g) = omega arith
-  early_refused kind.Monitor h = refused_at_row 2 _ (synchronized h.1) before
-    where
-      before : (k : ℕ) (e : Cause) → Row file m code k e → 2 ≤ k
-      before k e (handler g) = absurd (g h.0)
-      before k e (synchronized g) = omega arith
-      before k e (long_code g) = omega arith
-      before k e (slots g) = omega arith
-      before k e (float x t g) = omega arith
-      before k e (bad_code f at b a) = omega arith
-      before k e (instruction kk at f) = omega arith
-      before k e (untyped p i g) = omega arith
-  early_refused kind.LongCode h = refused_at_row 3 _ (long_code h.2) before
-    where
-      before : (k : ℕ) (e : Cause) → Row file m code k e → 3 ≤ k
-      before k e (handler g) = absurd (g h.0)
-      before k e (synchronized g) = absurd (g h.1)
-      before k e (long_code g) = omega arith
-      before k e (slots g) = omega arith
-      before k e (float x t g) = omega arith
-      before k e (bad_code f at b a) = omega arith
-      before k e (instruction kk at f) = omega arith
-      before k e (untyped p i g) = omega arith
-  early_refused kind.Slots h = refused_at_row 4 _ (slots h.3) before
-    where
-      before : (k : ℕ) (e : Cause) → Row file m code k e → 4 ≤ k
-      before k e (handler g) = absurd (g h.0)
-      before k e (synchronized g) = absurd (g h.1)
-      before k e (long_code g) = absurd (omega (arith, h.2, g))
-      before k e (slots g) = omega arith
-      before k e (float x t g) = omega arith
-      before k e (bad_code f at b a) = omega arith
-      before k e (instruction kk at f) = omega arith
-      before k e (untyped p i g) = omega arith
-  early_refused kind.Float h = refused_at_row 5 _ (float d is.typed h.4) before
-    where
-      before : (k : ℕ) (e : Cause) → Row file m code k e → 5 ≤ k
-      before k e (handler g) = absurd (g h.0)
-      before k e (synchronized g) = absurd (g h.1)
-      before k e (long_code g) = absurd (omega (arith, h.2, g))
-      before k e (slots g) = absurd (omega (arith, h.3, g))
-      before k e (float x t g) = omega arith
-      before k e (bad_code f at b a) = omega arith
-      before k e (instruction kk at f) = omega arith
-      before k e (untyped p i g) = omega arith
+  early_refused kind.Handler h = refused_at_row 1 _ (handler h) (rows_from file m code 1 (inl (lit≤ tt), inl (lit≤ tt), inl (lit≤ tt), inl (lit≤ tt), inl (lit≤ tt), inl (lit≤ tt), inl (lit≤ tt), lit≤ tt))
+  early_refused kind.Monitor h = refused_at_row 2 _ (synchronized h.1) (rows_from file m code 2 (inr h.0, inl (lit≤ tt), inl (lit≤ tt), inl (lit≤ tt), inl (lit≤ tt), inl (lit≤ tt), inl (lit≤ tt), lit≤ tt))
+  early_refused kind.LongCode h = refused_at_row 3 _ (long_code h.2) (rows_from file m code 3 (inr h.0, inr h.1, inl (lit≤ tt), inl (lit≤ tt), inl (lit≤ tt), inl (lit≤ tt), inl (lit≤ tt), lit≤ tt))
+  early_refused kind.Slots h = refused_at_row 4 _ (slots h.3) (rows_from file m code 4 (inr h.0, inr h.1, inr h.2, inl (lit≤ tt), inl (lit≤ tt), inl (lit≤ tt), inl (lit≤ tt), lit≤ tt))
+  early_refused kind.Float h = refused_at_row 5 _ (float d is.typed h.4) (rows_from file m code 5 (inr h.0, inr h.1, inr h.2, inr h.3, inl (lit≤ tt), inl (lit≤ tt), inl (lit≤ tt), lit≤ tt))
   early_refused k h = elim h [ ]
 
   module _ (plain : IsPlain m code d) where
-    -- no row before the sixth
+    floatless : (x : Descriptor) → IsMethodType m.desc x → IsFloatlessMethod x
+    floatless x t = subst IsFloatlessMethod (method_type_once m.desc d x is.typed t) plain.floatless
+
     sixth : (k : ℕ) (e : Cause) → Row file m code k e → 6 ≤ k
-    sixth k e (handler g) = absurd (g plain.handlers)
-    sixth k e (synchronized g) = absurd (g plain.unsynchronized)
-    sixth k e (long_code g) = let short = plain.short in absurd (omega (arith, g))
-    sixth k e (slots g) = let few = plain.few in absurd (omega (arith, g))
-    sixth k e (float x t g) = absurd (g (subst IsFloatlessMethod (method_type_once m.desc d x is.typed t) plain.floatless))
-    sixth k e (bad_code f at b a) = omega arith
-    sixth k e (instruction kk at f) = omega arith
-    sixth k e (untyped p i g) = omega arith
+    sixth = rows_from file m code 6 (inr plain.handlers, inr plain.unsynchronized, inr plain.short, inr plain.few, inr floatless, inl (lit≤ tt), inl (lit≤ tt), lit≤ tt)
 
     -- a code with a fault
     at_fault : (f : CodeFault) (at : ℕ) → IsBad source f → address_of f ≡ Some at → IsRefused file m (cause kind.Code at)
@@ -177,16 +95,11 @@ module _ (file : ClassFile) (m : Method) (code : Code) (source : List ℕ) (d : 
       spelled : IsCode code.bytes placed
       spelled = subst (λ (b : List ℕ). IsCode b placed) is.spelled spells
 
-      -- no row before the seventh
+      good : (f : CodeFault) → IsBad code.bytes f → ⊥
+      good f bad = good_or_bad code.bytes placed f bytes spelled bad
+
       seventh : (k : ℕ) (e : Cause) → Row file m code k e → 7 ≤ k
-      seventh k e (handler g) = absurd (g plain.handlers)
-      seventh k e (synchronized g) = absurd (g plain.unsynchronized)
-      seventh k e (long_code g) = let short = plain.short in absurd (omega (arith, g))
-      seventh k e (slots g) = let few = plain.few in absurd (omega (arith, g))
-      seventh k e (float x t g) = absurd (g (subst IsFloatlessMethod (method_type_once m.desc d x is.typed t) plain.floatless))
-      seventh k e (bad_code f at b a) = absurd (good_or_bad code.bytes placed f bytes spelled b)
-      seventh k e (instruction kk at f) = omega arith
-      seventh k e (untyped p i g) = omega arith
+      seventh = rows_from file m code 7 (inr plain.handlers, inr plain.unsynchronized, inr plain.short, inr plain.few, inr floatless, inr good, inl (lit≤ tt), lit≤ tt)
 
       -- an instruction with a cause
       pub first_answers : (e : Refused) → OnCause e (IsFirstOf file.pool placed) → Said (Err e) (IsAnswer file m)
@@ -195,18 +108,13 @@ module _ (file : ClassFile) (m : Method) (code : Code) (source : List ℕ) (d : 
           let first : IsFirst file.pool code h.kind h.here.at = record { placed = placed; spelled = spelled; before = h.before; here = h.here; after = h.after; parts = h.parts; clean = h.clean; cause = h.caused; address = refl } in
           subst (λ (x : Cause). IsRefused file m x) (sym h.is) (refused_at_row 7 _ (instruction h.kind h.here.at first) seventh)
 
-      -- no row before the eighth
-      eighth : (actions : List Action) → AllZip (Does file.pool) placed actions → (k : ℕ) (e : Cause) → Row file m code k e → 8 ≤ k
-      eighth actions acts k e (handler g) = absurd (g plain.handlers)
-      eighth actions acts k e (synchronized g) = absurd (g plain.unsynchronized)
-      eighth actions acts k e (long_code g) = let short = plain.short in absurd (omega (arith, g))
-      eighth actions acts k e (slots g) = let few_slots = plain.few in absurd (omega (arith, g))
-      eighth actions acts k e (float x t g) = absurd (g (subst IsFloatlessMethod (method_type_once m.desc d x is.typed t) plain.floatless))
-      eighth actions acts k e (bad_code f at b a) = absurd (good_or_bad code.bytes placed f bytes spelled b)
-      eighth actions acts k e (instruction kk at f) =
+      no_first : (actions : List Action) → AllZip (Does file.pool) placed actions → (k : CauseKind) (at : ℕ) → IsFirst file.pool code k at → ⊥
+      no_first actions acts k at f =
           let same = code_once code.bytes placed f.placed bytes spelled f.spelled ∙ f.parts in
-          absurd (all_clean file.pool f.before f.here f.after actions kk (subst (λ (x : List Placed). AllZip (Does file.pool) x actions) same acts) f.cause)
-      eighth actions acts k e (untyped q i g) = omega arith
+          all_clean file.pool f.before f.here f.after actions k (subst (λ (x : List Placed). AllZip (Does file.pool) x actions) same acts) f.cause
+
+      eighth : (actions : List Action) → AllZip (Does file.pool) placed actions → (k : ℕ) (e : Cause) → Row file m code k e → 8 ≤ k
+      eighth actions acts = rows_from file m code 8 (inr plain.handlers, inr plain.unsynchronized, inr plain.short, inr plain.few, inr floatless, inr good, inr (no_first actions acts), lit≤ tt)
 
       program_is : (p : Program) → AllZip (Does file.pool) placed p.actions → p.instance ≡ is_instance m.flags → p.desc ≡ d → p.max_stack ≡ code.max_stack → p.max_locals ≡ code.max_locals → IsProgramOf file m p
       program_is p acts instance desc stack locals = record {

@@ -1,31 +1,11 @@
 -- A method has one program and one cause, and not both.
-use Rattle.std.proofs.Common.{◌≡◌, ℕ, ◌≤◌, refl, List, [], ◌∷◌, ◌++◌, length, Some, ◌∙◌, ap, sym, subst, arith}
-use Rattle.std.specs.Prelude.{◌≢◌, ◌==◌, if◌then◌else◌}
-use Rattle.std.specs.List.{AllZip, AllByRecursion}
-use Rattle.pv_value.proofs.Cited.{method_type_once}
-use Rattle.pv_pool.specs.declared.entry.Entry.{Entry}
+use Rattle.std.proofs.Common.{◌⊎◌, inl, inr, ⊎_elim, ◌+◌, ◌≡◌, ℕ, ◌≤◌, refl, List, [], ◌∷◌, ◌++◌, length, Some, ◌∙◌, ap, sym, subst, arith, ◌≢◌, ◌==◌, if◌then◌else◌}
+use Rattle.pv_frame.proofs.Words.{AllZip, AllByRecursion, Descriptor, IsMethodType, method_type_once, Entry, ClassFile, Method, Code, Placed, CodeFault, IsCode, IsBad, Insn, IsBytes, code_once, fault_once, good_or_bad}
+use Rattle.pv_frame.proofs.Words.{Action, CauseKind, Cause, IsFloatlessMethod, IsUnsynchronized, use_of, Use, Program, Does, IsProgramOf, HasFrames, NamesFloat, NamesOther, IsCauseWith, IsCauseOf, HasNoCause, address_of, IsFirst, cause, Row, handler, synchronized, long_code, slots, float, bad_code, instruction, untyped, IsRefused, IsAccepted}
 use Rattle.pv_pool.specs.declared.constant.Constant.TheVariants as constant
-use Rattle.pv_class.specs.declared.file.ClassFile.{ClassFile}
-use Rattle.pv_class.specs.declared.file.Method.{Method}
-use Rattle.pv_class.specs.declared.file.Code.{Code}
-use Rattle.pv_insn.specs.declared.insn.Placed.{Placed}
-use Rattle.pv_insn.specs.declared.fault.CodeFault.{CodeFault}
-use Rattle.pv_insn.specs.Codes.{IsCode}
-use Rattle.pv_insn.specs.Faults.{IsBad}
-use Rattle.pv_insn.specs.declared.insn.Insn.{Insn}
 use Rattle.pv_insn.specs.declared.insn.Insn.TheVariants as insn
-use Rattle.pv_insn.proofs.Cited.{IsBytes, code_once, fault_once, good_or_bad}
-use Rattle.pv_frame.specs.declared.action.Action.{Action}
-use Rattle.pv_frame.specs.declared.cause.CauseKind.{CauseKind}
 use Rattle.pv_frame.specs.declared.cause.CauseKind.TheVariants as kind
-use Rattle.pv_frame.specs.declared.cause.Cause.{Cause}
-use Rattle.pv_frame.specs.Actions.{IsFloatlessMethod, use_of}
-use Rattle.pv_frame.specs.declared.used.Use.{Use}
 use Rattle.pv_frame.specs.declared.used.Use.TheVariants as used
-use Rattle.pv_frame.specs.declared.program.Program.{Program}
-use Rattle.pv_frame.specs.Programs.{Does, IsProgramOf}
-use Rattle.pv_frame.specs.Frames.{HasFrames}
-use Rattle.pv_frame.specs.Causes.{NamesFloat, NamesOther, IsCauseWith, IsCauseOf, HasNoCause, address_of, IsFirst, cause, Row, handler, synchronized, long_code, slots, float, bad_code, instruction, untyped, IsRefused, IsAccepted}
 use Rattle.pv_frame.proofs.FrameLaws.{some_of}
 use Rattle.pv_frame.proofs.ActionLaws.{one_list, clean}
 
@@ -48,6 +28,25 @@ one_program file m p q bytes a b =
     one_list file.pool b.actions.placed p.actions q.actions (subst (λ (x : List Placed). AllZip (Does file.pool) x p.actions) same_placed a.actions.acts) b.actions.acts in
     let same_desc : p.desc ≡ q.desc = method_type_once m.desc p.desc q.desc a.desc b.desc in
     same_program p q same_actions (a.instance ∙ sym b.instance) same_desc (a.max_stack ∙ ap (λ (c : Code). c.max_stack) same_code ∙ sym b.max_stack) (a.max_locals ∙ ap (λ (c : Code). c.max_locals) same_code ∙ sym b.max_locals)
+
+-- ---- rows
+
+-- each row before the n-th is ruled out
+abbrev pub AreRuledOut : ClassFile → Method → Code → ℕ → Type 0
+AreRuledOut file m code n = ((n ≤ 1) ⊎ (code.handlers ≡ 0)) × ((n ≤ 2) ⊎ IsUnsynchronized m.flags) × ((n ≤ 3) ⊎ (length code.bytes ≤ 8192)) × ((n ≤ 4) ⊎ (code.max_stack + code.max_locals ≤ 64))
+    × ((n ≤ 5) ⊎ ((d : Descriptor) → IsMethodType m.desc d → IsFloatlessMethod d)) × ((n ≤ 6) ⊎ ((f : CodeFault) → IsBad code.bytes f → ⊥))
+    × ((n ≤ 7) ⊎ ((k : CauseKind) (at : ℕ) → IsFirst file.pool code k at → ⊥)) × (n ≤ 8)
+
+-- so no row comes before it
+pub rows_from : (file : ClassFile) (m : Method) (code : Code) (n : ℕ) → AreRuledOut file m code n → (k : ℕ) (c : Cause) → Row file m code k c → n ≤ k
+rows_from file m code n out k c (handler h) = ⊎_elim (λ le. le) (λ e. absurd (h e)) out.0
+rows_from file m code n out k c (synchronized h) = ⊎_elim (λ le. le) (λ e. absurd (h e)) out.1
+rows_from file m code n out k c (long_code h) = ⊎_elim (λ le. le) (λ (short : length code.bytes ≤ 8192). absurd (omega (arith, h, short))) out.2
+rows_from file m code n out k c (slots h) = ⊎_elim (λ le. le) (λ (few : code.max_stack + code.max_locals ≤ 64). absurd (omega (arith, h, few))) out.3
+rows_from file m code n out k c (float d typed h) = ⊎_elim (λ le. le) (λ floatless. absurd (h (floatless d typed))) out.4
+rows_from file m code n out k c (bad_code f at bad is) = ⊎_elim (λ le. le) (λ good. absurd (good f bad)) out.5
+rows_from file m code n out k c (instruction l at first) = ⊎_elim (λ le. le) (λ clean. absurd (clean l at first)) out.6
+rows_from file m code n out k c (untyped p is h) = out.7
 
 -- ---- a program, or a cause
 
@@ -93,14 +92,7 @@ accepted_or_refused file m p c bytes a r = no_row file m p r.code r.number c byt
 -- a constant that isn't accepted is no float
 other_or_float : (u : Use) → NamesOther u → NamesFloat u → ⊥
 other_or_float (used.Constant (constant.Other tag)) p q = q
-other_or_float (used.Constant constant.Float) p q = p
-other_or_float (used.Constant constant.Double) p q = p
-other_or_float (used.Constant (constant.Int n)) p q = p
-other_or_float (used.Constant (constant.Long n)) p q = p
-other_or_float (used.Constant (constant.Text i)) p q = p
-other_or_float (used.Member m) p q = p
-other_or_float (used.Class name) p q = p
-other_or_float used.None p q = p
+other_or_float u p q = p
 
 -- an instruction has one cause
 one_with : (opcode : ℕ) (u : Use) (k l : CauseKind) → IsCauseWith opcode u k → IsCauseWith opcode u l → k ≡ l
@@ -121,13 +113,7 @@ one_with opcode u k l p q = elim p [ ]
 pub one_cause_of : (pool : List Entry) (i : Insn) (k l : CauseKind) → IsCauseOf pool i k → IsCauseOf pool i l → k ≡ l
 one_cause_of pool (insn.Refused opcode) k l p q = some_of _ _ (sym p ∙ q)
 one_cause_of pool (insn.Pool opcode i) k l p q = one_with opcode (use_of pool (insn.Pool opcode i)) k l p q
-one_cause_of pool (insn.Plain opcode) k l p q = elim p [ ]
-one_cause_of pool (insn.Push opcode n) k l p q = elim p [ ]
-one_cause_of pool (insn.Local opcode n) k l p q = elim p [ ]
-one_cause_of pool (insn.Iinc n by) k l p q = elim p [ ]
-one_cause_of pool (insn.Branch opcode target) k l p q = elim p [ ]
-one_cause_of pool (insn.Table default low targets) k l p q = elim p [ ]
-one_cause_of pool (insn.Lookup default cases) k l p q = elim p [ ]
+one_cause_of pool i k l p q = elim p [ ]
 
 head_is : (i j : Placed) (x y : List Placed) → i ∷ x ≡ j ∷ y → (i ≡ j) × (x ≡ y)
 head_is i j x y e = (cc, cc)

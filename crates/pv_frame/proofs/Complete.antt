@@ -1,34 +1,14 @@
 -- Each instruction that is decoded does something or has a cause: that neither holds is impossible.
-use Rattle.std.proofs.Common.{◌≡◌, ◌≢◌, ℕ, zero, suc, ◌<◌, Bool, true, false, refl, List, [], ◌∷◌, Option, Some, None, ◌∙◌, ap, sym, subst, inl, inr, arith}
-use Rattle.std.specs.Prelude.{◌⊎◌, ◌==◌, ◌&&◌, ◌||◌, not, is_some, if◌then◌else◌, option_map}
-use Rattle.std.specs.List.{AllZip, AllByRecursion, list_all}
-use Rattle.std.proofs.lemmas.Bool.{eq-eqb, eqb-true}
-use Rattle.pv_value.specs.declared.name.Sym.{Sym}
+use Rattle.std.proofs.Common.{◌≡◌, ◌≢◌, ℕ, zero, suc, ◌<◌, Bool, true, false, refl, List, [], ◌∷◌, Option, Some, None, ◌∙◌, ap, sym, subst, inl, inr, arith, ◌⊎◌, ◌==◌, ◌&&◌, ◌||◌, not, is_some, if◌then◌else◌, option_map, eq-eqb, eqb-true}
+use Rattle.pv_frame.proofs.Words.{AllZip, AllByRecursion, list_all, Sym, JType, Z, B, C, S, I, J, F, D, A, Descriptor, receiver_sym, with_receiver, Entry, Constant, Member, text_under, constant_under, class_name_under, member_under, Insn, Placed, form_of, IsFormed}
+use Rattle.pv_frame.proofs.Words.{Use, CauseKind, Action, plain_rows, local_rows, branch_rows, field_rows, row_of, use_of, use_of_constant, use_of_class, use_of_member, loads_narrow, loads_wide, names_class, IsFloatless, HasFloatlessResult, IsFloatlessMethod, ActsWith, Acts, AccessesFields, NamesWell, IsCauseWith, IsCauseOf, HasNoCause, refused_by, Does}
 use Rattle.pv_value.specs.declared.number.Num.TheVariants as num
-use Rattle.pv_value.specs.declared.descriptor.JType.{JType}
-use Rattle.pv_value.specs.declared.descriptor.JType.TheVariants.{Z, B, C, S, I, J, F, D, A}
-use Rattle.pv_value.specs.declared.descriptor.Descriptor.{Descriptor}
-use Rattle.pv_value.specs.Receivers.{receiver_sym, with_receiver}
-use Rattle.pv_pool.specs.declared.entry.Entry.{Entry}
-use Rattle.pv_pool.specs.declared.constant.Constant.{Constant}
 use Rattle.pv_pool.specs.declared.constant.Constant.TheVariants as constant
-use Rattle.pv_pool.specs.declared.constant.Member.{Member}
-use Rattle.pv_pool.specs.Readers.{text_under, constant_under, class_name_under, member_under}
 use Rattle.pv_insn.specs.declared.form.Form.TheVariants as form
-use Rattle.pv_insn.specs.declared.insn.Insn.{Insn}
 use Rattle.pv_insn.specs.declared.insn.Insn.TheVariants as insn
-use Rattle.pv_insn.specs.declared.insn.Placed.{Placed}
-use Rattle.pv_insn.specs.Forms.{form_of}
-use Rattle.pv_insn.proofs.Cited.{IsFormed}
-use Rattle.pv_frame.specs.declared.used.Use.{Use}
 use Rattle.pv_frame.specs.declared.used.Use.TheVariants as used
-use Rattle.pv_frame.specs.declared.cause.CauseKind.{CauseKind}
 use Rattle.pv_frame.specs.declared.cause.CauseKind.TheVariants as kind
-use Rattle.pv_frame.specs.declared.action.Action.{Action}
 use Rattle.pv_frame.specs.declared.action.Action.TheVariants as act
-use Rattle.pv_frame.specs.Actions.{plain_rows, local_rows, branch_rows, field_rows, row_of, use_of, use_of_constant, use_of_class, use_of_member, loads_narrow, loads_wide, names_class, IsFloatless, HasFloatlessResult, IsFloatlessMethod, ActsWith, Acts}
-use Rattle.pv_frame.specs.Causes.{AccessesFields, NamesWell, IsCauseWith, IsCauseOf, HasNoCause, refused_by}
-use Rattle.pv_frame.specs.Programs.{Does}
 use Rattle.pv_frame.proofs.ActionLaws.{class_row}
 use Rattle.pv_frame.proofs.Tables.{table_of, agrees, agrees_in, below, tables_agree}
 
@@ -98,15 +78,9 @@ field_row o (low, high) = have_row field_rows o (λ (a, (b, (c, (d, _)))). omega
 -- ---- floats
 
 float_or_not : (t : JType) → IsFloatless t ⊎ (IsFloatless t → ⊥)
-float_or_not Z = inl tt
-float_or_not B = inl tt
-float_or_not C = inl tt
-float_or_not S = inl tt
-float_or_not I = inl tt
-float_or_not J = inl tt
-float_or_not A = inl tt
 float_or_not F = inr (λ h. h)
 float_or_not D = inr (λ h. h)
+float_or_not t = inl tt
 
 all_or_not : (ts : List JType) → AllByRecursion IsFloatless ts ⊎ (AllByRecursion IsFloatless ts → ⊥)
 all_or_not [] = inl tt

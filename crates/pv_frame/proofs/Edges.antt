@@ -1,20 +1,9 @@
 -- Edges from one instruction, followed one after the other.
-use Rattle.std.proofs.Common.{◌≡◌, ℕ, ◌+◌, ◌≤◌, ◌<◌, List, [], ◌∷◌, ◌++◌, length, get_or, set, take, drop, Option, Some, None, refl, sym, ap, ◌∙◌, subst, inl, inr, arith, length-append}
-use Rattle.std.specs.Prelude.{◌⊎◌, slice_get, Contains, Err}
-use Rattle.std.specs.List.{AllByRecursion}
-use Rattle.std.proofs.lemmas.List.{take_more, take_all, drop_more, take-append-drop}
-use Rattle.std.proofs.lemmas.List.Sums.{sum_by-set}
-use Rattle.std.proofs.lemmas.List.Elements.{Contains-append_left, Contains-append_right, Contains-push}
-use Rattle.std.proofs.lemmas.Option.{slice_get_within, get_or_from_slice_get}
-use Rattle.std.proofs.Math.ListN.{length-set}
-use Rattle.pv_list.proofs.Cited.{all_push, all_map}
-use Rattle.pv_frame.specs.declared.frame.Frame.{Frame}
-use Rattle.pv_frame.specs.declared.stop.Untyped.{Untyped}
+use Rattle.std.proofs.Common.{◌≡◌, ℕ, ◌+◌, ◌≤◌, ◌<◌, List, [], ◌∷◌, ◌++◌, length, get_or, set, take, drop, Option, Some, None, refl, sym, ap, ◌∙◌, subst, inl, inr, arith, length-append, ◌⊎◌, slice_get, Contains, Err, take_all, take-append-drop}
+use Rattle.pv_frame.proofs.Words.{AllByRecursion, take_more, drop_more, sum_by-set, Contains-append_left, Contains-append_right, Contains-push, slice_get_within, get_or_from_slice_get, length-set, all_push, all_map, Frame, Untyped, Flows, IsFrameAt, LeadsTo, FoundOr, weight_of, weight, HaveLocals, Below, Follows, Clashes, merged, SameStack}
 use Rattle.pv_frame.specs.declared.stop.Untyped.TheVariants as untyped
-use Rattle.pv_frame.specs.Frames.{Flows, IsFrameAt, LeadsTo}
-use Rattle.pv_frame.specs.Inferring.{FoundOr, weight_of, weight, HaveLocals, Below, Follows, Clashes, merged, SameStack}
 use Rattle.pv_frame.proofs.FrameLaws.{flows_flows, some_of}
-use Rattle.pv_frame.proofs.Lists.{all_front, all_parts, equal_or_not, get_set, get_set_other, contains_first}
+use Rattle.pv_frame.proofs.Lists.{all_parts, equal_or_not, get_set, get_set_other, contains_first}
 use Rattle.pv_frame.proofs.Meeting.{Meets, flows_itself, merged_meets}
 
 -- ---- edges and the frames that they lead to
@@ -150,7 +139,7 @@ follows_more frames mid now work wait left source places j a b = record {
     ]
   ];
   kept = λ k c. b.kept k (a.kept k c);
-  needed = λ others below edges. let parts = all_front (LeadsTo others source) places j edges in b.needed others (a.needed others below parts.0) (parts.1, tt);
+  needed = λ others below edges. let parts = all_parts (LeadsTo others source) places j [] edges in b.needed others (a.needed others below parts.0) (parts.1, tt);
   locals = b.locals;
   lighter = omega (arith, a.lighter, b.lighter);
 }
@@ -187,9 +176,6 @@ clash_answers frames source slot j untyped.Memory P Q at differ = tt
 pub follows_next : (frames mid now : List (Option Frame)) (work wait left : List ℕ) (source : Frame) (places : List ℕ) (i : ℕ) → i < length places → Follows frames work source (take i places) mid wait → Follows mid wait source (get_or places i 0 ∷ []) now left → Follows frames work source (take (i + 1) places) now left
 follows_next frames mid now work wait left source places i lt a b =
     subst (λ (l : List ℕ). Follows frames work source l now left) (sym (take_more places i 0 lt)) (follows_more frames mid now work wait left source (take i places) (get_or places i 0) a b)
-
-pub follows_all : (frames now : List (Option Frame)) (work left : List ℕ) (source : Frame) (places : List ℕ) (i : ℕ) → length places ≤ i → Follows frames work source (take i places) now left → Follows frames work source places now left
-follows_all frames now work left source places i le a = subst (λ (l : List ℕ). Follows frames work source l now left) (take_all i places le) a
 
 -- some edges, and one that leads nowhere
 pub clashes_next : {A B : Type 0} (frames mid : List (Option Frame)) (work wait : List ℕ) (source : Frame) (places : List ℕ) (i : ℕ) (e : Untyped) (P : A → Type 0) (Q : B → Type 0) → i < length places → Follows frames work source (take i places) mid wait → FoundOr (Err e) P (Clashes mid source (get_or places i 0 ∷ [])) → FoundOr (Err e) Q (Clashes frames source places)

@@ -1,38 +1,7 @@
 -- Each method with a code is accepted, or refused for a cause: that neither holds is impossible.
-use Rattle.std.proofs.Common.{◌≡◌, ◌≢◌, ℕ, zero, suc, ◌+◌, ◌<◌, ◌≤◌, true, false, refl, List, [], ◌∷◌, ◌++◌, length, Some, ◌∙◌, sym, inl, inr, arith, append_assoc}
-use Rattle.std.specs.Prelude.{◌⊎◌, ◌==◌}
-use Rattle.std.specs.List.{AllZip, AllByRecursion}
-use Rattle.std.proofs.lemmas.Bool.{eqb-true, eq-eqb}
-use Rattle.pv_value.specs.declared.descriptor.Descriptor.{Descriptor}
-use Rattle.pv_value.specs.Descriptors.{IsMethodType}
-use Rattle.pv_class.specs.declared.file.ClassFile.{ClassFile}
-use Rattle.pv_class.specs.declared.file.Method.{Method}
-use Rattle.pv_class.specs.declared.file.Code.{Code}
-use Rattle.pv_insn.specs.declared.insn.Placed.{Placed}
-use Rattle.pv_insn.specs.declared.fault.CodeFault.{CodeFault}
-use Rattle.pv_insn.specs.Codes.{IsCode}
-use Rattle.pv_insn.specs.Faults.{IsBad}
-use Rattle.pv_insn.proofs.Cited.{formed}
-use Rattle.pv_frame.specs.declared.action.Action.{Action}
-use Rattle.pv_frame.specs.declared.cause.Cause.{Cause}
-use Rattle.pv_frame.specs.Actions.{IsFloatlessMethod}
-use Rattle.pv_frame.specs.declared.program.Program.{Program}
-use Rattle.pv_frame.specs.Programs.{is_instance, IsUnsynchronized, Does, IsProgramOf}
-use Rattle.pv_frame.specs.Frames.{HasFrames}
-use Rattle.pv_frame.specs.Causes.{HasNoCause, address_of, Row, handler, synchronized, long_code, slots, float, bad_code, instruction, untyped, IsRefused, IsAccepted}
+use Rattle.std.proofs.Common.{◌≡◌, ◌≢◌, ℕ, zero, suc, ◌+◌, ◌<◌, ◌≤◌, true, false, refl, List, [], ◌∷◌, ◌++◌, length, Some, ◌∙◌, sym, inl, inr, arith, append_assoc, ◌⊎◌, ◌==◌, eqb-true, eq-eqb}
+use Rattle.pv_frame.proofs.Words.{cases_eq, cases_lt, AllZip, AllByRecursion, Descriptor, IsMethodType, ClassFile, Method, Code, Placed, CodeFault, IsCode, IsBad, formed, Action, Cause, IsFloatlessMethod, Program, is_instance, IsUnsynchronized, Does, IsProgramOf, HasFrames, HasNoCause, address_of, Row, handler, synchronized, long_code, slots, float, bad_code, instruction, untyped, IsRefused, IsAccepted}
 use Rattle.pv_frame.proofs.Complete.{HasTexts, method_or_not, list_acts}
-
-below_or_not : (k n : ℕ) → (k < n) ⊎ (n ≤ k)
-below_or_not zero zero = inr (omega arith)
-below_or_not zero (suc n) = inl (omega arith)
-below_or_not (suc k) zero = inr (omega arith)
-below_or_not (suc k) (suc n) = elim (below_or_not k n) [ inl h ↦ inl (omega arith) | inr h ↦ inr (omega arith) ]
-
-equal_or_not : (k n : ℕ) → (k ≡ n) ⊎ (k ≢ n)
-equal_or_not k n = elim (k == n) as (λ b. (k == n) ≡ b → (k ≡ n) ⊎ (k ≢ n)) [
-  | true ↦ λ is. inl (eqb-true k n is)
-  | false ↦ λ is. inr (λ e. absurd (cc (eq-eqb k n e, is)))
-] refl
 
 -- a fault of a code, with its address
 abbrev pub HasFault : List ℕ → Type 0
@@ -48,23 +17,23 @@ module _ (file : ClassFile) (m : Method) (code : Code) (has : m.code ≡ Some co
         has = has;
         number = n;
         row = row;
-        none_before = λ k d r. elim (below_or_not k n) [ inl less ↦ absurd (none_below bound k d (omega arith) r) | inr more ↦ more ];
+        none_before = λ k d r. elim (cases_lt k n) [ inl less ↦ absurd (none_below bound k d (omega arith) r) | inr more ↦ more ];
       })
 
   no_row : (n : ℕ) (c : Cause) → Row file m code n c → ⊥
   no_row n c row = none_below (suc n) n c (omega arith) row
 
   handlers : code.handlers ≡ 0
-  handlers = elim (equal_or_not code.handlers 0) [ inl e ↦ e | inr ne ↦ absurd (no_row _ _ (handler ne)) ]
+  handlers = elim (cases_eq code.handlers 0) [ inl e ↦ e | inr ne ↦ absurd (no_row _ _ (handler ne)) ]
 
   unsynchronized : IsUnsynchronized m.flags
-  unsynchronized = elim (equal_or_not _ 0) [ inl e ↦ e | inr ne ↦ absurd (no_row _ _ (synchronized ne)) ]
+  unsynchronized = elim (cases_eq _ 0) [ inl e ↦ e | inr ne ↦ absurd (no_row _ _ (synchronized ne)) ]
 
   short : length code.bytes ≤ 8192
-  short = elim (below_or_not 8192 (length code.bytes)) [ inl long ↦ absurd (no_row _ _ (long_code long)) | inr h ↦ h ]
+  short = elim (cases_lt 8192 (length code.bytes)) [ inl long ↦ absurd (no_row _ _ (long_code long)) | inr h ↦ h ]
 
   few : code.max_stack + code.max_locals ≤ 64
-  few = elim (below_or_not 64 (code.max_stack + code.max_locals)) [ inl many ↦ absurd (no_row _ _ (slots many)) | inr h ↦ h ]
+  few = elim (cases_lt 64 (code.max_stack + code.max_locals)) [ inl many ↦ absurd (no_row _ _ (slots many)) | inr h ↦ h ]
 
   floatless : (d : Descriptor) → IsMethodType m.desc d → IsFloatlessMethod d
   floatless d typed = elim (method_or_not d) [ inl h ↦ h | inr float_in ↦ absurd (no_row _ _ (float d typed float_in)) ]

@@ -1,14 +1,6 @@
 -- Leaving a method, as the function that tests it finds it.
-use Rattle.std.proofs.Common.{◌≡◌, Bool, List, Option, Some, None, refl, ap, ◌∙◌}
-use Rattle.std.specs.Prelude.{IsTrue, is_some}
-use Rattle.std.specs.Option.{option_map}
-use Rattle.pv_frame.specs.declared.sort.Sort.{Sort}
-use Rattle.pv_frame.specs.declared.action.Action.{Action}
-use Rattle.pv_frame.specs.declared.program.Program.{Program}
-use Rattle.pv_frame.specs.declared.frame.Frame.{Frame}
-use Rattle.pv_frame.specs.Stacks.{Taken, popped}
-use Rattle.pv_frame.specs.Effects.{takes}
-use Rattle.pv_frame.specs.Frames.{same, IsEnd, Leaves}
+use Rattle.std.proofs.Common.{◌≡◌, Bool, List, Option, Some, None, refl, ap, ◌∙◌, IsTrue, is_some}
+use Rattle.pv_frame.proofs.Words.{option_map, Sort, Action, Program, Frame, Taken, popped, takes, same, IsEnd, Leaves}
 use Rattle.pv_frame.proofs.StackSteps.{rest_of}
 
 abbrev Found : Taken Sort → Type 0

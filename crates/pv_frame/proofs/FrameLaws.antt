@@ -1,18 +1,8 @@
 -- Laws of frames: operands are those that are asked for, and an instruction that goes on from a frame goes on from each that knows more of the locals.
-use Rattle.std.proofs.Common.{◌≡◌, ℕ, zero, suc, Bool, true, false, List, [], ◌∷◌, length, Some, None, ◌∙◌, refl, ap, sym, subst, inl, inr}
-use Rattle.std.specs.Prelude.{◌⊎◌, map, reverse, option_map, if◌then◌else◌, nat_lt, slice_get}
-use Rattle.std.specs.List.{AllZip}
-use Rattle.std.proofs.lemmas.List.{reverse-reverse}
-use Rattle.std.proofs.lemmas.Slice.Zip.{AllZip-long}
-use Rattle.pv_pool.specs.Readers.{◌>>=◌}
-use Rattle.pv_frame.specs.declared.sort.Sort.{Sort}
+use Rattle.std.proofs.Common.{◌≡◌, ℕ, zero, suc, Bool, true, false, List, [], ◌∷◌, length, Some, None, ◌∙◌, refl, ap, sym, subst, inl, inr, ◌⊎◌, map, reverse, option_map, if◌then◌else◌, nat_lt, slice_get}
+use Rattle.pv_frame.proofs.Words.{AllZip, reverse-reverse, AllZip-long, ◌>>=◌, Sort, Action, fits, is_wide, Taken, with_first, taken, turned, popped, moved, last_local, has_room, first_cleared, set_local, takes, gives, Frame, same, holds, pushed, frame_done, frame_after, Flows}
 use Rattle.pv_frame.specs.declared.sort.Sort.TheVariants as sort
-use Rattle.pv_frame.specs.declared.action.Action.{Action}
 use Rattle.pv_frame.specs.declared.action.Action.TheVariants as act
-use Rattle.pv_frame.specs.Stacks.{fits, is_wide, Taken, with_first, taken, turned, popped, moved, last_local, has_room, first_cleared, set_local}
-use Rattle.pv_frame.specs.Effects.{takes, gives}
-use Rattle.pv_frame.specs.declared.frame.Frame.{Frame}
-use Rattle.pv_frame.specs.Frames.{same, holds, pushed, frame_done, frame_after, Flows}
 use Rattle.pv_frame.proofs.StackLaws.{map_reverse}
 
 -- ---- small facts
@@ -167,26 +157,7 @@ done_more (act.Move mv) stack l m h all e =
     ] refl e
 done_more (act.Give s) stack l m h all e = no_some h e
 done_more act.Throw stack l m h all e = no_some h e
-done_more act.Nop stack l m h all e = same_locals stack l m act.Nop h all refl e
-done_more (act.Push n) stack l m h all e = same_locals stack l m (act.Push n) h all refl e
-done_more (act.Literal t) stack l m h all e = same_locals stack l m (act.Literal t) h all refl e
-done_more (act.Scalar op) stack l m h all e = same_locals stack l m (act.Scalar op) h all refl e
-done_more (act.Divide op) stack l m h all e = same_locals stack l m (act.Divide op) h all refl e
-done_more (act.Branch t k) stack l m h all e = same_locals stack l m (act.Branch t k) h all refl e
-done_more (act.Jump k) stack l m h all e = same_locals stack l m (act.Jump k) h all refl e
-done_more (act.Switch k c) stack l m h all e = same_locals stack l m (act.Switch k c) h all refl e
-done_more (act.GetStatic t f) stack l m h all e = same_locals stack l m (act.GetStatic t f) h all refl e
-done_more (act.PutStatic t f) stack l m h all e = same_locals stack l m (act.PutStatic t f) h all refl e
-done_more (act.GetField t f) stack l m h all e = same_locals stack l m (act.GetField t f) h all refl e
-done_more (act.PutField t f) stack l m h all e = same_locals stack l m (act.PutField t f) h all refl e
-done_more (act.LoadElement k) stack l m h all e = same_locals stack l m (act.LoadElement k) h all refl e
-done_more (act.StoreElement k) stack l m h all e = same_locals stack l m (act.StoreElement k) h all refl e
-done_more act.StoreRef stack l m h all e = same_locals stack l m act.StoreRef h all refl e
-done_more (act.Cast class) stack l m h all e = same_locals stack l m (act.Cast class) h all refl e
-done_more (act.InstanceOf class) stack l m h all e = same_locals stack l m (act.InstanceOf class) h all refl e
-done_more act.Length stack l m h all e = same_locals stack l m act.Length h all refl e
-done_more (act.Call d f) stack l m h all e = same_locals stack l m (act.Call d f) h all refl e
-done_more (act.CallOn d f) stack l m h all e = same_locals stack l m (act.CallOn d f) h all refl e
+done_more a stack l m h all e = same_locals stack l m a h all refl e
 
 after_more : (a : Action) (stack l m : List Sort) (h : Frame) → AllZip Less l m → frame_after a (framed stack m) ≡ Some h → Goes a (framed stack l) h
 after_more a stack l m h all e =

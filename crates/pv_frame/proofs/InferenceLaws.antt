@@ -1,25 +1,11 @@
 -- The frames so far, from the entry on until no place waits.
-use Rattle.std.proofs.Common.{◌≡◌, ◌≢◌, ℕ, zero, suc, ◌+◌, ◌-◌, ◌≤◌, ◌<◌, true, false, List, [], ◌∷◌, ◌++◌, length, replicate, Option, Some, None, refl, sym, ap, ◌∙◌, subst, inl, inr, arith, get_or, length-append}
-use Rattle.std.specs.Prelude.{◌⊎◌, slice_get, sum_by, option_map, Contains, if◌then◌else◌, Result, Ok, Err}
-use Rattle.std.specs.List.{AllByRecursion}
-use Rattle.std.proofs.lemmas.List.{length-replicate}
-use Rattle.std.proofs.lemmas.List.Elements.{Contains-push_cases}
-use Rattle.std.proofs.lemmas.Option.{slice_get_within, slice_get_read}
-use Rattle.pv_list.proofs.Cited.{all_map}
-use Rattle.pv_pool.specs.Readers.{◌>>=◌}
-use Rattle.pv_frame.specs.declared.sort.Sort.{Sort}
+use Rattle.std.proofs.Common.{◌≡◌, ◌≢◌, ℕ, zero, suc, ◌+◌, ◌-◌, ◌≤◌, ◌<◌, true, false, List, [], ◌∷◌, ◌++◌, length, replicate, Option, Some, None, refl, sym, ap, ◌∙◌, subst, inl, inr, arith, get_or, length-append, ◌⊎◌, slice_get, sum_by, option_map, Contains, if◌then◌else◌, Result, Ok, Err}
+use Rattle.pv_frame.proofs.Words.{AllByRecursion, length-replicate, Contains-push_cases, slice_get_within, slice_get_read, all_map, ◌>>=◌}
+use Rattle.pv_frame.proofs.Words.{Sort, Action, Program, Frame, is_wide, width, popped, moved, first_cleared, has_room, set_local, takes, gives, successors, IsAt, same, pushed, holds, padded_sorts, passed_to, entry_frame, frame_done, frame_after, Flows, IsFrameAt, LeadsTo, Leaves, GoesOn, IsTyped, Agrees, HasFrames, Reached, first, next, IsInferred, Untyped, FoundOr, weight, HaveLocals}
+use Rattle.pv_frame.proofs.Words.{Within, Follows, Clashes, Inferring, Visits}
 use Rattle.pv_frame.specs.declared.sort.Sort.TheVariants as sort
-use Rattle.pv_frame.specs.declared.action.Action.{Action}
 use Rattle.pv_frame.specs.declared.action.Action.TheVariants as act
-use Rattle.pv_frame.specs.declared.program.Program.{Program}
-use Rattle.pv_frame.specs.declared.frame.Frame.{Frame}
-use Rattle.pv_frame.specs.Stacks.{is_wide, width, popped, moved, first_cleared, has_room, set_local}
-use Rattle.pv_frame.specs.Effects.{takes, gives, successors}
-use Rattle.pv_frame.specs.Programs.{IsAt}
-use Rattle.pv_frame.specs.Frames.{same, pushed, holds, padded_sorts, passed_to, entry_frame, frame_done, frame_after, Flows, IsFrameAt, LeadsTo, Leaves, GoesOn, IsTyped, Agrees, HasFrames, Reached, first, next, IsInferred}
-use Rattle.pv_frame.specs.declared.stop.Untyped.{Untyped}
 use Rattle.pv_frame.specs.declared.stop.Untyped.TheVariants as untyped
-use Rattle.pv_frame.specs.Inferring.{FoundOr, weight, HaveLocals, Within, Follows, Clashes, Inferring, Visits}
 use Rattle.pv_frame.proofs.FrameLaws.{some_of, no_some, if_some, framed, goes_from}
 use Rattle.pv_frame.proofs.Inferred.{typed_goes, leads_nowhere}
 use Rattle.pv_frame.proofs.Lists.{contains_first, contains_more, contains_cases, contains_none}
@@ -77,10 +63,6 @@ none_at zero k f e = cc
 none_at (suc n) zero f e = cc
 none_at (suc n) (suc k) f e = none_at n k f e
 
--- no frame is there yet
-pub none_have : (n m : ℕ) → HaveLocals m (replicate n None)
-none_have n m k f at = absurd (none_at n k f at)
-
 pub starts : (p : Program) (frames : List (Option Frame)) (work : List ℕ) → length (passed_to p) ≤ p.max_locals → Follows (replicate (length p.actions) None) [] (entry_frame p) (0 ∷ []) frames work → Inferring p frames work
 starts p frames work passed f = record {
   passed = passed;
@@ -99,31 +81,21 @@ pub starts_not : (p : Program) → Clashes (replicate (length p.actions) None) (
 starts_not p clash (others, agrees) =
     clash others (λ k f at. let inside = agrees_within p others agrees k f at in let long = length-replicate {A = Option Frame} (length p.actions) None in omega arith) (λ k g at. absurd (none_at (length p.actions) k g at)) (agrees.entry, tt)
 
+-- the same frames, while other places wait
+waits_for : (p : Program) (frames : List (Option Frame)) (work left : List ℕ) → Inferring p frames work → ((j : ℕ) (g : Frame) → IsFrameAt frames j g → Contains left j ⊎ IsTyped p frames j g) → Inferring p frames left
+waits_for p frames work left i settled = record {
+  passed = i.passed;
+  one_each = i.one_each;
+  locals = i.locals;
+  entry = i.entry;
+  settled = settled;
+  reached = i.reached;
+  fewest = i.fewest;
+}
+
 -- ---- a visit
 
 module _ (p : Program) (frames : List (Option Frame)) (work : List ℕ) (k : ℕ) (i : Inferring p frames (k ∷ work)) where
-  -- of the places that wait this is one less
-  rest_waits : (j : ℕ) → (j ≢ k) → Contains (k ∷ work) j → Contains work j
-  rest_waits j other c = elim (contains_cases k j work c) [ inl e ↦ absurd (other (sym e)) | inr more ↦ more ]
-
-  -- it holds no frame
-  pub visits_none : ((f : Frame) → IsFrameAt frames k f → ⊥) → Visits p frames work frames work
-  visits_none none = record {
-    inferring = record {
-      passed = i.passed;
-      one_each = i.one_each;
-      locals = i.locals;
-      entry = i.entry;
-      settled = λ j g at. elim (i.settled j g at) [
-        | inl waits ↦ inl (rest_waits j (λ e. none g (subst (λ (x : ℕ). IsFrameAt frames x g) e at)) waits)
-        | inr typed ↦ inr typed
-      ];
-      reached = i.reached;
-      fewest = i.fewest;
-    };
-    lighter = omega arith;
-  }
-
   module _ (f : Frame) (at : IsFrameAt frames k f) (a : Action) (here : IsAt p k a) where
     frame_is : (g : Frame) → IsFrameAt frames k g → g ≡ f
     frame_is g is = some_of g f (some_of _ _ (sym is ∙ at))
@@ -131,15 +103,7 @@ module _ (p : Program) (frames : List (Option Frame)) (work : List ℕ) (k : ℕ
     -- its instruction ends the method
     pub visits_end : sum_by width f.stack ≤ p.max_stack → Leaves p a f → Visits p frames work frames work
     visits_end room leaves = record {
-      inferring = record {
-        passed = i.passed;
-        one_each = i.one_each;
-        locals = i.locals;
-        entry = i.entry;
-        settled = settled;
-        reached = i.reached;
-        fewest = i.fewest;
-      };
+      inferring = waits_for p frames (k ∷ work) work i settled;
       lighter = omega arith;
     }
       where
@@ -243,18 +207,10 @@ module _ (p : Program) (frames : List (Option Frame)) (work : List ℕ) (k : ℕ
 
 -- the place on top is visited next
 pub next_waits : (p : Program) (frames : List (Option Frame)) (work : List ℕ) (k : ℕ) → Inferring p frames (work ++ k ∷ []) → Inferring p frames (k ∷ work)
-next_waits p frames work k i = record {
-  passed = i.passed;
-  one_each = i.one_each;
-  locals = i.locals;
-  entry = i.entry;
-  settled = λ j g at. elim (i.settled j g at) [
-    | inr typed ↦ inr typed
-    | inl waits ↦ elim (Contains-push_cases work k j waits) [ inl more ↦ inl (contains_more k j work more) | inr e ↦ inl (subst (λ (x : ℕ). Contains (k ∷ work) x) e (contains_first k work)) ]
-  ];
-  reached = i.reached;
-  fewest = i.fewest;
-}
+next_waits p frames work k i = waits_for p frames (work ++ k ∷ []) (k ∷ work) i (λ j g at. elim (i.settled j g at) [
+  | inr typed ↦ inr typed
+  | inl waits ↦ elim (Contains-push_cases work k j waits) [ inl more ↦ inl (contains_more k j work more) | inr e ↦ inl (subst (λ (x : ℕ). Contains (k ∷ work) x) e (contains_first k work)) ]
+])
 
 -- no place waits
 pub inferred : (p : Program) (frames : List (Option Frame)) (work : List ℕ) → length work ≡ 0 → Inferring p frames work → IsInferred p frames

@@ -1,17 +1,7 @@
 -- The frames that are inferred are one list.
-use Rattle.std.proofs.Common.{◌≡◌, ℕ, zero, suc, ◌<◌, List, [], ◌∷◌, length, get_or, Option, Some, None, ◌∙◌, refl, ap, sym, subst, inl, inr, arith}
-use Rattle.std.specs.Prelude.{◌⊎◌, slice_get, Contains}
-use Rattle.std.specs.List.{AllZip, AllByRecursion}
-use Rattle.std.proofs.lemmas.Option.{slice_get_within}
-use Rattle.pv_list.proofs.Cited.{same_lists}
-use Rattle.pv_frame.specs.declared.sort.Sort.{Sort}
-use Rattle.pv_frame.specs.declared.action.Action.{Action}
+use Rattle.std.proofs.Common.{◌≡◌, ℕ, zero, suc, ◌<◌, List, [], ◌∷◌, length, get_or, Option, Some, None, ◌∙◌, refl, ap, sym, subst, inl, inr, arith, ◌⊎◌, slice_get, Contains}
+use Rattle.pv_frame.proofs.Words.{AllZip, AllByRecursion, slice_get_within, same_lists, Sort, Action, successors, Program, IsAt, Frame, Flows, IsFrameAt, LeadsTo, IsEnd, Leaves, GoesOn, IsTyped, Agrees, Reached, first, next, IsInferred}
 use Rattle.pv_frame.specs.declared.action.Action.TheVariants as act
-use Rattle.pv_frame.specs.Effects.{successors}
-use Rattle.pv_frame.specs.declared.program.Program.{Program}
-use Rattle.pv_frame.specs.Programs.{IsAt}
-use Rattle.pv_frame.specs.declared.frame.Frame.{Frame}
-use Rattle.pv_frame.specs.Frames.{Flows, IsFrameAt, LeadsTo, IsEnd, Leaves, GoesOn, IsTyped, Agrees, Reached, first, next, IsInferred}
 use Rattle.pv_frame.proofs.FrameLaws.{Less, some_of, no_some}
 
 pub all_contains : {A : Type 0} (P : A → Type 0) (xs : List A) (x : A) → AllByRecursion P xs → (i : ℕ) → i < length xs → get_or xs i x ≡ x → P x

@@ -1,3 +1,4 @@
+mod Words
 pub mod StackLaws
 pub mod MoveForms
 pub mod FrameLaws

@@ -1,9 +1,6 @@
 -- Lists, as loops find them: what holds of the elements so far, and of those that are left; and elements by their places.
-use Rattle.std.proofs.Common.{◌≡◌, ◌≢◌, ℕ, zero, suc, ◌+◌, ◌≤◌, ◌<◌, true, false, List, [], ◌∷◌, ◌++◌, length, get_or, set, drop, Some, refl, sym, subst, inl, inr, arith}
-use Rattle.std.specs.Prelude.{◌⊎◌, ◌==◌, slice_get, Contains}
-use Rattle.std.specs.List.{AllByRecursion}
-use Rattle.std.proofs.lemmas.Bool.{eqb-true, eq-eqb}
-use Rattle.std.proofs.lemmas.List.{drop_more, drop_all}
+use Rattle.std.proofs.Common.{◌≡◌, ◌≢◌, ℕ, zero, suc, ◌+◌, ◌≤◌, ◌<◌, true, false, List, [], ◌∷◌, ◌++◌, length, get_or, set, drop, Some, refl, sym, subst, inl, inr, arith, ◌⊎◌, ◌==◌, slice_get, Contains, eqb-true, eq-eqb}
+use Rattle.pv_frame.proofs.Words.{cases_eq, AllByRecursion, drop_more, drop_all}
 
 -- ---- what holds of each element
 
@@ -27,10 +24,6 @@ all_ends {A = A} P xs i d lt bad s h = bad (subst (λ (l : List A). AllByRecursi
 pub all_done : {A : Type 0} (P : A → Type 0) (xs : List A) (i : ℕ) → length xs ≤ i → AllSoFar P xs i → AllByRecursion P xs
 all_done {A = A} P xs i le s = s.all (subst (λ (l : List A). AllByRecursion P l) (sym (drop_all i xs le)) tt)
 
-pub all_front : {A : Type 0} (P : A → Type 0) (xs : List A) (x : A) → AllByRecursion P (xs ++ x ∷ []) → AllByRecursion P xs × P x
-all_front P [] x all = (tt, all.0)
-all_front P (y ∷ xs) x all = let rest = all_front P xs x all.1 in ((all.0, rest.0), rest.1)
-
 pub all_parts : {A : Type 0} (P : A → Type 0) (xs : List A) (x : A) (ys : List A) → AllByRecursion P (xs ++ x ∷ ys) → AllByRecursion P xs × P x
 all_parts P [] x ys all = (tt, all.0)
 all_parts P (y ∷ xs) x ys all = let rest = all_parts P xs x ys all.1 in ((all.0, rest.0), rest.1)
@@ -38,10 +31,7 @@ all_parts P (y ∷ xs) x ys all = let rest = all_parts P xs x ys all.1 in ((all.
 -- ---- places
 
 pub equal_or_not : (k n : ℕ) → (k ≡ n) ⊎ (k ≢ n)
-equal_or_not k n = elim (k == n) as (λ b. (k == n) ≡ b → (k ≡ n) ⊎ (k ≢ n)) [
-  | true ↦ λ is. inl (eqb-true k n is)
-  | false ↦ λ is. inr (λ e. absurd (cc (eq-eqb k n e, is)))
-] refl
+equal_or_not k n = cases_eq k n
 
 pub get_set : {A : Type 0} (xs : List A) (j : ℕ) (x : A) → j < length xs → slice_get (set xs j x) j ≡ Some x
 get_set [] j x h = absurd (omega arith)

@@ -1,14 +1,8 @@
 -- What two lists of locals both know is the most that flows from both.
-use Rattle.std.proofs.Common.{◌≡◌, suc, ◌≤◌, ◌<◌, true, false, List, [], ◌∷◌, length, Option, Some, None, refl, sym, ap, ◌∙◌, subst, inl, inr, arith}
-use Rattle.std.specs.Prelude.{◌⊎◌, if◌then◌else◌}
-use Rattle.std.specs.List.{AllZip}
-use Rattle.pv_frame.specs.declared.sort.Sort.{Sort}
+use Rattle.std.proofs.Common.{◌≡◌, suc, ◌≤◌, ◌<◌, true, false, List, [], ◌∷◌, length, Option, Some, None, refl, sym, ap, ◌∙◌, subst, inl, inr, arith, ◌⊎◌, if◌then◌else◌}
+use Rattle.pv_frame.proofs.Words.{AllZip, Sort, Frame, fits, Flows, met, merged, SameStack, known, known_in, weight_of}
 use Rattle.pv_frame.specs.declared.sort.Sort.TheVariants as sort
-use Rattle.pv_frame.specs.declared.frame.Frame.{Frame}
-use Rattle.pv_frame.specs.Stacks.{fits}
-use Rattle.pv_frame.specs.Frames.{Flows}
-use Rattle.pv_frame.specs.Inferring.{met, merged, SameStack, known, known_in, weight_of}
-use Rattle.pv_frame.proofs.FrameLaws.{Less, fits_same, some_of}
+use Rattle.pv_frame.proofs.FrameLaws.{Less, fits_same, some_of, no_some}
 
 abbrev meet : Sort → Sort → Sort
 meet s t = if fits s t then t else sort.Unknown
@@ -19,17 +13,9 @@ less_first s t = elim (fits s t) as (λ b. fits s t ≡ b → Less s (if b then 
 less_second : (s t : Sort) → Less t (meet s t)
 less_second s t = elim (fits s t) as (λ b. Less t (if b then t else sort.Unknown)) [ true ↦ inl refl | false ↦ inr refl ]
 
-fits_itself : (s : Sort) → (fits s s ≡ true) ⊎ (s ≡ sort.Unknown)
-fits_itself sort.Int = inl refl
-fits_itself sort.Long = inl refl
-fits_itself sort.Ref = inl refl
-fits_itself sort.Unknown = inr refl
-
 meet_itself : (s : Sort) → s ≡ meet s s
 meet_itself sort.Int = refl
-meet_itself sort.Long = refl
-meet_itself sort.Ref = refl
-meet_itself sort.Unknown = refl
+meet_itself s = refl
 
 greatest_at : (s t u : Sort) → Less s u → Less t u → Less (meet s t) u
 greatest_at s t u (inl e) (inl d) = inl (meet_itself u ∙ ap (λ (x : Sort). meet x u) e ∙ ap (λ (x : Sort). meet s x) d)
@@ -64,9 +50,7 @@ met_length (s ∷ ss) (t ∷ ts) e = ap suc (met_length ss ts (omega arith))
 
 known_one : (s : Sort) → known s ≤ 1
 known_one sort.Int = omega arith
-known_one sort.Long = omega arith
-known_one sort.Ref = omega arith
-known_one sort.Unknown = omega arith
+known_one s = omega arith
 
 pub known_all : (ss : List Sort) → known_in ss ≤ length ss
 known_all [] = omega arith
@@ -81,9 +65,7 @@ meet_known s sort.Unknown = inl (inr refl, unknown s)
   where
     unknown : (s : Sort) → meet s sort.Unknown ≡ sort.Unknown
     unknown sort.Int = refl
-    unknown sort.Long = refl
-    unknown sort.Ref = refl
-    unknown sort.Unknown = refl
+    unknown s = refl
 meet_known s t = inr (omega arith)
 
 met_known : (ss ts : List Sort) → length ss ≡ length ts → (AllZip Less ss ts × (met ss ts ≡ ts)) ⊎ (known_in (met ss ts) < known_in ts)
@@ -114,13 +96,10 @@ all_less_itself (s ∷ ss) = (inl refl, all_less_itself ss)
 pub flows_itself : (f : Frame) → Flows f f
 flows_itself f = record { stack = refl; locals = all_less_itself f.locals }
 
-none_some : {A P : Type 0} (x : A) → None ≡ Some x → P
-none_some x e = absurd (cc)
-
 pub merged_meets : (source : Frame) (slot : Option Frame) → SameStack source slot → ((f : Frame) → slot ≡ Some f → length f.locals ≡ length source.locals) → Meets source slot (merged source slot)
 merged_meets source None same long = record {
   from_source = flows_itself source;
-  from_slot = λ f e. none_some f e;
+  from_slot = λ f e. no_some f e;
   greatest = λ h p q. p;
   locals = refl;
   lighter = λ no_flow. omega (arith, known_all source.locals);

@@ -1,14 +1,7 @@
 -- Operands and locals, step by step as the functions find them.
-use Rattle.std.proofs.Common.{◌≡◌, ℕ, zero, suc, ◌+◌, ◌≤◌, ◌<◌, true, false, List, [], ◌∷◌, ◌++◌, length, get_or, set, Option, Some, None, refl, sym, ap, ◌∙◌, arith}
-use Rattle.std.specs.Prelude.{reverse, if◌then◌else◌}
-use Rattle.std.specs.Option.{option_map}
-use Rattle.std.proofs.lemmas.List.{reverse-append, length-reverse}
-use Rattle.std.proofs.lemmas.Bool.Decides.{nat_tests}
-use Rattle.pv_frame.specs.declared.sort.Sort.{Sort}
+use Rattle.std.proofs.Common.{◌≡◌, ℕ, zero, suc, ◌+◌, ◌≤◌, ◌<◌, true, false, List, [], ◌∷◌, ◌++◌, length, get_or, set, Option, Some, None, refl, sym, ap, ◌∙◌, arith, reverse, if◌then◌else◌}
+use Rattle.pv_frame.proofs.Words.{option_map, reverse-append, length-reverse, nat_tests, Sort, fits, is_wide, Taken, with_first, taken, turned, popped, first_cleared, has_room, set_local, same, lost_before, stored}
 use Rattle.pv_frame.specs.declared.sort.Sort.TheVariants as sort
-use Rattle.pv_frame.specs.Stacks.{fits, is_wide, Taken, with_first, taken, turned, popped, first_cleared, has_room, set_local}
-use Rattle.pv_frame.specs.Frames.{same}
-use Rattle.pv_frame.specs.Stacking.{lost_before, stored}
 
 -- ---- operands
 
@@ -57,43 +50,52 @@ pops_short sorts [] some none = sym (rest_popped sorts [] ∙ of_reverse (revers
 
 -- ---- locals
 
-stored_first : (s a : Sort) (locals : List Sort) → set_local same sort.Unknown zero s (a ∷ locals) ≡ stored zero s (a ∷ locals)
-stored_first s a [] = elim (is_wide s) as (λ b. s ∷ (if b then first_cleared sort.Unknown [] else []) ≡ (if b then set (set (a ∷ []) zero s) (suc zero) sort.Unknown else set (a ∷ []) zero s)) [ true ↦ refl | false ↦ refl ]
-stored_first s a (t ∷ locals) =
-    elim (is_wide s) as (λ b. s ∷ (if b then first_cleared sort.Unknown (t ∷ locals) else t ∷ locals) ≡ (if b then set (set (a ∷ t ∷ locals) zero s) (suc zero) sort.Unknown else set (a ∷ t ∷ locals) zero s)) [ true ↦ refl | false ↦ refl ]
-
-stored_after : (k : ℕ) (s a : Sort) (locals : List Sort) → a ∷ stored k s locals ≡ stored (suc k) s (a ∷ locals)
-stored_after k s a locals = elim (is_wide s) as (λ b. a ∷ (if b then set (set locals k s) (suc k) sort.Unknown else set locals k s) ≡ (if b then set (set (a ∷ locals) (suc k) s) (suc (suc k)) sort.Unknown else set (a ∷ locals) (suc k) s)) [ true ↦ refl | false ↦ refl ]
-
-lost_after : (k : ℕ) (a : Sort) (locals : List Sort) → a ∷ lost_before (suc k) locals ≡ lost_before (suc (suc k)) (a ∷ locals)
-lost_after k a locals = elim (is_wide (get_or locals k sort.Unknown)) as (λ b. a ∷ (if b then set locals k sort.Unknown else locals) ≡ (if b then set (a ∷ locals) (suc k) sort.Unknown else a ∷ locals)) [ true ↦ refl | false ↦ refl ]
-
-lost_first : (a : Sort) (locals : List Sort) → (if is_wide a then sort.Unknown else a) ∷ locals ≡ lost_before (suc zero) (a ∷ locals)
-lost_first a locals = elim (is_wide a) as (λ b. (if b then sort.Unknown else a) ∷ locals ≡ (if b then sort.Unknown ∷ locals else a ∷ locals)) [ true ↦ refl | false ↦ refl ]
-
--- the steps of a store
-pub set_local_steps : (k : ℕ) (s : Sort) (locals : List Sort) → k < length locals → set_local same sort.Unknown k s locals ≡ stored k s (lost_before k locals)
-set_local_steps k s [] room = absurd (omega arith)
-set_local_steps zero s (a ∷ locals) room = stored_first s a locals
-set_local_steps (suc zero) s (a ∷ locals) room =
-    let b : Sort = if is_wide a then sort.Unknown else a in
-    ap (λ (l : List Sort). b ∷ l) (set_local_steps zero s locals (omega arith)) ∙ stored_after zero s b locals ∙ ap (stored (suc zero) s) (lost_first a locals)
-set_local_steps (suc (suc k)) s (a ∷ locals) room =
-    ap (λ (l : List Sort). a ∷ l) (set_local_steps (suc k) s locals (omega arith)) ∙ stored_after (suc k) s a (lost_before (suc k) locals) ∙ ap (stored (suc (suc k)) s) (lost_after k a locals)
-
 -- there are locals for it, so this is one
-pub room_within : (k : ℕ) (s : Sort) (locals : List Sort) → has_room s k locals ≡ true → k < length locals
-room_within k sort.Int locals e = grind (arith, nat_tests)
+pub room_within : {A : Type 0} (k : ℕ) (s : Sort) (locals : List A) → has_room s k locals ≡ true → k < length locals
 room_within k sort.Long locals e = grind (arith, nat_tests)
-room_within k sort.Ref locals e = grind (arith, nat_tests)
-room_within k sort.Unknown locals e = grind (arith, nat_tests)
+room_within k s locals e = grind (arith, nat_tests)
 
-pub stored_wide : (k : ℕ) (s : Sort) (locals : List Sort) → is_wide s ≡ true → set (set locals k s) (k + 1) sort.Unknown ≡ stored k s locals
+-- elements are stored, each of which has a sort, and one stands where no value is
+module _ {A : Type 0} (sort_of : A → Sort) (unset : A) where
+  abbrev set_at : ℕ → A → List A → List A
+  set_at k x locals = set_local sort_of unset k x locals
+
+  abbrev lost : ℕ → List A → List A
+  lost k locals = lost_before sort_of unset k locals
+
+  abbrev put : ℕ → A → List A → List A
+  put k x locals = stored sort_of unset k x locals
+
+  put_first : (x a : A) (locals : List A) → set_at zero x (a ∷ locals) ≡ put zero x (a ∷ locals)
+  put_first x a [] = elim (is_wide (sort_of x)) as (λ b. x ∷ (if b then first_cleared unset [] else []) ≡ (if b then set (set (a ∷ []) zero x) (suc zero) unset else set (a ∷ []) zero x)) [ true ↦ refl | false ↦ refl ]
+  put_first x a (t ∷ locals) =
+      elim (is_wide (sort_of x)) as (λ b. x ∷ (if b then first_cleared unset (t ∷ locals) else t ∷ locals) ≡ (if b then set (set (a ∷ t ∷ locals) zero x) (suc zero) unset else set (a ∷ t ∷ locals) zero x)) [ true ↦ refl | false ↦ refl ]
+
+  put_after : (k : ℕ) (x a : A) (locals : List A) → a ∷ put k x locals ≡ put (suc k) x (a ∷ locals)
+  put_after k x a locals = elim (is_wide (sort_of x)) as (λ b. a ∷ (if b then set (set locals k x) (suc k) unset else set locals k x) ≡ (if b then set (set (a ∷ locals) (suc k) x) (suc (suc k)) unset else set (a ∷ locals) (suc k) x)) [ true ↦ refl | false ↦ refl ]
+
+  lost_after : (k : ℕ) (a : A) (locals : List A) → a ∷ lost (suc k) locals ≡ lost (suc (suc k)) (a ∷ locals)
+  lost_after k a locals = elim (is_wide (sort_of (get_or locals k unset))) as (λ b. a ∷ (if b then set locals k unset else locals) ≡ (if b then set (a ∷ locals) (suc k) unset else a ∷ locals)) [ true ↦ refl | false ↦ refl ]
+
+  lost_first : (a : A) (locals : List A) → (if is_wide (sort_of a) then unset else a) ∷ locals ≡ lost (suc zero) (a ∷ locals)
+  lost_first a locals = elim (is_wide (sort_of a)) as (λ b. (if b then unset else a) ∷ locals ≡ (if b then unset ∷ locals else a ∷ locals)) [ true ↦ refl | false ↦ refl ]
+
+  -- the steps of a store
+  set_local_steps : (k : ℕ) (x : A) (locals : List A) → k < length locals → set_at k x locals ≡ put k x (lost k locals)
+  set_local_steps k x [] room = absurd (omega arith)
+  set_local_steps zero x (a ∷ locals) room = put_first x a locals
+  set_local_steps (suc zero) x (a ∷ locals) room =
+      let b : A = if is_wide (sort_of a) then unset else a in
+      ap (λ (l : List A). b ∷ l) (set_local_steps zero x locals (omega arith)) ∙ put_after zero x b locals ∙ ap (put (suc zero) x) (lost_first a locals)
+  set_local_steps (suc (suc k)) x (a ∷ locals) room =
+      ap (λ (l : List A). a ∷ l) (set_local_steps (suc k) x locals (omega arith)) ∙ put_after (suc k) x a (lost (suc k) locals) ∙ ap (put (suc (suc k)) x) (lost_after k a locals)
+
+  -- a store, from its last step on
+  pub set_local_is : (k : ℕ) (x : A) (locals before after : List A) → has_room (sort_of x) k locals ≡ true → before ≡ lost k locals → after ≡ put k x before → after ≡ set_at k x locals
+  set_local_is k x locals before after room gone is = is ∙ ap (put k x) gone ∙ sym (set_local_steps k x locals (room_within k (sort_of x) locals room))
+
+pub stored_wide : (k : ℕ) (s : Sort) (locals : List Sort) → is_wide s ≡ true → set (set locals k s) (k + 1) sort.Unknown ≡ stored same sort.Unknown k s locals
 stored_wide k s locals e = let one : k + 1 ≡ suc k = omega arith in ap (λ i. set (set locals k s) i sort.Unknown) one ∙ sym (ap (λ b. if b then set (set locals k s) (suc k) sort.Unknown else set locals k s) e)
 
-pub stored_narrow : (k : ℕ) (s : Sort) (locals : List Sort) → is_wide s ≡ false → set locals k s ≡ stored k s locals
+pub stored_narrow : (k : ℕ) (s : Sort) (locals : List Sort) → is_wide s ≡ false → set locals k s ≡ stored same sort.Unknown k s locals
 stored_narrow k s locals e = sym (ap (λ b. if b then set (set locals k s) (suc k) sort.Unknown else set locals k s) e)
-
--- a store, from its last step on
-pub set_local_is : (k : ℕ) (s : Sort) (locals before after : List Sort) → has_room s k locals ≡ true → before ≡ lost_before k locals → after ≡ stored k s before → after ≡ set_local same sort.Unknown k s locals
-set_local_is k s locals before after room lost is = is ∙ ap (stored k s) lost ∙ sym (set_local_steps k s locals (room_within k s locals room))

@@ -1,18 +1,8 @@
 -- The constants of a well-formed pool: each String has its text.
-use Rattle.std.proofs.Common.{◌≡◌, ℕ, zero, suc, true, false, List, [], ◌∷◌, ◌++◌, Option, Some, None, refl, ap, subst}
-use Rattle.std.specs.Prelude.{◌||◌, if◌then◌else◌, slice_get}
-use Rattle.std.specs.List.{AllByRecursion, flat_map}
-use Rattle.pv_pool.specs.declared.entry.Entry.{Entry}
-use Rattle.pv_pool.specs.declared.entry.Entry.TheVariants.{Long, Double, Text}
-use Rattle.pv_pool.specs.declared.constant.Constant.{Constant}
+use Rattle.std.proofs.Common.{◌≡◌, ℕ, zero, suc, true, false, List, [], ◌∷◌, ◌++◌, Option, Some, None, refl, ap, subst, ◌||◌, if◌then◌else◌, slice_get}
+use Rattle.pv_frame.proofs.Words.{AllByRecursion, flat_map, Entry, Long, Double, Text, Constant, Member, cells, cell_of, entry_under, HasText, Refers, ◌>>=◌, text_of, text_under, constant_of, constant_under, class_name_under, member_under, Insn, use_of, use_of_constant, use_of_class, use_of_member, loads_narrow, loads_wide, names_class, HasItsText}
 use Rattle.pv_pool.specs.declared.constant.Constant.TheVariants as constant
-use Rattle.pv_pool.specs.declared.constant.Member.{Member}
-use Rattle.pv_pool.specs.Pools.{cells, cell_of, entry_under, HasText, Refers}
-use Rattle.pv_pool.specs.Readers.{◌>>=◌, text_of, text_under, constant_of, constant_under, class_name_under, member_under}
-use Rattle.pv_insn.specs.declared.insn.Insn.{Insn}
 use Rattle.pv_insn.specs.declared.insn.Insn.TheVariants as insn
-use Rattle.pv_frame.specs.Actions.{use_of, use_of_constant, use_of_class, use_of_member, loads_narrow, loads_wide, names_class}
-use Rattle.pv_frame.specs.Acting.{HasItsText}
 use Rattle.pv_frame.proofs.Complete.{HasTexts}
 
 -- ---- entries under their indices

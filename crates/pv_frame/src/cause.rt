@@ -1,5 +1,8 @@
 //! Why a method is refused.
 
+ghost use Rattle.std.specs.Prelude.{◌≡◌};
+ghost use Rattle.pv_frame.specs.declared.cause.Refused.TheVariants as refused;
+
 use pv_value::Memory;
 use std::alloc::{AllocError, AllocFailed};
 
@@ -40,9 +43,6 @@ pub enum Refused {
 }
 
 impl From<Cause> for Refused {
-    ghost use Rattle.std.specs.Prelude.{◌≡◌};
-    ghost use Rattle.pv_frame.specs.declared.cause.Refused.TheVariants as refused;
-
     ghost from_gives = { λ cause e. e ≡ refused.Cause cause };
 
     fn from(cause: Cause) -> Refused {
@@ -51,9 +51,6 @@ impl From<Cause> for Refused {
 }
 
 impl From<Memory> for Refused {
-    ghost use Rattle.std.specs.Prelude.{◌≡◌};
-    ghost use Rattle.pv_frame.specs.declared.cause.Refused.TheVariants as refused;
-
     ghost from_gives = { λ _ e. e ≡ refused.Memory };
 
     fn from(_e: Memory) -> Refused {
@@ -62,9 +59,6 @@ impl From<Memory> for Refused {
 }
 
 impl From<AllocError> for Refused {
-    ghost use Rattle.std.specs.Prelude.{◌≡◌};
-    ghost use Rattle.pv_frame.specs.declared.cause.Refused.TheVariants as refused;
-
     ghost from_gives = { λ _ e. e ≡ refused.Memory };
 
     fn from(_e: AllocError) -> Refused {
@@ -73,9 +67,6 @@ impl From<AllocError> for Refused {
 }
 
 impl<T: Drop> From<AllocFailed<T>> for Refused {
-    ghost use Rattle.std.specs.Prelude.{◌≡◌};
-    ghost use Rattle.pv_frame.specs.declared.cause.Refused.TheVariants as refused;
-
     ghost from_gives = { λ _ e. e ≡ refused.Memory };
 
     fn from(_e: AllocFailed<T>) -> Refused {

@@ -12,7 +12,7 @@ use pv_value::{JType, Kind, Num, ScalarOp};
 use std::alloc::{AllocError, Global};
 
 /// The sort of a number.
-fn sort_of(number: Num) -> Sort
+pub fn sort_of(number: Num) -> Sort
     ensures { result ≡ sort_of number }
 {
     match number {
@@ -23,7 +23,7 @@ fn sort_of(number: Num) -> Sort
 }
 
 /// The sort of the values of a type; of floats and doubles none is known.
-pub(crate) fn sort_of_type(jtype: JType) -> Sort
+pub fn sort_of_type(jtype: JType) -> Sort
     ensures { result ≡ sort_of_type jtype }
 {
     match jtype {
@@ -35,7 +35,7 @@ pub(crate) fn sort_of_type(jtype: JType) -> Sort
 }
 
 /// The sort of the elements of an array.
-fn sort_of_kind(kind: Kind) -> Sort
+pub fn sort_of_kind(kind: Kind) -> Sort
     ensures { result ≡ sort_of_kind kind }
 {
     match kind {
@@ -46,7 +46,7 @@ fn sort_of_kind(kind: Kind) -> Sort
 }
 
 /// The sorts of the operands of an operation.
-fn operands(op: ScalarOp) -> &'static [Sort]
+pub fn operand_sorts(op: ScalarOp) -> &'static [Sort]
     ensures { result.now ≡ map sort_of_word (operation.takes op) }
 {
     match op {
@@ -70,7 +70,7 @@ fn operands(op: ScalarOp) -> &'static [Sort]
 }
 
 /// The sort of the value of an operation.
-fn value_sort(op: ScalarOp) -> Sort
+pub fn value_sort(op: ScalarOp) -> Sort
     ensures { result ≡ sort_of_word (operation.gives op) }
 {
     match op {
@@ -92,7 +92,7 @@ fn value_sort(op: ScalarOp) -> Sort
 }
 
 /// The sorts that a test asks for.
-fn test_takes(test: Test) -> &'static [Sort]
+pub fn test_takes(test: Test) -> &'static [Sort]
     ensures { result.now ≡ test_takes test }
 {
     match test {
@@ -104,7 +104,7 @@ fn test_takes(test: Test) -> &'static [Sort]
 }
 
 /// The sorts of parameters.
-fn parameter_sorts(alloc: Global, params: &Listed<JType>) -> Result<Vec<Sort>, AllocError>
+pub fn parameter_sorts(alloc: Global, params: &Listed<JType>) -> Result<Vec<Sort>, AllocError>
     ensures { IfOk result (λ v. v.items ≡ map sort_of_type params.now) }
 {
     let mut sorts = Vec::new(alloc);
@@ -120,7 +120,7 @@ pub(crate) fn takes(alloc: Global, action: &Action) -> Result<Vec<Sort>, AllocEr
 {
     match action {
         Action::Store(sort, _) => [*sort].to_vec(alloc),
-        Action::Scalar(op) | Action::Divide(op) => operands(*op).to_vec(alloc),
+        Action::Scalar(op) | Action::Divide(op) => operand_sorts(*op).to_vec(alloc),
         Action::Branch(test, _) => test_takes(*test).to_vec(alloc),
         Action::Switch(_, _) => [Sort::Int].to_vec(alloc),
         Action::Give(Some(sort)) => [*sort].to_vec(alloc),

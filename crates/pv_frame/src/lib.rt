@@ -8,11 +8,12 @@
 //! each edge (`specs/Frames`). `specs/Causes` has the causes in their order.
 //!
 //! Frames are inferred from the entry along edges, place by place: `specs/Inferring` says what holds
-//! of the frames so far. It, `Acting`, `Stacking`, `Stops` and `Rows` are private to this crate.
+//! of the frames so far. It, `Acting`, `Stops` and `Rows` are private to this crate.
 //!
 //! This layer stands on `pv_value`, `pv_list`, `pv_pool`, `pv_insn` and `pv_class`. The layers above use
 //! `infer`: it is Ok exactly where the method is accepted, with its program and the frames that have
-//! the fewest unknown locals, and else names the first cause and its address (`specs/Answers`).
+//! the fewest unknown locals, and else names the first cause and its address (`specs/Answers`). They
+//! take the sorts of numbers, types and kinds, and those that operations and tests ask for, from here too.
 #![tactic(auto)]
 
 mod acting;
@@ -33,9 +34,13 @@ mod used;
 
 pub use action::{Action, Comparison, Move, Test};
 pub use cause::{Cause, CauseKind, Refused};
+pub use effect::{
+    operand_sorts, parameter_sorts, sort_of, sort_of_kind, sort_of_type, test_takes, value_sort,
+};
 pub use frame::Frame;
 pub use inference::{LONGEST_CODE, MOST_SLOTS, infer};
 pub use program::Program;
 pub use sort::Sort;
+pub use stack::fits;
 pub use typed::Typed;
 pub use used::Use;

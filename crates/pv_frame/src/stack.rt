@@ -12,7 +12,7 @@ use crate::sort::Sort;
 use std::alloc::{AllocError, Global};
 
 /// Whether a value of the first sort is there where one of the second is asked for.
-pub(crate) fn fits(found: Sort, asked: Sort) -> bool
+pub fn fits(found: Sort, asked: Sort) -> bool
     ensures { result ≡ fits found asked }
 {
     match (found, asked) {
@@ -224,7 +224,7 @@ pub(crate) fn has_room(sort: Sort, place: u16, locals: &[Sort]) -> bool
 /// Forgets a long in the local before this one, whose second half this one is.
 fn lose_long(locals: &mut Vec<Sort>, place: usize)
     requires { place < length locals.old.items }
-    ensures { locals.new.items ≡ lost_before place locals.old.items }
+    ensures { locals.new.items ≡ lost_before same Unknown place locals.old.items }
 {
     if place > 0 && is_wide(locals[place - 1]) {
         locals[place - 1] = Sort::Unknown;

@@ -1,6 +1,8 @@
 //! Why an instruction has no action, and a method no frames.
 
 ghost use Rattle.std.specs.Prelude.{◌≡◌};
+ghost use Rattle.pv_frame.specs.declared.stop.Stop.TheVariants as stop;
+ghost use Rattle.pv_frame.specs.declared.stop.Untyped.TheVariants as untyped;
 ghost use Rattle.pv_frame.specs.Stops.{refused_at};
 
 use crate::cause::{Cause, CauseKind, Refused};
@@ -15,9 +17,6 @@ pub(crate) enum Stop {
 }
 
 impl From<CauseKind> for Stop {
-    ghost use Rattle.std.specs.Prelude.{◌≡◌};
-    ghost use Rattle.pv_frame.specs.declared.stop.Stop.TheVariants as stop;
-
     ghost from_gives = { λ kind e. e ≡ stop.Cause kind };
 
     fn from(kind: CauseKind) -> Stop {
@@ -26,9 +25,6 @@ impl From<CauseKind> for Stop {
 }
 
 impl From<Memory> for Stop {
-    ghost use Rattle.std.specs.Prelude.{◌≡◌};
-    ghost use Rattle.pv_frame.specs.declared.stop.Stop.TheVariants as stop;
-
     ghost from_gives = { λ _ e. e ≡ stop.Memory };
 
     fn from(_e: Memory) -> Stop {
@@ -37,9 +33,6 @@ impl From<Memory> for Stop {
 }
 
 impl From<AllocError> for Stop {
-    ghost use Rattle.std.specs.Prelude.{◌≡◌};
-    ghost use Rattle.pv_frame.specs.declared.stop.Stop.TheVariants as stop;
-
     ghost from_gives = { λ _ e. e ≡ stop.Memory };
 
     fn from(_e: AllocError) -> Stop {
@@ -48,9 +41,6 @@ impl From<AllocError> for Stop {
 }
 
 impl<T: Drop> From<AllocFailed<T>> for Stop {
-    ghost use Rattle.std.specs.Prelude.{◌≡◌};
-    ghost use Rattle.pv_frame.specs.declared.stop.Stop.TheVariants as stop;
-
     ghost from_gives = { λ _ e. e ≡ stop.Memory };
 
     fn from(_e: AllocFailed<T>) -> Stop {
@@ -67,9 +57,6 @@ pub(crate) enum Untyped {
 }
 
 impl From<Memory> for Untyped {
-    ghost use Rattle.std.specs.Prelude.{◌≡◌};
-    ghost use Rattle.pv_frame.specs.declared.stop.Untyped.TheVariants as untyped;
-
     ghost from_gives = { λ _ e. e ≡ untyped.Memory };
 
     fn from(_e: Memory) -> Untyped {
@@ -78,9 +65,6 @@ impl From<Memory> for Untyped {
 }
 
 impl From<AllocError> for Untyped {
-    ghost use Rattle.std.specs.Prelude.{◌≡◌};
-    ghost use Rattle.pv_frame.specs.declared.stop.Untyped.TheVariants as untyped;
-
     ghost from_gives = { λ _ e. e ≡ untyped.Memory };
 
     fn from(_e: AllocError) -> Untyped {
@@ -89,9 +73,6 @@ impl From<AllocError> for Untyped {
 }
 
 impl<T: Drop> From<AllocFailed<T>> for Untyped {
-    ghost use Rattle.std.specs.Prelude.{◌≡◌};
-    ghost use Rattle.pv_frame.specs.declared.stop.Untyped.TheVariants as untyped;
-
     ghost from_gives = { λ _ e. e ≡ untyped.Memory };
 
     fn from(_e: AllocFailed<T>) -> Untyped {

@@ -1,5 +1,5 @@
 use Rattle.std.proofs.Common.{List, ℕ, ◌≡◌, sym, subst}
-use Rattle.pv_value.specs.Descriptors.{IsFieldType, IsMethodType}
+use Rattle.pv_frame.proofs.Words.{IsFieldType, IsMethodType}
 use Rattle.pv_frame.proofs.ActingLaws.{bad_text}
 use Rattle.pv_frame.proofs.acting.access.Goals as goal
 

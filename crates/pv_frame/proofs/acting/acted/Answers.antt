@@ -1,5 +1,5 @@
 use Rattle.std.proofs.Common.{sym, subst}
-use Rattle.pv_frame.specs.Acting.{HasItsText, IsFirstOf, OnCause}
+use Rattle.pv_frame.proofs.Words.{HasItsText, IsFirstOf, OnCause}
 use Rattle.pv_frame.proofs.Texts.{has_texts, use_text}
 use Rattle.pv_frame.proofs.Acted.{acting_on, acting_stops}
 use Rattle.pv_frame.proofs.acting.acted.Goals as goal

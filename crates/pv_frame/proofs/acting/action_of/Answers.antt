@@ -1,6 +1,5 @@
-use Rattle.std.proofs.Common.{◌∙◌, ap, subst}
-use Rattle.std.specs.Prelude.{option_map}
-use Rattle.pv_insn.proofs.Cited.{IsFormed}
+use Rattle.std.proofs.Common.{◌∙◌, ap, subst, option_map}
+use Rattle.pv_frame.proofs.Words.{IsFormed}
 use Rattle.pv_frame.proofs.ActingLaws.{is_some_at}
 use Rattle.pv_frame.proofs.Complete.{plain_row, local_row, branch_row, refused_row}
 use Rattle.pv_frame.proofs.acting.action_of.Goals as goal

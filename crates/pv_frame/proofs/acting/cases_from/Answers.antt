@@ -1,6 +1,5 @@
 use Rattle.std.proofs.Common.{length, ap, ◌∙◌, w32, to_z, of_z}
-use Rattle.std.proofs.lemmas.Int.{to_z-of_z}
-use Rattle.pv_frame.specs.Actions.{cases_from}
+use Rattle.pv_frame.proofs.Words.{to_z-of_z, cases_from}
 use Rattle.pv_frame.proofs.ActingLaws.{cases_start, cases_on, cases_done, key_is}
 use Rattle.pv_frame.proofs.acting.cases_from.Goals as goal
 

@@ -1,7 +1,5 @@
 use Rattle.std.proofs.Common.{List, sym, subst}
-use Rattle.std.specs.List.{AllByRecursion}
-use Rattle.pv_value.specs.declared.descriptor.JType.{JType}
-use Rattle.pv_frame.specs.Actions.{IsFloatless}
+use Rattle.pv_frame.proofs.Words.{AllByRecursion, JType, IsFloatless}
 use Rattle.pv_frame.proofs.Lists.{all_starts, all_on, all_ends, all_done}
 use Rattle.pv_frame.proofs.acting.is_floatless_method.Goals as goal
 

@@ -1,6 +1,5 @@
-use Rattle.std.proofs.Common.{length}
-use Rattle.std.specs.Prelude.{◌↔◌}
-use Rattle.pv_frame.specs.Inferring.{KnowsLess}
+use Rattle.std.proofs.Common.{length, ◌↔◌}
+use Rattle.pv_frame.proofs.Words.{KnowsLess}
 use Rattle.pv_frame.proofs.flow.knows_less.Given as goal
 
 abbrev pub invariant-loop-left : goal.invariant-loop-left

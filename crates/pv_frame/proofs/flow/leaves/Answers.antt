@@ -1,9 +1,5 @@
 use Rattle.std.proofs.Common.{List, ap, ◌∙◌}
-use Rattle.std.specs.Option.{option_map}
-use Rattle.pv_frame.specs.declared.sort.Sort.{Sort}
-use Rattle.pv_frame.specs.Stacks.{popped}
-use Rattle.pv_frame.specs.Effects.{takes}
-use Rattle.pv_frame.specs.Frames.{same}
+use Rattle.pv_frame.proofs.Words.{option_map, Sort, popped, takes, same}
 use Rattle.pv_frame.proofs.StackSteps.{rest_of}
 use Rattle.pv_frame.proofs.FlowLaws.{is_some-map, leaves_is}
 use Rattle.pv_frame.proofs.flow.leaves.Goals as goal

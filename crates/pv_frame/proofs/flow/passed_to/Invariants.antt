@@ -1,6 +1,5 @@
 use Rattle.std.proofs.Common.{◌≡◌, ◌++◌, take}
-use Rattle.std.specs.List.{flat_map}
-use Rattle.pv_frame.specs.Frames.{sorts_of, this_sorts}
+use Rattle.pv_frame.proofs.Words.{flat_map, sorts_of, this_sorts}
 use Rattle.pv_frame.proofs.flow.passed_to.Given as goal
 
 abbrev pub invariant-loop-param : goal.invariant-loop-param

@@ -1,7 +1,5 @@
 use Rattle.std.proofs.Common.{List, ℕ, ◌∙◌, ap, sym, subst}
-use Rattle.pv_class.specs.declared.file.Method.{Method}
-use Rattle.pv_value.specs.Descriptors.{IsMethodType}
-use Rattle.pv_frame.specs.Answers.{IsAnswer, IsOnly}
+use Rattle.pv_frame.proofs.Words.{Method, IsMethodType, IsAnswer, IsOnly}
 use Rattle.pv_frame.proofs.AnswerLaws.{at_place, within_methods, method_is}
 use Rattle.pv_frame.proofs.inference.infer.Goals as goal
 

@@ -1,13 +1,5 @@
-use Rattle.std.proofs.Common.{List, ap, sym, subst, refl, arith}
-use Rattle.std.specs.Prelude.{Err, length}
-use Rattle.std.specs.List.{AllZip, AllByRecursion}
-use Rattle.std.proofs.lemmas.Result.{err_from_is_err_and}
-use Rattle.pv_insn.specs.declared.insn.Placed.{Placed}
-use Rattle.pv_insn.proofs.Cited.{IsFormed, formed}
-use Rattle.pv_insn.specs.Codes.{IsCode}
-use Rattle.pv_frame.specs.declared.action.Action.{Action}
-use Rattle.pv_frame.specs.Programs.{is_instance, Does}
-use Rattle.pv_frame.specs.Answers.{Said, IsAnswer}
+use Rattle.std.proofs.Common.{List, ap, sym, subst, refl, arith, Err, length}
+use Rattle.pv_frame.proofs.Words.{AllZip, AllByRecursion, err_from_is_err_and, Placed, IsFormed, formed, IsCode, Action, is_instance, Does, Said, IsAnswer}
 use Rattle.pv_frame.proofs.AnswerLaws.{said_only, typing_only, refused_only, has_bytes, early_refused, fault_answers, first_answers, few_actions, types_refused, typing_is}
 use Rattle.pv_frame.proofs.inference.infer_method.Goals as goal
 

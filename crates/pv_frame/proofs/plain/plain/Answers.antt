@@ -1,5 +1,5 @@
 use Rattle.std.proofs.Common.{◌++◌}
-use Rattle.pv_frame.specs.Actions.{constant_rows, load_rows, element_load_rows, store_rows, element_store_rows, move_rows, arithmetic_rows, end_rows}
+use Rattle.pv_frame.proofs.Words.{constant_rows, load_rows, element_load_rows, store_rows, element_store_rows, move_rows, arithmetic_rows, end_rows}
 use Rattle.pv_frame.proofs.ActingLaws.{more_rows}
 use Rattle.pv_frame.proofs.plain.plain.Goals as goal
 

@@ -1,8 +1,5 @@
 use Rattle.std.proofs.Common.{◌<◌, Some, length, refl, sym, ap, ◌∙◌, subst, arith}
-use Rattle.std.proofs.lemmas.Option.{slice_get_read}
-use Rattle.std.proofs.lemmas.Result.{err_from_is_err_and}
-use Rattle.pv_frame.specs.declared.frame.Frame.{Frame}
-use Rattle.pv_frame.specs.Frames.{Flows}
+use Rattle.pv_frame.proofs.Words.{slice_get_read, err_from_is_err_and, Frame, Flows}
 use Rattle.pv_frame.proofs.FrameLaws.{some_of}
 use Rattle.pv_frame.proofs.Edges.{follows_same, follows_set, clashes_past, clash_answers}
 use Rattle.pv_frame.proofs.spreading.follow.Goals as goal

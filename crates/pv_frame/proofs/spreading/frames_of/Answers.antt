@@ -1,6 +1,5 @@
 use Rattle.std.proofs.Common.{ℕ, List, length, ap, subst, arith}
-use Rattle.std.proofs.lemmas.Result.{err_from_is_err_and}
-use Rattle.pv_frame.specs.Inferring.{Inferring}
+use Rattle.pv_frame.proofs.Words.{err_from_is_err_and, Inferring}
 use Rattle.pv_frame.proofs.InferenceLaws.{start_answers, start_follows, next_waits, inferred}
 use Rattle.pv_frame.proofs.spreading.frames_of.Goals as goal
 

@@ -1,6 +1,5 @@
 use Rattle.std.proofs.Common.{◌≤◌, List, sum_by, ◌∙◌, sym, subst}
-use Rattle.pv_frame.specs.declared.sort.Sort.{Sort}
-use Rattle.pv_frame.specs.Stacks.{width}
+use Rattle.pv_frame.proofs.Words.{Sort, width}
 use Rattle.pv_frame.proofs.InferenceLaws.{frame_at, action_at, visits_end, no_room, no_after, after_have, visit_answers}
 use Rattle.pv_frame.proofs.spreading.visit.Goals as goal
 

@@ -1,6 +1,5 @@
 use Rattle.std.proofs.Common.{◌≡◌, length}
-use Rattle.pv_frame.specs.Stacks.{popped}
-use Rattle.pv_frame.specs.Frames.{same}
+use Rattle.pv_frame.proofs.Words.{popped, same}
 use Rattle.pv_frame.proofs.StackSteps.{rest_of}
 use Rattle.pv_frame.proofs.stack.below.Given as goal
 

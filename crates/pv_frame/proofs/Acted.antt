@@ -1,5 +1,5 @@
 -- What the instructions of a code do, one after the other.
-use Rattle.std.proofs.Common.{◌≡◌, ℕ, ◌+◌, ◌≤◌, ◌<◌, List, [], ◌∷◌, ◌++◌, length, get_or, take, drop, refl, sym, ap, ◌∙◌, subst, take_all, take-append-drop, Err}
+use Rattle.std.proofs.Common.{◌≡◌, ℕ, ◌+◌, ◌<◌, List, [], ◌∷◌, ◌++◌, length, get_or, take, drop, refl, sym, ap, ◌∙◌, subst, take-append-drop, Err}
 use Rattle.pv_frame.proofs.Words.{AllZip, AllByRecursion, take_more, drop_more, all_zipped_more, Entry, Placed, Use, Action, CauseKind, IsUse, Acts, Does, IsCauseOf, HasNoCause, cause, Stop, refused_at, IsActionOr, AreActing, IsFirstOf, OnCause}
 use Rattle.pv_frame.specs.declared.stop.Stop.TheVariants as stop
 use Rattle.pv_frame.proofs.ActionLaws.{clean}

@@ -1,6 +1,6 @@
 -- An instruction with a use does one thing, and has then no cause; a method has one program.
 use Rattle.std.proofs.Common.{◌≡◌, ℕ, ◌≤◌, true, false, refl, List, [], ◌∷◌, Some, ◌∙◌, ap, sym, subst, inl, inr, arith, lit≤, ◌==◌, ◌||◌, if◌then◌else◌, option_map, IsTrue, Bool, None, eqb-true}
-use Rattle.pv_frame.proofs.Words.{AllZip, AllByRecursion, Sym, JType, Descriptor, Z, B, C, S, I, J, F, D, A, IsLetter, IsFieldType, IsMethodType, Form, Virtual, Special, Interface, receiver_sym, with_receiver, field_type_once, method_type_once, Entry, Constant, Member, Insn, Placed}
+use Rattle.pv_frame.proofs.Words.{AllZip, AllByRecursion, Sym, JType, Descriptor, A, IsLetter, IsFieldType, IsMethodType, Form, Virtual, Special, Interface, receiver_sym, with_receiver, field_type_once, method_type_once, Entry, Constant, Member, Insn, Placed}
 use Rattle.pv_frame.proofs.Words.{Use, CauseKind, Action, field_rows, form_rows, class_rows, row_of, names_class, IsUse, IsFloatless, IsFloatlessMethod, LoadsConstant, MayName, AccessesField, CallsStatic, CallsOn, UsesMember, ActsWith, Acts, Does, HasFloatType, AccessesFields, IsCauseWith, IsCauseOf}
 use Rattle.pv_pool.specs.declared.constant.Constant.TheVariants as constant
 use Rattle.pv_insn.specs.declared.insn.Insn.TheVariants as insn

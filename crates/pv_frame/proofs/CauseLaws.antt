@@ -1,5 +1,5 @@
 -- A method has one program and one cause, and not both.
-use Rattle.std.proofs.Common.{◌⊎◌, inl, inr, ⊎_elim, ◌+◌, ◌≡◌, ℕ, ◌≤◌, refl, List, [], ◌∷◌, ◌++◌, length, Some, ◌∙◌, ap, sym, subst, arith, ◌≢◌, ◌==◌, if◌then◌else◌}
+use Rattle.std.proofs.Common.{◌⊎◌, ⊎_elim, ◌+◌, ◌≡◌, ℕ, ◌≤◌, refl, List, [], ◌∷◌, ◌++◌, length, Some, ◌∙◌, ap, sym, subst, arith, ◌≢◌, ◌==◌, if◌then◌else◌}
 use Rattle.pv_frame.proofs.Words.{AllZip, AllByRecursion, Descriptor, IsMethodType, method_type_once, Entry, ClassFile, Method, Code, Placed, CodeFault, IsCode, IsBad, Insn, IsBytes, code_once, fault_once, good_or_bad}
 use Rattle.pv_frame.proofs.Words.{Action, CauseKind, Cause, IsFloatlessMethod, IsUnsynchronized, use_of, Use, Program, Does, IsProgramOf, HasFrames, NamesFloat, NamesOther, IsCauseWith, IsCauseOf, HasNoCause, address_of, IsFirst, cause, Row, handler, synchronized, long_code, slots, float, bad_code, instruction, untyped, IsRefused, IsAccepted}
 use Rattle.pv_pool.specs.declared.constant.Constant.TheVariants as constant

@@ -1,6 +1,6 @@
 -- Each instruction that is decoded does something or has a cause: that neither holds is impossible.
 use Rattle.std.proofs.Common.{◌≡◌, ◌≢◌, ℕ, zero, suc, ◌<◌, Bool, true, false, refl, List, [], ◌∷◌, Option, Some, None, ◌∙◌, ap, sym, subst, inl, inr, arith, ◌⊎◌, ◌==◌, ◌&&◌, ◌||◌, not, is_some, if◌then◌else◌, option_map, eq-eqb, eqb-true}
-use Rattle.pv_frame.proofs.Words.{AllZip, AllByRecursion, list_all, Sym, JType, Z, B, C, S, I, J, F, D, A, Descriptor, receiver_sym, with_receiver, Entry, Constant, Member, text_under, constant_under, class_name_under, member_under, Insn, Placed, form_of, IsFormed}
+use Rattle.pv_frame.proofs.Words.{and_parts, AllZip, AllByRecursion, list_all, Sym, JType, F, D, Descriptor, receiver_sym, with_receiver, Entry, Constant, Member, text_under, constant_under, class_name_under, member_under, Insn, Placed, form_of, IsFormed}
 use Rattle.pv_frame.proofs.Words.{Use, CauseKind, Action, plain_rows, local_rows, branch_rows, field_rows, row_of, use_of, use_of_constant, use_of_class, use_of_member, loads_narrow, loads_wide, names_class, IsFloatless, HasFloatlessResult, IsFloatlessMethod, ActsWith, Acts, AccessesFields, NamesWell, IsCauseWith, IsCauseOf, HasNoCause, refused_by, Does}
 use Rattle.pv_value.specs.declared.number.Num.TheVariants as num
 use Rattle.pv_pool.specs.declared.constant.Constant.TheVariants as constant
@@ -18,21 +18,13 @@ HasTexts pool = (i j : ℕ) → constant_under pool i ≡ Some (constant.Text j)
 
 -- ---- rows
 
-both_first : (a b : Bool) → (a && b) ≡ true → a ≡ true
-both_first true b e = refl
-both_first false b e = e
-
-both_second : (a b : Bool) → (a && b) ≡ true → b ≡ true
-both_second true b e = e
-both_second false b e = absurd (cc)
-
 each_below : (p : ℕ → Bool) (n k : ℕ) → list_all p (below n) ≡ true → k < n → p k ≡ true
 unfolding below
 each_below p zero k e h = absurd (omega arith)
 each_below p (suc n) k e h =
     elim (n == k) as (λ b. (n == k) ≡ b → p k ≡ true) [
-      | true ↦ λ is. subst (λ (x : ℕ). p x ≡ true) (eqb-true n k is) (both_first (p n) (list_all p (below n)) e)
-      | false ↦ λ is. each_below p n k (both_second (p n) (list_all p (below n)) e) (let other : n ≢ k = λ same. absurd (cc (eq-eqb n k same, is)) in omega arith)
+      | true ↦ λ is. subst (λ (x : ℕ). p x ≡ true) (eqb-true n k is) (and_parts (p n) (list_all p (below n)) e).0
+      | false ↦ λ is. each_below p n k (and_parts (p n) (list_all p (below n)) e).1 (let other : n ≢ k = λ same. absurd (cc (eq-eqb n k same, is)) in omega arith)
     ] refl
 
 there : {A : Type 0} (o : Option A) → is_some o ≡ true → (x : A) × (o ≡ Some x)

@@ -1,5 +1,5 @@
 -- Edges from one instruction, followed one after the other.
-use Rattle.std.proofs.Common.{◌≡◌, ℕ, ◌+◌, ◌≤◌, ◌<◌, List, [], ◌∷◌, ◌++◌, length, get_or, set, take, drop, Option, Some, None, refl, sym, ap, ◌∙◌, subst, inl, inr, arith, length-append, ◌⊎◌, slice_get, Contains, Err, take_all, take-append-drop}
+use Rattle.std.proofs.Common.{◌≡◌, ℕ, ◌+◌, ◌≤◌, ◌<◌, List, [], ◌∷◌, ◌++◌, length, get_or, set, take, drop, Option, Some, None, refl, sym, ap, ◌∙◌, subst, inl, inr, arith, length-append, ◌⊎◌, slice_get, Contains, Err, take-append-drop}
 use Rattle.pv_frame.proofs.Words.{AllByRecursion, take_more, drop_more, sum_by-set, Contains-append_left, Contains-append_right, Contains-push, slice_get_within, get_or_from_slice_get, length-set, all_push, all_map, Frame, Untyped, Flows, IsFrameAt, LeadsTo, FoundOr, weight_of, weight, HaveLocals, Below, Follows, Clashes, merged, SameStack}
 use Rattle.pv_frame.specs.declared.stop.Untyped.TheVariants as untyped
 use Rattle.pv_frame.proofs.FrameLaws.{flows_flows, some_of}

@@ -1,5 +1,5 @@
 -- The frames so far, from the entry on until no place waits.
-use Rattle.std.proofs.Common.{◌≡◌, ◌≢◌, ℕ, zero, suc, ◌+◌, ◌-◌, ◌≤◌, ◌<◌, true, false, List, [], ◌∷◌, ◌++◌, length, replicate, Option, Some, None, refl, sym, ap, ◌∙◌, subst, inl, inr, arith, get_or, length-append, ◌⊎◌, slice_get, sum_by, option_map, Contains, if◌then◌else◌, Result, Ok, Err}
+use Rattle.std.proofs.Common.{◌≡◌, ℕ, zero, suc, ◌+◌, ◌-◌, ◌≤◌, ◌<◌, true, false, List, [], ◌∷◌, ◌++◌, length, replicate, Option, Some, None, refl, sym, ap, ◌∙◌, subst, inl, inr, arith, get_or, length-append, ◌⊎◌, slice_get, sum_by, option_map, Contains, if◌then◌else◌, Result, Ok, Err}
 use Rattle.pv_frame.proofs.Words.{AllByRecursion, length-replicate, Contains-push_cases, slice_get_within, slice_get_read, all_map, ◌>>=◌}
 use Rattle.pv_frame.proofs.Words.{Sort, Action, Program, Frame, is_wide, width, popped, moved, first_cleared, has_room, set_local, takes, gives, successors, IsAt, same, pushed, holds, padded_sorts, passed_to, entry_frame, frame_done, frame_after, Flows, IsFrameAt, LeadsTo, Leaves, GoesOn, IsTyped, Agrees, HasFrames, Reached, first, next, IsInferred, Untyped, FoundOr, weight, HaveLocals}
 use Rattle.pv_frame.proofs.Words.{Within, Follows, Clashes, Inferring, Visits}

@@ -1,5 +1,5 @@
 -- Lists, as loops find them: what holds of the elements so far, and of those that are left; and elements by their places.
-use Rattle.std.proofs.Common.{◌≡◌, ◌≢◌, ℕ, zero, suc, ◌+◌, ◌≤◌, ◌<◌, true, false, List, [], ◌∷◌, ◌++◌, length, get_or, set, drop, Some, refl, sym, subst, inl, inr, arith, ◌⊎◌, ◌==◌, slice_get, Contains, eqb-true, eq-eqb}
+use Rattle.std.proofs.Common.{◌≡◌, ◌≢◌, ℕ, zero, suc, ◌+◌, ◌≤◌, ◌<◌, List, [], ◌∷◌, ◌++◌, length, get_or, set, drop, Some, refl, sym, subst, inl, inr, arith, ◌⊎◌, slice_get, Contains}
 use Rattle.pv_frame.proofs.Words.{cases_eq, AllByRecursion, drop_more, drop_all}
 
 -- ---- what holds of each element

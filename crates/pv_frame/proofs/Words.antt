@@ -1,6 +1,6 @@
 -- The words of which the proofs here speak, and the laws of other crates that they cite, from one place.
 pub use Rattle.std.proofs.Math.ListN.{length-set}
-pub use Rattle.std.proofs.lemmas.Bool.{cases_eq, cases_lt}
+pub use Rattle.std.proofs.lemmas.Bool.{and_parts, cases_eq, cases_lt}
 pub use Rattle.std.proofs.lemmas.Bool.Decides.{nat_tests}
 pub use Rattle.std.proofs.lemmas.Int.{ints, to_z-of_z, to_z_pos}
 pub use Rattle.std.proofs.lemmas.List.{drop_all, drop_more, length-map, length-replicate, length-reverse, map-append, reverse-append, reverse-reverse, take_more}
@@ -16,7 +16,7 @@ pub use Rattle.pv_value.specs.Descriptors.{IsFieldType, IsLetter, IsMethodType}
 pub use Rattle.pv_value.specs.Receivers.{receiver_sym, with_receiver}
 pub use Rattle.pv_value.specs.declared.descriptor.Descriptor.{Descriptor}
 pub use Rattle.pv_value.specs.declared.descriptor.JType.{JType}
-pub use Rattle.pv_value.specs.declared.descriptor.JType.TheVariants.{A, B, C, D, F, I, J, S, Z}
+pub use Rattle.pv_value.specs.declared.descriptor.JType.TheVariants.{A, D, F, I, J}
 pub use Rattle.pv_value.specs.declared.name.Sym.{Sym}
 pub use Rattle.pv_value.specs.declared.receiver.Form.{Form}
 pub use Rattle.pv_value.specs.declared.receiver.Form.TheVariants.{Interface, Special, Virtual}

@@ -1,15 +1,14 @@
--- What moves take from a stack, private to this crate; and the steps of a store into a local.
+-- What moves take from a stack, and the steps of a store into a local.
 use Rattle.std.specs.Prelude.{ℕ, zero, suc, List, if◌then◌else◌, slice_index_or, slice_set}
 use Rattle.pv_frame.specs.declared.sort.Sort.{Sort}
 use Rattle.pv_frame.specs.declared.stack.Part.{Part}
 use Rattle.pv_frame.specs.declared.stack.Part.TheVariants as part
 use Rattle.pv_frame.specs.Stacks.{is_wide, Taken, none, one, two}
-use Rattle.pv_frame.specs.Frames.{same}
 
-abbrev pub taken_by : Part → List Sort → Taken Sort
-taken_by part.Nothing stack = none same stack
-taken_by part.One stack = one same stack
-taken_by part.Two stack = two same stack
+abbrev pub taken_by : {A : Type 0} → (A → Sort) → Part → List A → Taken A
+taken_by sort part.Nothing stack = none sort stack
+taken_by sort part.One stack = one sort stack
+taken_by sort part.Two stack = two sort stack
 
 -- the locals without a long in the one before this
 abbrev pub lost_before : {A : Type 0} → (A → Sort) → A → ℕ → List A → List A

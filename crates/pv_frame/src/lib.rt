@@ -13,7 +13,8 @@
 //! This layer stands on `pv_value`, `pv_list`, `pv_pool`, `pv_insn` and `pv_class`. The layers above use
 //! `infer`: it is Ok exactly where the method is accepted, with its program and the frames that have
 //! the fewest unknown locals, and else names the first cause and its address (`specs/Answers`). They
-//! take the sorts of numbers, types and kinds, and those that operations and tests ask for, from here too.
+//! take from here too what a move takes from a stack (`Part`), the sorts of numbers, types and kinds, and
+//! those that operations and tests ask for.
 #![tactic(auto)]
 
 mod acting;
@@ -41,6 +42,6 @@ pub use frame::Frame;
 pub use inference::{LONGEST_CODE, MOST_SLOTS, infer};
 pub use program::Program;
 pub use sort::Sort;
-pub use stack::fits;
+pub use stack::{Part, fits, has_room, is_wide};
 pub use typed::Typed;
 pub use used::Use;

@@ -24,7 +24,7 @@ pub fn fits(found: Sort, asked: Sort) -> bool
 }
 
 /// Whether a value of this sort is of category 2 (JVMS 2.11.1).
-pub(crate) fn is_wide(sort: Sort) -> bool
+pub fn is_wide(sort: Sort) -> bool
     ensures { result ≡ is_wide sort }
 {
     matches!(sort, Sort::Long)
@@ -53,7 +53,7 @@ pub(crate) fn below<'a>(sorts: &[Sort], stack: &'a [Sort]) -> Option<&'a [Sort]>
 
 /// What a move takes from the top of the stack.
 #[derive(Clone, Copy, Debug)]
-pub(crate) enum Part {
+pub enum Part {
     Nothing,
     /// A value of category 1.
     One,
@@ -95,7 +95,7 @@ fn two(stack: &[Sort]) -> Option<(&[Sort], &[Sort])>
 
 /// What a move takes, and the stack below it.
 fn taken(part: Part, stack: &[Sort]) -> Option<(&[Sort], &[Sort])>
-    ensures { option_map (λ q. (q.0.now, q.1.now)) result ≡ taken_by part stack.now }
+    ensures { option_map (λ q. (q.0.now, q.1.now)) result ≡ taken_by same part stack.now }
 {
     match part {
         Part::Nothing => Some(stack.split_at(0)),
@@ -123,7 +123,7 @@ fn joined(
 
 /// The stack without what is taken.
 fn dropped(alloc: Global, part: Part, stack: &[Sort]) -> Result<Option<Vec<Sort>>, AllocError>
-    ensures { IfOk result (λ o. option_map (λ v. v.items) o ≡ dropped (taken_by part stack.now)) }
+    ensures { IfOk result (λ o. option_map (λ v. v.items) o ≡ dropped (taken_by same part stack.now)) }
 {
     match taken(part, stack) {
         Some((_, rest)) => Ok(Some(Vec::from_slice(alloc, rest)?)),
@@ -139,7 +139,7 @@ fn copied(
     stack: &[Sort],
 ) -> Result<Option<Vec<Sort>>, AllocError>
     ensures { IfOk result
-        (λ o. option_map (λ v. v.items) o ≡ copied (taken_by above) (taken_by under) stack.now) }
+        (λ o. option_map (λ v. v.items) o ≡ copied (taken_by same above) (taken_by same under) stack.now) }
 {
     let Some((top, below)) = taken(above, stack) else {
         return Ok(None);
@@ -210,7 +210,7 @@ pub(crate) fn holds(locals: &[Sort], place: u16, asked: Sort) -> bool
 }
 
 /// Whether there are locals for a value of a sort from this one on.
-pub(crate) fn has_room(sort: Sort, place: u16, locals: &[Sort]) -> bool
+pub fn has_room<T>(sort: Sort, place: u16, locals: &[T]) -> bool
     ensures { result ≡ has_room sort place locals.now }
 {
     let last = if is_wide(sort) {

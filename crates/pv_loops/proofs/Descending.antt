@@ -1,7 +1,7 @@
 -- Steps are taken while one applies: a shape in which none can be stuck is reduced to one node.
 use Rattle.std.proofs.Common.{◌≡◌, ◌≢◌, ℕ, zero, suc, ◌<◌, ◌≤◌, ◌+◌, List, [], ◌∷◌, length, refl, sym, subst, arith, ◌⊎◌, inl, inr, ⊎_elim}
 use Rattle.pv_loops.proofs.Words.{cases_eq, cases_lt, TStep, T1, T2, targets, IsShape, Graph, graph_of, Applies, after, AllApply, after_all, ReduceToOne, IsReducible}
-use Rattle.pv_loops.proofs.Deciding.{differ, Decided, both, all_three, all_four, either, implies, negated, some_below, all_below, contains_decided, count, count_le, count_less, count_more}
+use Rattle.pv_loops.proofs.Deciding.{differ, Decided, both, all_three, all_four, either, implies, some_below, all_below, contains_decided, count, count_le, count_less, count_more}
 use Rattle.pv_loops.proofs.Grouping.{source_within}
 
 -- a graph of nodes below n, with tests for its nodes and edges

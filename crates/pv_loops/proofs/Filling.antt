@@ -1,8 +1,8 @@
 -- The loops, filled header by header.
-use Rattle.std.proofs.Common.{◌≡◌, ◌≢◌, ℕ, ◌<◌, ◌≤◌, ◌+◌, List, [], ◌∷◌, ◌++◌, length, get_or, set, refl, sym, ◌∙◌, ap, subst, arith, ◌⊎◌, ⊎_elim, Option, Some, None, length-set, length-append, slice_get, nat_eq}
+use Rattle.std.proofs.Common.{◌≡◌, ◌≢◌, ℕ, ◌<◌, ◌≤◌, ◌+◌, List, [], ◌∷◌, length, get_or, set, refl, sym, ◌∙◌, ap, subst, arith, ◌⊎◌, ⊎_elim, Option, Some, None, length-set, slice_get, nat_eq}
 use Rattle.pv_loops.proofs.Words.{cases_eq, cases_lt, get_or_past, none-some, same_Some, slice_get_within, nat_eq_equiv, Contains-permutation, IsPermutation-sym, IsStrictlyIncreasing-from_distinct, IsDistinct-IsPermutation, IsDistinct, IsPermutation, IsNonDecreasing}
 use Rattle.pv_loops.proofs.Words.{Loop, Nest, Headers, IsShape, IsReversed, IsOrder, IsHead, InBody, AreBody, AreHeaders, Encloses, alone, within, IsParent, IsFilled, IsHomeBefore, IsNested, IsMarked, KeepsHomes, HasDepth}
-use Rattle.pv_loops.proofs.Listing.{listed_at, listed_read, pushed_at, set_at, increases}
+use Rattle.pv_loops.proofs.Listing.{listed_at, listed_read, set_at, increases}
 use Rattle.pv_loops.proofs.Bodies.{head_of}
 use Rattle.pv_loops.proofs.Nesting.{same_head, enclosed_loop, low}
 

@@ -1,5 +1,5 @@
 -- Headers, as the nodes are gone through.
-use Rattle.std.proofs.Common.{◌≡◌, ◌≢◌, ℕ, ◌<◌, ◌≤◌, ◌+◌, List, [], ◌∷◌, ◌++◌, length, get_or, refl, sym, ◌∙◌, ap, subst, arith, ⊎_elim, Option, Some, None, length-append}
+use Rattle.std.proofs.Common.{◌≡◌, ◌≢◌, ℕ, ◌<◌, ◌≤◌, ◌+◌, List, [], ◌∷◌, ◌++◌, length, get_or, sym, ◌∙◌, ap, subst, arith, ⊎_elim, Option, Some, None, length-append}
 use Rattle.pv_loops.proofs.Words.{cases_eq, cases_lt, get_or_append_left, get_or_push, get_or_past, none-some, same_Some, IsStrictlyIncreasing, Headers, IsHead, AreHeaders}
 use Rattle.pv_loops.proofs.Grouping.{source_within}
 use Rattle.pv_loops.proofs.Listing.{length_more, front_more, last_more, by_last}

@@ -109,15 +109,6 @@ listed_read xs i x lt e = slice_get_read xs (length xs) i x refl lt (sym e)
 pub read_at : {X : Type 0} (xs : List X) (i : ℕ) (d x : X) → i < length xs → x ≡ get_or xs i x → get_or xs i d ≡ x
 read_at xs i d x lt e = get_or_default xs i d x lt ∙ sym e
 
--- an element after a push
-pub pushed_at : {X : Type 0} (xs : List X) (y : X) (i : ℕ) (x : X) → slice_get (xs ++ y ∷ []) i ≡ Some x → ((i < length xs) × (slice_get xs i ≡ Some x)) ⊎ ((i ≡ length xs) × (x ≡ y))
-pushed_at xs y i x e =
-    let lt = slice_get_within (xs ++ y ∷ []) i x e in
-    let at : get_or (xs ++ y ∷ []) i x ≡ x = get_or_from_slice_get (xs ++ y ∷ []) i x x e in ⊎_elim
-    (λ (h : i < length xs). inl (h, listed_read xs i x h (sym (get_or_append_left xs (y ∷ []) x i h) ∙ at)))
-    (λ (h : length xs ≤ i). let last : i ≡ length xs = omega (arith, h, lt, length-append xs (y ∷ [])) in inr (last, sym at ∙ get_or_push xs y x i (sym last)))
-    (cases_lt i (length xs))
-
 -- an element after a write
 pub set_at : {X : Type 0} (xs : List X) (k : ℕ) (y : X) (i : ℕ) (x : X) → slice_get (set xs k y) i ≡ Some x → ((i ≢ k) × (slice_get xs i ≡ Some x)) ⊎ ((i ≡ k) × (x ≡ y))
 set_at xs k y i x e =

@@ -1,6 +1,6 @@
 -- The last steps of a reduction that ends in two or more nodes: T1 for each leader.
-use Rattle.std.proofs.Common.{◌≡◌, ◌≢◌, ℕ, ◌<◌, ◌≤◌, ◌+◌, List, [], ◌∷◌, ◌++◌, length, get_or, refl, sym, ◌∙◌, ap, subst, arith, ⊎_elim, length-append}
-use Rattle.pv_loops.proofs.Words.{cases_eq, cases_lt, get_or_push, get_or_append_left, Contains, TStep, T1, T2, Groups, Reduction, Edge, targets, IsReversed, IsShape, Graph, graph_of, Applies, AllApply, after_all, Stuck, leader_of, Leads, AreGroups, Grouped, Reduced, Reduces, IsOnlySource, AreRest, NoneMerges}
+use Rattle.std.proofs.Common.{◌≡◌, ◌≢◌, ℕ, ◌<◌, ◌+◌, List, [], ◌∷◌, ◌++◌, length, get_or, sym, ◌∙◌, ap, subst, arith, ⊎_elim}
+use Rattle.pv_loops.proofs.Words.{cases_eq, Contains, TStep, T1, T2, Groups, Reduction, Edge, targets, IsReversed, IsShape, Graph, graph_of, Applies, AllApply, after_all, Stuck, leader_of, Leads, AreGroups, Grouped, Reduced, Reduces, IsOnlySource, AreRest, NoneMerges}
 use Rattle.pv_loops.proofs.Grouping.{grouped_T1, source_within}
 use Rattle.pv_loops.proofs.Reducing.{apply_append, after_append}
 use Rattle.pv_loops.proofs.Listing.{length_more, front_more, last_more, by_last}

@@ -1,6 +1,6 @@
 -- The search for the one group with edges into a leader.
-use Rattle.std.proofs.Common.{◌≡◌, ◌≢◌, ℕ, ◌<◌, ◌≤◌, ◌+◌, List, [], ◌∷◌, ◌++◌, length, get_or, refl, sym, ◌∙◌, ap, subst, arith, ◌⊎◌, inl, inr, ⊎_elim, Option, Some, None, length-append}
-use Rattle.pv_loops.proofs.Words.{cases_eq, cases_lt, Contains-get_or, get_or_push, get_or_append_left, All, Contains, Groups, Edge, targets, IsShape, IsReversed, leader_of, place_of, Leads, AreGroups, Merges, IsOnlySource, AreOthers, AreRest, NoneMerges, Reduces, Reduced, Tracks, Reduction, TStep, graph_of, AllApply, after_all}
+use Rattle.std.proofs.Common.{◌≡◌, ◌≢◌, ℕ, ◌<◌, ◌≤◌, ◌+◌, List, [], ◌∷◌, ◌++◌, length, get_or, sym, ◌∙◌, ap, subst, arith, ◌⊎◌, inl, inr, ⊎_elim, Option, Some, None}
+use Rattle.pv_loops.proofs.Words.{cases_eq, Contains-get_or, All, Contains, Groups, Edge, targets, IsShape, IsReversed, leader_of, place_of, Leads, AreGroups, Merges, IsOnlySource, AreOthers, AreRest, NoneMerges, Reduces, Reduced, Tracks, Reduction, TStep, graph_of, AllApply, after_all}
 use Rattle.pv_loops.proofs.Grouping.{source_within}
 use Rattle.pv_loops.proofs.Merging.{stays}
 use Rattle.pv_loops.proofs.Listing.{length_more, front_more, last_more, by_last}

@@ -1,19 +1,8 @@
 -- Accesses, by their operands and by their action.
-use Rattle.std.proofs.Common.{◌≡◌, ℕ, ℤ, List, [], ◌∷◌, Option, Some, None, Result, Ok, Err, refl, ap, sym, subst, ◌∙◌}
-use Rattle.std.specs.Prelude.{IfOk}
-use Rattle.pv_pool.specs.Readers.{◌>>=◌}
-use Rattle.pv_value.specs.declared.number.Num.{Num}
+use Rattle.std.proofs.Common.{◌≡◌, ℕ, ℤ, List, [], ◌∷◌, Option, Some, Result, Ok, Err, refl, ap, sym, subst, ◌∙◌, IfOk}
+use Rattle.pv_machine.proofs.Words.{◌>>=◌, Num, Kind, Heap, Memory, World, Action, Program, Effect, State, done, Does, Reads, Asks, Accesses, element_of, element_and_number_of, element_and_ref_of}
 use Rattle.pv_value.specs.declared.number.Num.TheVariants as num
-use Rattle.pv_value.specs.declared.heap.Kind.{Kind}
-use Rattle.pv_value.specs.declared.heap.Heap.{Heap}
-use Rattle.pv_value.specs.declared.memory.Memory.{Memory}
-use Rattle.pv_value.specs.declared.world.World.{World}
-use Rattle.pv_frame.specs.declared.action.Action.{Action}
 use Rattle.pv_frame.specs.declared.action.Action.TheVariants as act
-use Rattle.pv_frame.specs.declared.program.Program.{Program}
-use Rattle.pv_machine.specs.declared.effect.Effect.{Effect}
-use Rattle.pv_machine.specs.Machine.{State, done}
-use Rattle.pv_machine.specs.Doing.{Does, Reads, Asks, Accesses, element_of, element_and_number_of, element_and_ref_of}
 
 -- what is done of an element, by its operands
 load_by : (p : Program) (w : World) (s : State) (k : Kind) (nums : List Num) → done p w s (act.LoadElement k) nums ≡ (element_of nums >>= λ q. done p w s (act.LoadElement k) (num.Ref q.0 ∷ num.Int q.1 ∷ []))
@@ -40,11 +29,6 @@ pub refs : (w : World) (heap0 : Heap) (nums : List Num) (q : ℕ × ℤ × ℕ) 
 refs w heap0 nums q found e asks p at stack locals heap =
     let s : State = record { at = at; stack = stack; locals = locals; heap = heap; heap0 = heap0 } in
     ref_by p w s nums ∙ ap (λ o. o >>= λ q. done p w s act.StoreRef (num.Ref q.0 ∷ num.Int q.1 ∷ num.Ref q.2 ∷ [])) e ∙ asks p at stack locals heap
-
-pub no_refs : (w : World) (heap0 : Heap) (nums : List Num) → element_and_ref_of nums ≡ None → Asks w heap0 act.StoreRef nums None
-no_refs w heap0 nums e p at stack locals heap =
-    let s : State = record { at = at; stack = stack; locals = locals; heap = heap; heap0 = heap0 } in
-    ref_by p w s nums ∙ ap (λ o. o >>= λ q. done p w s act.StoreRef (num.Ref q.0 ∷ num.Int q.1 ∷ num.Ref q.2 ∷ [])) e
 
 -- an access in each state is one in each state with this heap
 pub read : (w : World) (heap : Heap) (a b : Action) (nums : List Num) (e : Option Effect) → a ≡ b → Accesses w b nums e → Reads w heap a nums e

@@ -1,9 +1,6 @@
 -- A method that has ended stays so.
 use Rattle.std.proofs.Common.{◌≡◌, ℕ, suc, ◌+◌, ◌-◌, ◌<◌, ◌∙◌, ap, subst, arith}
-use Rattle.pv_value.specs.declared.world.World.{World}
-use Rattle.pv_value.specs.declared.outcome.Outcome.{Outcome}
-use Rattle.pv_frame.specs.declared.program.Program.{Program}
-use Rattle.pv_machine.specs.Machine.{State, Now, running, ended, step, go_on, after}
+use Rattle.pv_machine.proofs.Words.{World, Outcome, Program, State, Now, running, ended, step, go_on, after}
 use Rattle.pv_machine.proofs.Typing.{after_more, ended_later}
 
 -- the step after these leads there

@@ -1,28 +1,9 @@
 -- A method ends in one way, and a worked example from the bytes of a code to its end.
-use Rattle.std.proofs.Common.{◌≡◌, ℕ, zero, suc, ◌<◌, pos, refl, List, [], ◌∷◌, Option, Some, false, subst, inl, inr, arith, lit≤}
-use Rattle.std.specs.Prelude.{codes}
-use Rattle.std.specs.List.{AllByRecursion}
-use Rattle.pv_value.specs.declared.number.Num.TheVariants.{Int}
-use Rattle.pv_value.specs.declared.descriptor.JType.TheVariants.{I}
-use Rattle.pv_value.specs.declared.heap.Heap.{Heap}
-use Rattle.pv_value.specs.declared.world.World.{World}
-use Rattle.pv_value.specs.declared.outcome.Outcome.TheVariants.{Returned}
-use Rattle.pv_class.specs.declared.file.ClassFile.{ClassFile}
-use Rattle.pv_class.specs.declared.file.Method.{Method}
-use Rattle.pv_class.specs.declared.file.Code.{Code}
-use Rattle.pv_insn.proofs.Cited.{IsBytes, one_code}
-use Rattle.pv_frame.specs.declared.sort.Sort.{Sort}
+use Rattle.std.proofs.Common.{◌≡◌, ℕ, zero, suc, ◌<◌, pos, refl, List, [], ◌∷◌, Option, Some, false, subst, inl, inr, arith, lit≤, codes}
+use Rattle.pv_machine.proofs.Words.{AllByRecursion, Int, I, Heap, World, Returned, ClassFile, Method, Code, IsBytes, one_code, Sort, Program, IsProgramOf, Frame, IsFrameAt, IsTyped, HasFrames, IsAccepted, some_of, no_some, one_program, ended, start, after, Ends, MethodEndsOnce}
 use Rattle.pv_frame.specs.declared.sort.Sort.TheVariants as sort
 use Rattle.pv_frame.specs.declared.used.Use.TheVariants as used
 use Rattle.pv_frame.specs.declared.action.Action.TheVariants as act
-use Rattle.pv_frame.specs.declared.program.Program.{Program}
-use Rattle.pv_frame.specs.Programs.{IsProgramOf}
-use Rattle.pv_frame.specs.declared.frame.Frame.{Frame}
-use Rattle.pv_frame.specs.Frames.{IsFrameAt, IsTyped, HasFrames}
-use Rattle.pv_frame.specs.Causes.{IsAccepted}
-use Rattle.pv_frame.proofs.Cited.{some_of, no_some, one_program}
-use Rattle.pv_machine.specs.Machine.{ended, start, after, Ends}
-use Rattle.pv_machine.specs.Runs.{MethodEndsOnce}
 use Rattle.pv_machine.proofs.Typing.{ends_once}
 
 bytes_of : (bytes : List ℕ) → AllByRecursion (λ b. b < 256) bytes → IsBytes bytes

@@ -1,13 +1,6 @@
 -- Operands on a stack whose numbers are kept with the top last.
-use Rattle.std.proofs.Common.{◌≡◌, ℕ, ◌+◌, ◌-◌, ◌≤◌, Bool, true, false, List, [], ◌∷◌, ◌++◌, length, take, drop, Some, None, refl, sym, ap, ◌∙◌, arith}
-use Rattle.std.specs.Prelude.{reverse, if◌then◌else◌, ◌&&◌}
-use Rattle.std.proofs.lemmas.List.{reverse-append, reverse-reverse, length-reverse, take-append-drop, length-drop, take_rest}
-use Rattle.std.proofs.Math.Seq.{drop-append_seam, take-append_seam}
-use Rattle.pv_value.specs.declared.number.Num.{Num}
-use Rattle.pv_frame.specs.declared.sort.Sort.{Sort}
-use Rattle.pv_frame.specs.Stacks.{fits, with_first, taken, turned, popped}
-use Rattle.pv_frame.specs.Effects.{sort_of}
-use Rattle.pv_machine.specs.Operands.{lie_on}
+use Rattle.std.proofs.Common.{◌≡◌, ℕ, ◌+◌, ◌-◌, ◌≤◌, Bool, true, false, List, [], ◌∷◌, ◌++◌, length, take, drop, Some, None, refl, sym, ap, ◌∙◌, arith, reverse, if◌then◌else◌, ◌&&◌, take-append-drop, length-drop}
+use Rattle.pv_machine.proofs.Words.{reverse-append, reverse-reverse, length-reverse, take_rest, drop-append_seam, take-append_seam, Num, Sort, fits, with_first, taken, turned, popped, sort_of, lie_on}
 
 -- ---- lists from their ends
 
@@ -35,16 +28,6 @@ module _ {A : Type 0} where
       ∙ ap reverse (take-append_seam (reverse (drop m xs)) (reverse (take m xs))) ∙ reverse-reverse (drop m xs)
 
 -- ---- operands
-
-pub lie_last : (others : List Sort) (last : Sort) (below : List Num) (top : Num) → fits (sort_of top) last ≡ true →
-    lie_on (reverse (others ++ last ∷ [])) (reverse (below ++ top ∷ [])) ≡ lie_on (reverse others) (reverse below)
-lie_last others last below top e =
-    ap (λ l. lie_on l (reverse (below ++ top ∷ []))) (reverse_last others last) ∙ ap (lie_on (last ∷ reverse others)) (reverse_last below top) ∙ ap (λ b. b && lie_on (reverse others) (reverse below)) e
-
-pub lie_other : (others : List Sort) (last : Sort) (below : List Num) (top : Num) → fits (sort_of top) last ≡ false →
-    lie_on (reverse (others ++ last ∷ [])) (reverse (below ++ top ∷ [])) ≡ false
-lie_other others last below top e =
-    ap (λ l. lie_on l (reverse (below ++ top ∷ []))) (reverse_last others last) ∙ ap (lie_on (last ∷ reverse others)) (reverse_last below top) ∙ ap (λ b. b && lie_on (reverse others) (reverse below)) e
 
 pub lie_none : (sorts : List Sort) → 1 ≤ length sorts → lie_on (reverse sorts) [] ≡ false
 lie_none sorts some = of_reverse (reverse sorts) (length-reverse sorts)

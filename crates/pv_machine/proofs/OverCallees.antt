@@ -1,39 +1,12 @@
 -- A run over callees asks for finitely many replies, so it ends as one in a world with those.
-use Rattle.std.proofs.Common.{◌≡◌, ℕ, zero, suc, Bool, true, false, List, [], ◌∷◌, ◌++◌, Option, Some, None, ◌∙◌, refl, ap, sym, subst, inl, inr}
-use Rattle.std.specs.Prelude.{◌⊎◌, ℤ, pos, if◌then◌else◌, IsTrue, cond, option_map, unwrap_or, slice_get}
-use Rattle.std.specs.List.{AllByRecursion}
-use Rattle.std.specs.Ordering.{eq_by_cmp, is_eq}
-use Rattle.std.specs.declared.cmp.Ordering.{Ordering}
-use Rattle.std.specs.declared.cmp.Ordering.TheVariants.{Less, Equal, Greater}
-use Rattle.std.specs.FinMap.{FinMap, get, insert, get-insert}
-use Rattle.std.proofs.lemmas.Cmp.{eq_by_cmp_equiv}
-use Rattle.pv_pool.specs.Readers.{◌>>=◌}
-use Rattle.pv_value.specs.declared.number.Num.{Num}
+use Rattle.std.proofs.Common.{◌≡◌, ℕ, zero, suc, Bool, true, false, List, [], ◌∷◌, ◌++◌, Option, Some, None, ◌∙◌, refl, ap, sym, subst, inl, inr, ◌⊎◌, ℤ, pos, if◌then◌else◌, IsTrue, cond, option_map, unwrap_or, slice_get}
+use Rattle.pv_machine.proofs.Words.{AllByRecursion, eq_by_cmp, is_eq, Ordering, Less, Equal, Greater, FinMap, get, insert, get-insert, eq_by_cmp_equiv, ◌>>=◌, Num, World, CallKey, Input, Outcome, key_cmp, loc_cmp, element_type, Elem, Fault, CallsOrdered, IsWorld, literal_of, ClassFile, Method, Action, Taken, popped, sort_of, takes, Program, some_of, no_some}
+use Rattle.pv_machine.proofs.Words.{State, Now, running, ended, start, pushes, throws, element_fault, store_fault, unless, keeps, called, done, perform_at, go_on, after, RunEnds, Ends, Callees, is_fact, answer, done_over, perform_at_over, step_over, go_on_over, after_over, RunEndsOver, EndsOver, callees_of, IsPartOf, DifferInReplies, HasRepliesOf, AreCallees, MoreReplies, OverItsOwn, FinitelyManyReplies, SameOverCallees}
 use Rattle.pv_value.specs.declared.number.Num.TheVariants as num
-use Rattle.pv_value.specs.declared.world.World.{World}
-use Rattle.pv_value.specs.declared.world.CallKey.{CallKey}
-use Rattle.pv_value.specs.declared.outcome.Input.{Input}
-use Rattle.pv_value.specs.declared.outcome.Outcome.{Outcome}
-use Rattle.pv_value.specs.CallOrder.{key_cmp}
-use Rattle.pv_value.specs.Order.{loc_cmp}
-use Rattle.pv_value.specs.Narrowing.{element_type}
 use Rattle.pv_value.specs.declared.heap.Kind.TheVariants as kind
-use Rattle.pv_value.specs.declared.heap.Loc.TheVariants.{Elem}
-use Rattle.pv_value.specs.declared.outcome.Fault.{Fault}
 use Rattle.pv_value.specs.declared.outcome.Fault.TheVariants as fault
 use Rattle.pv_types.specs.Facts as types
-use Rattle.pv_value.specs.Laws.{CallsOrdered}
-use Rattle.pv_value.specs.Worlds.{IsWorld, literal_of}
-use Rattle.pv_class.specs.declared.file.ClassFile.{ClassFile}
-use Rattle.pv_class.specs.declared.file.Method.{Method}
-use Rattle.pv_frame.specs.declared.action.Action.{Action}
 use Rattle.pv_frame.specs.declared.action.Action.TheVariants as act
-use Rattle.pv_frame.specs.Stacks.{Taken, popped}
-use Rattle.pv_frame.specs.Effects.{sort_of, takes}
-use Rattle.pv_frame.specs.declared.program.Program.{Program}
-use Rattle.pv_frame.proofs.Cited.{some_of, no_some}
-use Rattle.pv_machine.specs.Machine.{State, Now, running, ended, start, pushes, throws, element_fault, store_fault, unless, keeps, called, done, perform_at, go_on, after, RunEnds, Ends}
-use Rattle.pv_machine.specs.Callees.{Callees, is_fact, answer, done_over, perform_at_over, step_over, go_on_over, after_over, RunEndsOver, EndsOver, callees_of, IsPartOf, DifferInReplies, HasRepliesOf, AreCallees, MoreReplies, OverItsOwn, FinitelyManyReplies, SameOverCallees}
 
 -- ---- the call that a step asks for
 

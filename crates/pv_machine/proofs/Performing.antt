@@ -1,25 +1,9 @@
 -- What an action does where the operand stack has no room for what it leaves.
-use Rattle.std.proofs.Common.{◌≡◌, ℕ, ◌<◌, List, ◌∷◌, length, drop, Option, Some, Result, refl, ap, sym, subst, ◌∙◌}
-use Rattle.std.specs.Prelude.{unwrap_or, option_map, IfSome, OnErr}
-use Rattle.std.proofs.lemmas.Result.{on_err_weaker}
-use Rattle.pv_pool.specs.Readers.{◌>>=◌}
-use Rattle.pv_value.specs.declared.number.Num.{Num}
-use Rattle.pv_value.specs.declared.heap.Heap.{Heap}
-use Rattle.pv_value.specs.declared.world.World.{World}
-use Rattle.pv_frame.specs.declared.sort.Sort.{Sort}
-use Rattle.pv_frame.specs.declared.action.Action.{Action}
+use Rattle.std.proofs.Common.{◌≡◌, ℕ, ◌<◌, List, ◌∷◌, length, drop, Option, Some, Result, refl, ap, sym, subst, ◌∙◌, unwrap_or, option_map, IfSome, OnErr}
+use Rattle.pv_machine.proofs.Words.{on_err_weaker, ◌>>=◌, Num, Heap, World, Sort, Action, Move, Program, Taken, popped, moved, sort_of, takes, Effect, StateInMemory, State, Now, running, next, done, perform, Lacks, KeepsHeap, IsAccess, IsPlain, Does, Reads, Acts, asked, below, IsQuiet, IsOverfull}
 use Rattle.pv_frame.specs.declared.action.Action.TheVariants as act
-use Rattle.pv_frame.specs.declared.action.Move.{Move}
-use Rattle.pv_frame.specs.declared.program.Program.{Program}
-use Rattle.pv_frame.specs.Stacks.{Taken, popped, moved}
-use Rattle.pv_frame.specs.Effects.{sort_of, takes}
-use Rattle.pv_machine.specs.declared.effect.Effect.{Effect}
 use Rattle.pv_machine.specs.declared.effect.Effect.TheVariants as effect
-use Rattle.pv_machine.specs.InMemory.{StateInMemory}
-use Rattle.pv_machine.specs.Machine.{State, Now, running, next, done, perform}
 use Rattle.pv_machine.specs.Moves as moves
-use Rattle.pv_machine.specs.Doing.{Lacks, KeepsHeap, IsAccess, IsPlain, Does, Reads, Acts, asked}
-use Rattle.pv_machine.specs.Steps.{below, IsQuiet, IsOverfull}
 
 asked_plain : (a : Action) → IsPlain a → asked a ≡ takes a
 asked_plain (act.Call d f) h = absurd h

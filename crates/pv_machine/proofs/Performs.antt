@@ -1,49 +1,16 @@
 -- What an instruction does in a state whose values have the sorts that it needs.
-use Rattle.std.proofs.Common.{◌≡◌, ℕ, ℤ, pos, zero, suc, Bool, true, false, List, [], ◌∷◌, Option, Some, None, ◌∙◌, refl, ap, sym, subst, inl, inr}
-use Rattle.std.specs.Prelude.{◌⊎◌, map, option_map, if◌then◌else◌, slice_set}
-use Rattle.std.specs.Ordering.{int_eq}
-use Rattle.pv_pool.specs.Readers.{◌>>=◌}
-use Rattle.pv_value.specs.declared.number.Num.{Num}
+use Rattle.std.proofs.Common.{◌≡◌, ℕ, ℤ, pos, zero, suc, Bool, true, false, List, [], ◌∷◌, Option, Some, None, ◌∙◌, refl, ap, sym, subst, inl, inr, ◌⊎◌, map, option_map, if◌then◌else◌, slice_set}
+use Rattle.pv_machine.proofs.Words.{int_eq, ◌>>=◌, Num, JType, A, Descriptor, Sym, Heap, Loc, Elem, World, Outcome, Returned, Threw, Fault, ScalarOp, read, IsMethodType, IsOfResult, method_type_once, IsWorld, reply, literal_of, shown, element_type, static_place, field_place, Case, Sort, Test, Action, moved, has_room, set_local, sort_of, sort_of_local, sort_of_type, sort_of_word, sort_of_kind, sorts_of_result, test_takes, takes, gives, successors, IsFloatless, Program, Frame, local_holds, frame_done, moved_map, has_room_map, set_local_map, some_of, no_some, if_some}
+use Rattle.pv_machine.proofs.Words.{State, Now, running, ended, next, pushes, writes, throws, stored, local, number_of, value_of, increased, computed, divided, tested, branches, target_of, keeps, element_fault, store_fault, unless, called, done, frame_of, Calls}
 use Rattle.pv_value.specs.declared.number.Num.TheVariants as num
-use Rattle.pv_value.specs.declared.descriptor.JType.{JType}
-use Rattle.pv_value.specs.declared.descriptor.JType.TheVariants.{A}
-use Rattle.pv_value.specs.declared.descriptor.Descriptor.{Descriptor}
-use Rattle.pv_value.specs.declared.name.Sym.{Sym}
-use Rattle.pv_value.specs.declared.heap.Heap.{Heap}
-use Rattle.pv_value.specs.declared.heap.Loc.{Loc}
-use Rattle.pv_value.specs.declared.heap.Loc.TheVariants.{Elem}
-use Rattle.pv_value.specs.declared.world.World.{World}
-use Rattle.pv_value.specs.declared.outcome.Outcome.{Outcome}
-use Rattle.pv_value.specs.declared.outcome.Outcome.TheVariants.{Returned, Threw}
-use Rattle.pv_value.specs.declared.outcome.Fault.{Fault}
 use Rattle.pv_value.specs.declared.outcome.Fault.TheVariants as fault
-use Rattle.pv_value.specs.declared.operation.ScalarOp.{ScalarOp}
 use Rattle.pv_value.specs.Operations as operation
-use Rattle.pv_value.specs.Heaps.{read}
-use Rattle.pv_value.specs.Descriptors.{IsMethodType}
-use Rattle.pv_value.specs.Inputs.{IsOfResult}
-use Rattle.pv_value.proofs.Cited.{method_type_once}
-use Rattle.pv_value.specs.Worlds.{IsWorld, reply, literal_of}
 use Rattle.pv_value.specs.declared.heap.Kind.TheVariants as kind
 use Rattle.pv_types.specs.Facts as types
-use Rattle.pv_value.specs.Narrowing.{shown, element_type, static_place, field_place}
-use Rattle.pv_insn.specs.declared.insn.Case.{Case}
-use Rattle.pv_frame.specs.declared.sort.Sort.{Sort}
 use Rattle.pv_frame.specs.declared.sort.Sort.TheVariants as sort
-use Rattle.pv_frame.specs.declared.action.Test.{Test}
 use Rattle.pv_frame.specs.declared.action.Test.TheVariants as test
-use Rattle.pv_frame.specs.declared.action.Action.{Action}
 use Rattle.pv_frame.specs.declared.action.Action.TheVariants as act
-use Rattle.pv_frame.specs.Stacks.{moved, has_room, set_local}
-use Rattle.pv_frame.specs.Effects.{sort_of, sort_of_local, sort_of_type, sort_of_word, sort_of_kind, sorts_of_result, test_takes, takes, gives, successors}
-use Rattle.pv_frame.specs.Actions.{IsFloatless}
-use Rattle.pv_frame.specs.declared.program.Program.{Program}
-use Rattle.pv_frame.specs.declared.frame.Frame.{Frame}
-use Rattle.pv_frame.specs.Frames.{same, holds, local_holds, frame_done, frame_after}
 use Rattle.pv_frame.specs.Frames as frames
-use Rattle.pv_frame.proofs.Cited.{moved_map, has_room_map, set_local_map, some_of, no_some, if_some}
-use Rattle.pv_machine.specs.Machine.{State, Now, running, ended, next, pushes, writes, throws, stored, local, number_of, value_of, increased, computed, divided, tested, branches, target_of, keeps, element_fault, store_fault, unless, called, done}
-use Rattle.pv_machine.specs.Runs.{frame_of, Calls}
 use Rattle.pv_machine.proofs.Values.{Gives, computed_gives, value_sort, shown_gives, kept_some, element_sort, of_sort_type, holds_gives, increased_gives, replaced_sorts}
 
 -- ---- what an action says of itself

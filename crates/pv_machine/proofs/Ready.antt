@@ -1,34 +1,14 @@
 -- A run of a method with typed frames has no more values on the operand stack than the method may have.
-use Rattle.std.proofs.Common.{◌≡◌, ℕ, suc, ◌<◌, ◌≤◌, List, [], ◌∷◌, length, get_or, Option, None, Result, Ok, Err, refl, ap, sym, subst, ◌∙◌, arith}
-use Rattle.std.specs.Prelude.{sum_by, slice_get, IsOk, OnErr}
-use Rattle.std.proofs.lemmas.List.Sums.{sum_by-cons}
-use Rattle.std.proofs.lemmas.List.{length-map}
-use Rattle.std.proofs.lemmas.Option.{slice_get_read, slice_get_past}
-use Rattle.pv_value.specs.declared.memory.Memory.{Memory}
-use Rattle.pv_value.specs.declared.world.World.{World}
-use Rattle.pv_value.specs.declared.outcome.Outcome.{Outcome}
-use Rattle.pv_frame.specs.declared.sort.Sort.{Sort}
+use Rattle.std.proofs.Common.{◌≡◌, ℕ, suc, ◌<◌, ◌≤◌, List, [], ◌∷◌, length, get_or, Option, None, Result, Ok, Err, refl, ap, sym, subst, ◌∙◌, arith, sum_by, slice_get, IsOk, OnErr}
+use Rattle.pv_machine.proofs.Words.{sum_by-cons, length-map, slice_get_read, slice_get_past, Memory, World, Outcome, Sort, Action, Program, Frame, width, sort_of, IsAt, Agrees, StateInMemory, State, running, start, perform_at, step, go_on, IsTypedState, IsQuiet, IsOverfull, IsQuietAt, IsReached}
 use Rattle.pv_frame.specs.declared.sort.Sort.TheVariants as sort
-use Rattle.pv_frame.specs.declared.action.Action.{Action}
-use Rattle.pv_frame.specs.declared.program.Program.{Program}
-use Rattle.pv_frame.specs.declared.frame.Frame.{Frame}
-use Rattle.pv_frame.specs.Stacks.{width}
-use Rattle.pv_frame.specs.Effects.{sort_of}
-use Rattle.pv_frame.specs.Programs.{IsAt}
-use Rattle.pv_frame.specs.Frames.{Agrees}
-use Rattle.pv_machine.specs.InMemory.{StateInMemory}
-use Rattle.pv_machine.specs.Machine.{State, running, start, perform_at, step, go_on}
-use Rattle.pv_machine.specs.Runs.{IsTypedState}
-use Rattle.pv_machine.specs.Steps.{IsQuiet, IsOverfull, IsQuietAt, IsReached}
 use Rattle.pv_machine.proofs.Sound.{program_sound}
 use Rattle.pv_machine.proofs.Typing.{starts, stays_typed, after_more}
 
 -- each value is one wide at least
 wide : (s : Sort) → 1 ≤ width s
 wide sort.Int = omega arith
-wide sort.Long = omega arith
-wide sort.Ref = omega arith
-wide sort.Unknown = omega arith
+wide s = omega arith
 
 long_width : (sorts : List Sort) → length sorts ≤ sum_by width sorts
 long_width [] = omega arith

@@ -1,39 +1,12 @@
 -- Worked examples: runs of short methods, and their frames.
-use Rattle.std.proofs.Common.{◌≡◌, ℕ, ℤ, pos, negsuc, zero, suc, ◌≤◌, false, refl, List, [], ◌∷◌, Option, Some, None, ◌∙◌, ap, sym, subst, inl, inr, lit≤, arith}
-use Rattle.std.specs.Prelude.{◌⊎◌, codes, unwrap_or, sum_by}
-use Rattle.std.specs.FinMap.{empty, insert, get-insert, get-empty}
-use Rattle.std.specs.Cmp.{nat_cmp_total}
-use Rattle.std.specs.Int.{int_wrap}
-use Rattle.pv_value.specs.declared.number.Num.{Num}
-use Rattle.pv_value.specs.declared.number.Num.TheVariants.{Int, Long, Ref}
-use Rattle.pv_value.specs.declared.heap.Heap.{Heap}
-use Rattle.pv_value.specs.declared.heap.Loc.TheVariants.{Static, Field}
-use Rattle.pv_value.specs.declared.name.Sym.{Sym}
-use Rattle.pv_value.specs.declared.descriptor.JType.{JType}
-use Rattle.pv_value.specs.declared.descriptor.JType.TheVariants.{Z, B, C, S, I, J, A}
-use Rattle.pv_value.specs.declared.world.World.{World}
-use Rattle.pv_value.specs.declared.outcome.Input.{Input}
-use Rattle.pv_value.specs.declared.outcome.Outcome.{Outcome}
-use Rattle.pv_value.specs.declared.outcome.Outcome.TheVariants.{Returned, Threw}
+use Rattle.std.proofs.Common.{◌≡◌, ℕ, ℤ, pos, negsuc, zero, suc, ◌≤◌, false, refl, List, [], ◌∷◌, Option, Some, None, ◌∙◌, ap, sym, subst, inl, inr, lit≤, arith, ◌⊎◌, codes, unwrap_or, sum_by}
+use Rattle.pv_machine.proofs.Words.{empty, insert, get-insert, get-empty, nat_cmp_total, int_wrap, Num, Int, Long, Ref, Heap, Static, Field, Sym, JType, Z, B, C, S, I, J, A, World, Input, Outcome, Returned, Threw, written, empty_world, length_of, home, reply, read_same, Sort, Action, popped, width, Program, IsAt, cases_from, Frame, same, local_holds, pushed, Leaves, Flows, IsFrameAt, GoesOn, IsTyped, Agrees, HasFrames, frame_after, some_of, no_some, if_some, State, running, ended, start, go_on, after}
 use Rattle.pv_value.specs.declared.outcome.Fault.TheVariants as fault
 use Rattle.pv_value.specs.declared.operation.ScalarOp.TheVariants as op
-use Rattle.pv_value.specs.Heaps.{written}
-use Rattle.pv_value.specs.Worlds.{empty_world, length_of, home, reply}
-use Rattle.pv_value.proofs.Cited.{read_same}
-use Rattle.pv_frame.specs.declared.sort.Sort.{Sort}
 use Rattle.pv_frame.specs.declared.sort.Sort.TheVariants as sort
-use Rattle.pv_frame.specs.declared.action.Action.{Action}
 use Rattle.pv_frame.specs.declared.action.Action.TheVariants as act
 use Rattle.pv_frame.specs.declared.action.Comparison.TheVariants as comparison
 use Rattle.pv_frame.specs.declared.action.Test.TheVariants as test
-use Rattle.pv_frame.specs.Stacks.{popped, width}
-use Rattle.pv_frame.specs.declared.program.Program.{Program}
-use Rattle.pv_frame.specs.Programs.{IsAt}
-use Rattle.pv_frame.specs.Actions.{cases_from}
-use Rattle.pv_frame.specs.declared.frame.Frame.{Frame}
-use Rattle.pv_frame.specs.Frames.{same, local_holds, pushed, Leaves, Flows, IsFrameAt, GoesOn, IsTyped, Agrees, HasFrames, frame_after}
-use Rattle.pv_frame.proofs.Cited.{some_of, no_some, if_some}
-use Rattle.pv_machine.specs.Machine.{State, running, ended, start, go_on, after}
 
 abbrev int : ℕ → Num
 int n = Int (pos n)
@@ -71,21 +44,12 @@ least_ends w = record { before = (_, refl); then = refl }
 abbrev returns : JType → ℤ → Program
 returns t n = method [] (Some t) 0 (act.Push (Int n) ∷ act.Give (Some sort.Int) ∷ [])
 
-byte_ends : (w : World) → EndsAfter (returns B (pos 200)) w (given [] empty) 1 (Returned (Some (Int (negsuc 55))) empty)
+narrowed : (w : World) → EndsAfter (returns B (pos 200)) w (given [] empty) 1 (Returned (Some (Int (negsuc 55))) empty)
+    × EndsAfter (returns Z (pos 2)) w (given [] empty) 1 (Returned (Some (int 0)) empty)
+    × EndsAfter (returns C (negsuc 0)) w (given [] empty) 1 (Returned (Some (int 65535)) empty)
+    × EndsAfter (returns S (pos 40000)) w (given [] empty) 1 (Returned (Some (Int (negsuc 25535))) empty)
 unfolding after int_wrap
-byte_ends w = record { before = (_, refl); then = refl }
-
-boolean_ends : (w : World) → EndsAfter (returns Z (pos 2)) w (given [] empty) 1 (Returned (Some (int 0)) empty)
-unfolding after
-boolean_ends w = record { before = (_, refl); then = refl }
-
-char_ends : (w : World) → EndsAfter (returns C (negsuc 0)) w (given [] empty) 1 (Returned (Some (int 65535)) empty)
-unfolding after
-char_ends w = record { before = (_, refl); then = refl }
-
-short_ends : (w : World) → EndsAfter (returns S (pos 40000)) w (given [] empty) 1 (Returned (Some (Int (negsuc 25535))) empty)
-unfolding after int_wrap
-short_ends w = record { before = (_, refl); then = refl }
+narrowed w = (record { before = (_, refl); then = refl }, record { before = (_, refl); then = refl }, record { before = (_, refl); then = refl }, record { before = (_, refl); then = refl })
 
 -- ---- loops and switches
 
@@ -117,32 +81,17 @@ abbrev lookup : Action
 lookup = act.Switch 9 (record { key = negsuc 7; target = 4 } ∷ record { key = pos 100; target = 5 } ∷ [])
 
 -- it leads to this place
-abbrev Switches : Action → ℤ → ℕ → Type 0
-Switches a n k = (w : World) → after (method [] None 0 (act.Push (Int n) ∷ a ∷ [])) w (start (method [] None 0 (act.Push (Int n) ∷ a ∷ [])) (given [] empty)) 2 ≡ running (record { at = k; stack = []; locals = []; heap = empty; heap0 = empty })
+abbrev Switches : World → Action → ℤ → ℕ → Type 0
+Switches w a n k = after (method [] None 0 (act.Push (Int n) ∷ a ∷ [])) w (start (method [] None 0 (act.Push (Int n) ∷ a ∷ [])) (given [] empty)) 2 ≡ running (record { at = k; stack = []; locals = []; heap = empty; heap0 = empty })
 
-table_low : Switches table (negsuc 0) 4
+switches : (w : World) → Switches w table (negsuc 0) 4
+    × Switches w table (pos 1) 6
+    × Switches w table (pos 2) 9
+    × Switches w table (negsuc 1) 9
+    × Switches w lookup (pos 100) 5
+    × Switches w lookup (pos 0) 9
 unfolding after
-table_low w = refl
-
-table_high : Switches table (pos 1) 6
-unfolding after
-table_high w = refl
-
-table_default : Switches table (pos 2) 9
-unfolding after
-table_default w = refl
-
-table_below : Switches table (negsuc 1) 9
-unfolding after
-table_below w = refl
-
-lookup_hit : Switches lookup (pos 100) 5
-unfolding after
-lookup_hit w = refl
-
-lookup_default : Switches lookup (pos 0) 9
-unfolding after
-lookup_default w = refl
+switches w = (refl, refl, refl, refl, refl, refl)
 
 -- ---- fields and arrays
 

@@ -1,26 +1,11 @@
 -- Each action of a program says what it takes: divisions have two operands, and fields and callees are typed by their descriptors.
-use Rattle.std.proofs.Common.{◌≡◌, ℕ, zero, suc, true, false, List, [], ◌∷◌, Option, Some, None, refl, sym, subst, inl, inr}
-use Rattle.std.specs.Prelude.{◌==◌, option_map, if◌then◌else◌, slice_get}
-use Rattle.std.specs.List.{AllZip, AllByRecursion}
-use Rattle.pv_value.specs.declared.name.Sym.{Sym}
-use Rattle.pv_value.specs.declared.descriptor.JType.{JType}
-use Rattle.pv_pool.specs.declared.entry.Entry.{Entry}
-use Rattle.pv_pool.specs.declared.constant.Constant.{Constant}
+use Rattle.std.proofs.Common.{◌≡◌, ℕ, zero, suc, true, false, List, [], ◌∷◌, Option, Some, None, refl, sym, subst, inl, inr, ◌==◌, option_map, if◌then◌else◌, slice_get}
+use Rattle.pv_machine.proofs.Words.{AllZip, AllByRecursion, Sym, JType, Entry, Constant, Member, Insn, Placed, Use, Action, plain_rows, local_rows, branch_rows, field_rows, class_rows, row_of, IsFloatless, LoadsConstant, UsesMember, ActsWith, Program, IsAt, IsProgramOf, ClassFile, Method, some_of, no_some, receivers_apart}
+use Rattle.pv_frame.specs.Actions.{Acts}
+use Rattle.pv_frame.specs.Programs.{Does}
 use Rattle.pv_pool.specs.declared.constant.Constant.TheVariants as constant
-use Rattle.pv_pool.specs.declared.constant.Member.{Member}
-use Rattle.pv_insn.specs.declared.insn.Insn.{Insn}
 use Rattle.pv_insn.specs.declared.insn.Insn.TheVariants as insn
-use Rattle.pv_insn.specs.declared.insn.Placed.{Placed}
-use Rattle.pv_frame.specs.declared.used.Use.{Use}
 use Rattle.pv_frame.specs.declared.used.Use.TheVariants as used
-use Rattle.pv_frame.specs.declared.action.Action.{Action}
-use Rattle.pv_frame.specs.Actions.{plain_rows, local_rows, branch_rows, field_rows, class_rows, row_of, IsFloatless, LoadsConstant, UsesMember, ActsWith, Acts}
-use Rattle.pv_frame.specs.declared.program.Program.{Program}
-use Rattle.pv_frame.specs.Programs.{IsAt, Does, IsProgramOf}
-use Rattle.pv_class.specs.declared.file.ClassFile.{ClassFile}
-use Rattle.pv_class.specs.declared.file.Method.{Method}
-use Rattle.pv_frame.proofs.Cited.{some_of, no_some}
-use Rattle.pv_value.proofs.Cited.{receivers_apart}
 use Rattle.pv_machine.proofs.Performs.{IsSound}
 
 row_has : {A : Type 0} (P : A → Type 0) (rows : List (ℕ × A)) → AllByRecursion (λ r. P r.1) rows → (opcode : ℕ) (x : A) → row_of rows opcode ≡ Some x → P x

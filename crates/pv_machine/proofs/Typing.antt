@@ -1,28 +1,8 @@
 -- A state of a program with typed frames goes on to such a state, ends, or waits for a call that isn't in the table.
-use Rattle.std.proofs.Common.{◌≡◌, ℕ, zero, suc, ◌+◌, List, [], ◌∷◌, Option, Some, None, ◌∙◌, refl, ap, sym, subst, inl, inr, arith}
-use Rattle.std.specs.Prelude.{◌⊎◌, map, option_map, unwrap_or}
-use Rattle.std.specs.List.{AllZip, AllByRecursion}
-use Rattle.pv_pool.specs.Readers.{◌>>=◌}
-use Rattle.pv_value.specs.declared.number.Num.{Num}
+use Rattle.std.proofs.Common.{◌≡◌, ℕ, zero, suc, ◌+◌, List, [], ◌∷◌, Option, Some, None, ◌∙◌, refl, ap, sym, subst, inl, inr, arith, ◌⊎◌, map, option_map, unwrap_or}
+use Rattle.pv_machine.proofs.Words.{AllZip, AllByRecursion, ◌>>=◌, Num, JType, World, Input, Outcome, IsOfType, IsWorld, Sort, Action, Taken, popped, sort_of, sort_of_type, sorts_of_result, takes, successors, Program, IsAt, Frame, Flows, LeadsTo, IsEnd, Finds, Agrees, same, frame_done, frame_after, entry_frame, by_sorts, popped_map, no_some, popped_sorts, flows_flows, goes_from, State, Now, running, ended, start, given, done, performed, perform, perform_at, step, go_on, after, frame_of, IsTypedState, Waits, Proceeds, NeverStuck, EndsOnce}
 use Rattle.pv_value.specs.declared.number.Num.TheVariants as num
-use Rattle.pv_value.specs.declared.descriptor.JType.{JType}
-use Rattle.pv_value.specs.declared.world.World.{World}
-use Rattle.pv_value.specs.declared.outcome.Input.{Input}
-use Rattle.pv_value.specs.declared.outcome.Outcome.{Outcome}
-use Rattle.pv_value.specs.Inputs.{IsOfType}
-use Rattle.pv_value.specs.Worlds.{IsWorld}
-use Rattle.pv_frame.specs.declared.sort.Sort.{Sort}
-use Rattle.pv_frame.specs.declared.action.Action.{Action}
 use Rattle.pv_frame.specs.declared.action.Action.TheVariants as act
-use Rattle.pv_frame.specs.Stacks.{Taken, popped}
-use Rattle.pv_frame.specs.Effects.{sort_of, sort_of_type, sorts_of_result, takes, successors}
-use Rattle.pv_frame.specs.declared.program.Program.{Program}
-use Rattle.pv_frame.specs.Programs.{IsAt}
-use Rattle.pv_frame.specs.declared.frame.Frame.{Frame}
-use Rattle.pv_frame.specs.Frames.{Flows, LeadsTo, IsEnd, Finds, Agrees, same, frame_done, frame_after, entry_frame}
-use Rattle.pv_frame.proofs.Cited.{by_sorts, popped_map, no_some, popped_sorts, flows_flows, goes_from}
-use Rattle.pv_machine.specs.Machine.{State, Now, running, ended, start, given, done, performed, perform, perform_at, step, go_on, after}
-use Rattle.pv_machine.specs.Runs.{frame_of, IsTypedState, Waits, Proceeds, NeverStuck, EndsOnce}
 use Rattle.pv_machine.proofs.Values.{as_type_gives, start_sorts}
 use Rattle.pv_machine.proofs.Performs.{IsSound, Among, Result, ends, runs, waits, done_ok, one_num, no_nums, one_ref}
 use Rattle.pv_machine.proofs.Sound.{program_sound}

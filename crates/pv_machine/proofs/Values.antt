@@ -1,63 +1,16 @@
 -- What the machine gives has the sorts that frames tell: values of operations, of fields, elements and locals.
-use Rattle.std.proofs.Common.{◌≡◌, ℕ, ℤ, zero, suc, ◌-◌, Bool, true, false, List, [], ◌∷◌, ◌++◌, length, Option, Some, None, ◌∙◌, refl, ap, sym, subst, inl, inr}
-use Rattle.std.specs.Prelude.{◌⊎◌, map, option_map, if◌then◌else◌, slice_get, slice_set, replicate}
-use Rattle.std.specs.List.{AllZip, flat_map}
-use Rattle.std.proofs.lemmas.List.{map-append, length-map}
-use Rattle.pv_pool.specs.Readers.{◌>>=◌}
-use Rattle.pv_value.specs.declared.number.Num.{Num}
+use Rattle.std.proofs.Common.{◌≡◌, ℕ, ℤ, zero, suc, ◌-◌, Bool, true, false, List, [], ◌∷◌, ◌++◌, length, Option, Some, None, ◌∙◌, refl, ap, sym, subst, inl, inr, ◌⊎◌, map, option_map, if◌then◌else◌, slice_get, slice_set, replicate}
+use Rattle.pv_machine.proofs.Words.{AllZip, flat_map, map-append, length-map, ◌>>=◌, Num, JType, Z, B, C, S, I, J, F, D, A, Kind, World, Input, ScalarOp, is_boolean, IsOfType, IsOfSort, as_type, kept, shown, element_type, Sort, fits, sort_of, sort_of_local, sort_of_type, sort_of_word, sort_of_kind, IsFloatless, Program, holds, sorts_of, this_sorts, passed_to, padded_sorts, fits_same, locals_of, passed, padded, of_sort, num_of, value_of, computed, increased}
 use Rattle.pv_value.specs.declared.number.Num.TheVariants as num
-use Rattle.pv_value.specs.declared.descriptor.JType.{JType}
-use Rattle.pv_value.specs.declared.descriptor.JType.TheVariants.{Z, B, C, S, I, J, F, D, A}
-use Rattle.pv_value.specs.declared.heap.Kind.{Kind}
 use Rattle.pv_value.specs.declared.heap.Kind.TheVariants as kind
-use Rattle.pv_value.specs.declared.world.World.{World}
-use Rattle.pv_value.specs.declared.outcome.Input.{Input}
-use Rattle.pv_value.specs.declared.operation.ScalarOp.{ScalarOp}
 use Rattle.pv_value.specs.declared.operation.ScalarOp.TheVariants as op
 use Rattle.pv_value.specs.Operations as operation
-use Rattle.pv_value.specs.Worlds.{is_boolean}
-use Rattle.pv_value.specs.Inputs.{IsOfType, IsOfSort}
-use Rattle.pv_value.specs.Narrowing.{as_type, kept, shown, element_type}
-use Rattle.pv_frame.specs.declared.sort.Sort.{Sort}
 use Rattle.pv_frame.specs.declared.sort.Sort.TheVariants as sort
-use Rattle.pv_frame.specs.Stacks.{fits}
-use Rattle.pv_frame.specs.Effects.{sort_of, sort_of_local, sort_of_type, sort_of_word, sort_of_kind}
-use Rattle.pv_frame.specs.Actions.{IsFloatless}
-use Rattle.pv_frame.specs.declared.program.Program.{Program}
-use Rattle.pv_frame.specs.Frames.{holds, sorts_of, this_sorts, passed_to, padded_sorts}
-use Rattle.pv_frame.proofs.Cited.{fits_same}
-use Rattle.pv_machine.specs.Machine.{locals_of, passed, padded, of_sort, num_of, value_of, computed, increased}
 
 -- ---- operations
 
 -- an operation has one operand or two
 pub shape : (o : ScalarOp) → ((x : operation.Word) × (operation.takes o ≡ x ∷ [])) ⊎ ((x : operation.Word) × (y : operation.Word) × (operation.takes o ≡ x ∷ y ∷ []))
-shape op.Iadd = inr (_, _, refl)
-shape op.Isub = inr (_, _, refl)
-shape op.Imul = inr (_, _, refl)
-shape op.Idiv = inr (_, _, refl)
-shape op.Irem = inr (_, _, refl)
-shape op.Ishl = inr (_, _, refl)
-shape op.Ishr = inr (_, _, refl)
-shape op.Iushr = inr (_, _, refl)
-shape op.Iand = inr (_, _, refl)
-shape op.Ior = inr (_, _, refl)
-shape op.Ixor = inr (_, _, refl)
-shape op.Ieq = inr (_, _, refl)
-shape op.Ilt = inr (_, _, refl)
-shape op.Ladd = inr (_, _, refl)
-shape op.Lsub = inr (_, _, refl)
-shape op.Lmul = inr (_, _, refl)
-shape op.Ldiv = inr (_, _, refl)
-shape op.Lrem = inr (_, _, refl)
-shape op.Lshl = inr (_, _, refl)
-shape op.Lshr = inr (_, _, refl)
-shape op.Lushr = inr (_, _, refl)
-shape op.Land = inr (_, _, refl)
-shape op.Lor = inr (_, _, refl)
-shape op.Lxor = inr (_, _, refl)
-shape op.Leq = inr (_, _, refl)
-shape op.Lcmp = inr (_, _, refl)
 shape op.Ineg = inl (_, refl)
 shape op.I2b = inl (_, refl)
 shape op.I2c = inl (_, refl)
@@ -65,6 +18,7 @@ shape op.I2s = inl (_, refl)
 shape op.I2l = inl (_, refl)
 shape op.Lneg = inl (_, refl)
 shape op.L2i = inl (_, refl)
+shape o = inr (_, _, refl)
 
 num_sort : (x : operation.Word) (n : ℤ) → sort_of (num_of x n) ≡ sort_of_word x
 num_sort operation.int n = refl
@@ -99,15 +53,9 @@ computed_gives o nums e = elim (shape o) [
 -- ---- types
 
 pub shown_gives : (t : JType) (n : ℤ) → IsFloatless t → Gives (shown t n) (sort_of_type t)
-shown_gives Z n h = record { value = _; is = refl; sort = refl }
-shown_gives B n h = record { value = _; is = refl; sort = refl }
-shown_gives C n h = record { value = _; is = refl; sort = refl }
-shown_gives S n h = record { value = _; is = refl; sort = refl }
-shown_gives I n h = record { value = _; is = refl; sort = refl }
-shown_gives J n h = record { value = _; is = refl; sort = refl }
 shown_gives F n h = absurd h
 shown_gives D n h = absurd h
-shown_gives A n h = record { value = _; is = refl; sort = refl }
+shown_gives t n h = record { value = _; is = refl; sort = refl }
 
 no_unknown : (n : Num) → sort_of n ≡ sort.Unknown → ⊥
 no_unknown (num.Int n) e = cc
@@ -131,12 +79,8 @@ pub kept_some : (t : JType) (n : Num) → sort_of n ≡ sort_of_type t → (k : 
 kept_some t n e = let g = as_type_gives t n e in (_, ap (option_map _) g.is)
 
 pub element_sort : (w : World) (k : Kind) (r : ℕ) → (sort_of_type (element_type w k r) ≡ sort_of_kind k) × IsFloatless (element_type w k r)
-element_sort w kind.Int r = (refl, tt)
-element_sort w kind.Long r = (refl, tt)
-element_sort w kind.Ref r = (refl, tt)
 element_sort w kind.Byte r = elim (is_boolean w r) as (λ b. (sort_of_type (if b then Z else B) ≡ sort.Int) × IsFloatless (if b then Z else B)) [ true ↦ (refl, tt) | false ↦ (refl, tt) ]
-element_sort w kind.Char r = (refl, tt)
-element_sort w kind.Short r = (refl, tt)
+element_sort w k r = (refl, tt)
 
 pub of_sort_type : (t : JType) (n : Num) → IsOfSort t n → sort_of n ≡ sort_of_type t
 of_sort_type Z (num.Int n) h = refl

@@ -1,10 +1,7 @@
 -- What moves take from a stack, and what they leave; private to this crate.
 use Rattle.std.specs.Prelude.{◌≡◌, ◌<◌, ◌≤◌, ℕ, Bool, true, false, List, [], ◌∷◌, drop, length, Option, Some, None}
 use Rattle.pv_value.specs.declared.number.Num.{Num}
-use Rattle.pv_frame.specs.Stacks.{Taken, none, one, two}
-use Rattle.pv_frame.specs.Effects.{sort_of}
-use Rattle.pv_machine.specs.declared.moves.Part.{Part}
-use Rattle.pv_machine.specs.declared.moves.Part.TheVariants as part
+use Rattle.pv_frame.specs.Stacks.{Taken}
 use Rattle.pv_machine.specs.declared.moves.Block.{Block}
 use Rattle.pv_machine.specs.declared.moves.Block.TheVariants as block
 use Rattle.pv_machine.specs.InMemory.{StackInMemory}
@@ -19,11 +16,6 @@ abbrev pub size : Block → ℕ
 size block.Nothing = 0
 size (block.One n) = 1
 size (block.Two below top) = 2
-
-abbrev pub taken_by : Part → List Num → Taken Num
-taken_by part.Nothing stack = none sort_of stack
-taken_by part.One stack = one sort_of stack
-taken_by part.Two stack = two sort_of stack
 
 -- this block is taken from the top of a stack
 abbrev pub IsTaken : Taken Num → List Num → Option Block → Type 0

@@ -14,49 +14,15 @@ use crate::branches::{target_of, tested};
 use crate::effect::{Effect, answer, apply};
 use crate::locals::{held, increased};
 use crate::moves::moved;
-use crate::operations;
 use crate::operations::{computed, divided};
 use crate::state::State;
 use crate::types::ask;
-use pv_frame::{Action, Move, Program, Sort, Test};
-use pv_list::Listed;
+use pv_frame::{
+    Action, Move, Program, Sort, Test, operand_sorts, parameter_sorts, sort_of_kind, sort_of_type,
+    test_takes,
+};
 use pv_value::{Descriptor, Fault, JType, Kind, Memory, Num, Outcome, Sym, World};
 use std::alloc::Global;
-
-// The sort of the values of a type; of floats and doubles none is known.
-fn sort_of_type(t: JType) -> Sort
-    ensures { result ≡ sort_of_type t }
-{
-    match t {
-        JType::Z | JType::B | JType::C | JType::S | JType::I => Sort::Int,
-        JType::J => Sort::Long,
-        JType::F | JType::D => Sort::Unknown,
-        JType::A => Sort::Ref,
-    }
-}
-
-// The sort of the elements of an array.
-fn sort_of_kind(kind: Kind) -> Sort
-    ensures { result ≡ sort_of_kind kind }
-{
-    match kind {
-        Kind::Long => Sort::Long,
-        Kind::Ref => Sort::Ref,
-        Kind::Int | Kind::Byte | Kind::Char | Kind::Short => Sort::Int,
-    }
-}
-
-// The sorts that a test asks for.
-fn test_takes(test: Test) -> &'static [Sort]
-    ensures { result.now ≡ test_takes test }
-{
-    match test {
-        Test::Zero(_) => &[Sort::Int],
-        Test::Ints(_) => &[Sort::Int, Sort::Int],
-        Test::Same | Test::Other => &[Sort::Ref, Sort::Ref],
-        Test::Null | Test::NonNull => &[Sort::Ref],
-    }
-}
 
 // A value of a sort alone.
 fn alone(sort: Sort) -> &'static [Sort]
@@ -100,7 +66,7 @@ fn takes(action: &Action) -> &'static [Sort]
 {
     match action {
         Action::Store(sort, _) => alone(*sort),
-        Action::Scalar(op) | Action::Divide(op) => operations::takes(*op),
+        Action::Scalar(op) | Action::Divide(op) => operand_sorts(*op),
         Action::Branch(test, _) => test_takes(*test),
         Action::Switch(_, _) => &[Sort::Int],
         Action::Give(Some(sort)) => alone(*sort),
@@ -113,17 +79,6 @@ fn takes(action: &Action) -> &'static [Sort]
         Action::StoreRef => after_element(Sort::Ref),
         _ => &[],
     }
-}
-
-// The sorts of parameters.
-fn parameter_sorts(alloc: Global, params: &Listed<JType>) -> Result<Vec<Sort>, Memory>
-    ensures { IfOk result (λ v. v.items ≡ map sort_of_type params.now) }
-{
-    let mut sorts = Vec::new(alloc);
-    for param in params.as_slice() {
-        sorts.push(sort_of_type(*param))?;
-    }
-    Ok(sorts)
 }
 
 // Where a branch goes.

@@ -1,13 +1,13 @@
 //! The locals of a method (JVMS 2.6.1).
 
-ghost use Rattle.std.specs.Prelude.{◌≡◌, ◌<◌, true, length, slice_set};
+ghost use Rattle.std.specs.Prelude.{◌≡◌, ◌<◌, true, length, slice_set, Some, None};
 ghost use Rattle.pv_frame.specs.Stacks.{is_wide, has_room};
+ghost use Rattle.pv_frame.specs.Stacking.{lost_before, stored};
 ghost use Rattle.pv_frame.specs.Effects.{sort_of, sort_of_local};
 ghost use Rattle.pv_machine.specs.Machine.{held, increased};
-ghost use Rattle.pv_machine.specs.Storing.{lost_before, stored_at, IsStored};
+ghost use Rattle.pv_machine.specs.Storing.{IsStored};
 
-use crate::stack::{fits, sort_of};
-use pv_frame::Sort;
+use pv_frame::{Sort, fits, has_room, sort_of};
 use pv_value::{Num, ScalarOp, scalar};
 
 /// The number in a local, where it has this sort.
@@ -43,26 +43,17 @@ fn is_wide(local: Option<Num>) -> bool
 // Forgets a long in the local before this one, whose second half this one is.
 fn lose_long(locals: &mut Vec<Option<Num>>, place: usize)
     requires { place < length locals.old.items }
-    ensures { locals.new.items ≡ lost_before place locals.old.items }
+    ensures { locals.new.items ≡ lost_before sort_of_local None place locals.old.items }
 {
     if place > 0 && is_wide(locals[place - 1]) {
         locals[place - 1] = None;
     }
 }
 
-// Whether there are locals for a number from this one on.
-fn has_room(locals: &[Option<Num>], place: u16, n: Num) -> bool
-    ensures { result ≡ has_room (sort_of n) place locals.now }
-{
-    let place = usize::from(place);
-    let last = if is_wide(Some(n)) { place + 1 } else { place };
-    last < locals.len()
-}
-
 // Puts a number into a local, and clears the next one where it takes that too.
 fn put(locals: &mut Vec<Option<Num>>, place: u16, n: Num)
     requires { has_room (sort_of n) place locals.old.items ≡ true }
-    ensures { locals.new.items ≡ stored_at place n locals.old.items }
+    ensures { locals.new.items ≡ stored sort_of_local None place (Some n) locals.old.items }
 {
     let place = usize::from(place);
     locals[place] = Some(n);
@@ -76,7 +67,7 @@ fn put(locals: &mut Vec<Option<Num>>, place: u16, n: Num)
 pub(crate) fn store(locals: &mut Vec<Option<Num>>, place: u16, n: Num) -> bool
     ensures { IsStored locals.old.items place n result locals.new.items }
 {
-    if !has_room(locals, place, n) {
+    if !has_room(sort_of(n), place, locals) {
         return false;
     }
     lose_long(locals, usize::from(place));

@@ -1,23 +1,14 @@
 //! Moves of the operand stack, from pop to swap (JVMS 6.5).
 
 ghost use Rattle.std.specs.Prelude.{◌≡◌, ◌≤◌, ◌+◌, ◌++◌, length, reverse, OnErr, IfOk};
-ghost use Rattle.pv_frame.specs.Stacks.{is_wide, one, two, dropped, copied, exchanged, moved};
+ghost use Rattle.pv_frame.specs.Stacks.{one, two, dropped, copied, exchanged, moved};
+ghost use Rattle.pv_frame.specs.Stacking.{taken_by};
 ghost use Rattle.pv_frame.specs.Effects.{sort_of};
-ghost use Rattle.pv_machine.specs.Moves.{values, size, IsTaken, taken_by, IsMoved, IsOverfull};
+ghost use Rattle.pv_machine.specs.Moves.{values, size, IsTaken, IsMoved, IsOverfull};
 
-use crate::stack::{Stack, sort_of};
-use pv_frame::{Move, Sort};
+use crate::stack::Stack;
+use pv_frame::{Move, Part, is_wide, sort_of};
 use pv_value::{Memory, Num};
-
-/// What a move takes from the top of a stack.
-#[derive(Clone, Copy, Debug)]
-pub(crate) enum Part {
-    Nothing,
-    /// A value of category 1.
-    One,
-    /// Two values of category 1, or one of category 2.
-    Two,
-}
 
 /// The numbers that a move takes, with the topmost last.
 #[derive(Clone, Copy, Debug)]
@@ -40,19 +31,12 @@ impl Block {
     }
 }
 
-// Whether a number is of category 2 (JVMS 2.11.1).
-fn is_wide(n: Num) -> bool
-    ensures { result ≡ is_wide (sort_of n) }
-{
-    matches!(sort_of(n), Sort::Long)
-}
-
 // A value of category 1.
 fn one(nums: &[Num]) -> Option<Block>
     ensures { IsTaken (one sort_of (reverse nums.now)) (reverse nums.now) result }
 {
     let (top, _) = nums.split_last()?;
-    if is_wide(*top) {
+    if is_wide(sort_of(*top)) {
         None
     } else {
         Some(Block::One(*top))
@@ -64,11 +48,11 @@ fn two(nums: &[Num]) -> Option<Block>
     ensures { IsTaken (two sort_of (reverse nums.now)) (reverse nums.now) result }
 {
     let (top, below) = nums.split_last()?;
-    if is_wide(*top) {
+    if is_wide(sort_of(*top)) {
         return Some(Block::One(*top));
     }
     let (next, _) = below.split_last()?;
-    if is_wide(*next) {
+    if is_wide(sort_of(*next)) {
         None
     } else {
         Some(Block::Two(*next, *top))
@@ -77,7 +61,7 @@ fn two(nums: &[Num]) -> Option<Block>
 
 /// The last numbers that a move takes.
 pub(crate) fn taken(part: Part, nums: &[Num]) -> Option<Block>
-    ensures { IsTaken (taken_by part (reverse nums.now)) (reverse nums.now) result }
+    ensures { IsTaken (taken_by sort_of part (reverse nums.now)) (reverse nums.now) result }
 {
     match part {
         Part::Nothing => Some(Block::Nothing),
@@ -88,7 +72,7 @@ pub(crate) fn taken(part: Part, nums: &[Num]) -> Option<Block>
 
 // What is taken goes away. False where it isn't there.
 fn dropped(stack: &mut Stack, part: Part) -> bool
-    ensures moved { IsMoved (dropped (taken_by part stack.old.nums)) stack.old result stack.new }
+    ensures moved { IsMoved (dropped (taken_by sort_of part stack.old.nums)) stack.old result stack.new }
     ensures room { stack.new.room ≡ stack.old.room }
 {
     let Some(top) = stack.taken(0, part) else {
@@ -100,10 +84,10 @@ fn dropped(stack: &mut Stack, part: Part) -> bool
 
 // What the first takes is put also under what the second takes. False where they aren't there.
 fn copied(stack: &mut Stack, above: Part, under: Part) -> Result<bool, Memory>
-    ensures moved { IfOk result (λ done. IsMoved (copied (taken_by above) (taken_by under) stack.old.nums) stack.old done stack.new) }
+    ensures moved { IfOk result (λ done. IsMoved (copied (taken_by sort_of above) (taken_by sort_of under) stack.old.nums) stack.old done stack.new) }
     ensures err { OnErr result (stack.new.nums ≡ stack.old.nums) }
     ensures room { stack.old.room ≤ stack.new.room }
-    ensures full { OnErr result (IsOverfull (copied (taken_by above) (taken_by under) stack.old.nums) stack.old.room) }
+    ensures full { OnErr result (IsOverfull (copied (taken_by sort_of above) (taken_by sort_of under) stack.old.nums) stack.old.room) }
 {
     let Some(top) = stack.taken(0, above) else {
         return Ok(false);

@@ -7,44 +7,14 @@ ghost use Rattle.pv_machine.specs.Machine.{State, value_of, computed, divided};
 ghost use Rattle.pv_machine.specs.Doing.{IsNumber, led, Leads, KeepsHeap};
 
 use crate::effect::Effect;
-use pv_frame::Sort;
+use pv_frame::{Sort, value_sort};
 use pv_value::{Fault, Num, ScalarOp, scalar};
-
-/// The sorts of the operands of an operation.
-pub(crate) fn takes(op: ScalarOp) -> &'static [Sort]
-    ensures { result.now ≡ map sort_of_word (operation.takes op) }
-{
-    match op {
-        ScalarOp::Iadd | ScalarOp::Isub | ScalarOp::Imul | ScalarOp::Idiv | ScalarOp::Irem => {
-            &[Sort::Int, Sort::Int]
-        }
-        ScalarOp::Ishl | ScalarOp::Ishr | ScalarOp::Iushr => &[Sort::Int, Sort::Int],
-        ScalarOp::Iand | ScalarOp::Ior | ScalarOp::Ixor => &[Sort::Int, Sort::Int],
-        ScalarOp::Ieq | ScalarOp::Ilt => &[Sort::Int, Sort::Int],
-        ScalarOp::Ineg | ScalarOp::I2b | ScalarOp::I2c | ScalarOp::I2s | ScalarOp::I2l => {
-            &[Sort::Int]
-        }
-        ScalarOp::Ladd | ScalarOp::Lsub | ScalarOp::Lmul | ScalarOp::Ldiv | ScalarOp::Lrem => {
-            &[Sort::Long, Sort::Long]
-        }
-        ScalarOp::Lshl | ScalarOp::Lshr | ScalarOp::Lushr => &[Sort::Long, Sort::Int],
-        ScalarOp::Land | ScalarOp::Lor | ScalarOp::Lxor => &[Sort::Long, Sort::Long],
-        ScalarOp::Leq | ScalarOp::Lcmp => &[Sort::Long, Sort::Long],
-        ScalarOp::Lneg | ScalarOp::L2i => &[Sort::Long],
-    }
-}
 
 // Whether the value of an operation is a long.
 fn gives_long(op: ScalarOp) -> bool
     ensures { result ≡ operation.gives_long op }
 {
-    match op {
-        ScalarOp::I2l | ScalarOp::Lneg => true,
-        ScalarOp::Ladd | ScalarOp::Lsub | ScalarOp::Lmul | ScalarOp::Ldiv | ScalarOp::Lrem => true,
-        ScalarOp::Lshl | ScalarOp::Lshr | ScalarOp::Lushr => true,
-        ScalarOp::Land | ScalarOp::Lor | ScalarOp::Lxor => true,
-        _ => false,
-    }
+    matches!(value_sort(op), Sort::Long)
 }
 
 // The number of an int or a long; of a reference 0, since no operation takes one.

@@ -1,39 +1,17 @@
 //! The operand stack (JVMS 2.6.2).
 
 ghost use Rattle.std.specs.Prelude.{◌≡◌, ◌≤◌, ◌<◌, ◌+◌, ◌-◌, ◌^◌, [], ◌∷◌, ◌++◌, length, drop, reverse, OnOk, OnErr, IfSome, MatchOption};
-ghost use Rattle.pv_frame.specs.Stacks.{fits, popped};
+ghost use Rattle.pv_frame.specs.Stacks.{popped};
+ghost use Rattle.pv_frame.specs.Stacking.{taken_by};
 ghost use Rattle.pv_frame.specs.Effects.{sort_of};
 ghost use Rattle.pv_machine.specs.Operands.{lie_on};
-ghost use Rattle.pv_machine.specs.Moves.{values, size, taken_by, IsTaken};
+ghost use Rattle.pv_machine.specs.Moves.{values, size, IsTaken};
 
-use crate::moves::{Block, Part, taken};
-use pv_frame::Sort;
+use crate::moves::{Block, taken};
+use pv_frame::{Part, Sort, fits, sort_of};
 use pv_value::{Memory, Num};
 use std::alloc::Global;
 use std::marker::Model;
-
-/// The sort of a number.
-pub(crate) fn sort_of(n: Num) -> Sort
-    ensures { result ≡ sort_of n }
-{
-    match n {
-        Num::Int(_) => Sort::Int,
-        Num::Long(_) => Sort::Long,
-        Num::Ref(_) => Sort::Ref,
-    }
-}
-
-/// Whether a value of the first sort is there where one of the second is asked for.
-pub(crate) fn fits(found: Sort, asked: Sort) -> bool
-    ensures { result ≡ fits found asked }
-{
-    match (found, asked) {
-        (Sort::Int, Sort::Int) => true,
-        (Sort::Long, Sort::Long) => true,
-        (Sort::Ref, Sort::Ref) => true,
-        _ => false,
-    }
-}
 
 // Whether the last numbers have these sorts, in the same order.
 fn lie_on(sorts: &[Sort], nums: &[Num]) -> bool
@@ -138,7 +116,7 @@ impl Stack {
     /// What a move takes below the topmost numbers.
     pub(crate) fn taken(&self, above: usize, part: Part) -> Option<Block>
         requires { above ≤ length self.now.nums }
-        ensures { IsTaken (taken_by part (drop above self.now.nums)) (drop above self.now.nums) result }
+        ensures { IsTaken (taken_by sort_of part (drop above self.now.nums)) (drop above self.now.nums) result }
     {
         taken(part, &self.items[..self.items.len() - above])
     }

@@ -1,8 +1,7 @@
-use Rattle.std.proofs.lemmas.Int.{to_z-of_z}
 use Rattle.std.proofs.Common.{ℤ, subst, w32, [], ◌∷◌, sym, ◌∙◌}
+use Rattle.pv_machine.proofs.Words.{to_z-of_z, Reads}
 use Rattle.pv_value.specs.declared.number.Num.TheVariants as num
 use Rattle.pv_frame.specs.declared.action.Action.TheVariants as act
-use Rattle.pv_machine.specs.Doing.{Reads}
 use Rattle.pv_machine.proofs.Accessing.{loads}
 use Rattle.pv_machine.proofs.access.load_element.Goals as goal
 

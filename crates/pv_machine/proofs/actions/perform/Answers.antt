@@ -1,7 +1,5 @@
 use Rattle.std.proofs.Common.{ap, sym, subst, ◌∙◌}
-use Rattle.pv_frame.specs.declared.action.Action.{Action}
-use Rattle.pv_machine.specs.Machine.{perform}
-use Rattle.pv_machine.specs.Steps.{IsOverfull}
+use Rattle.pv_machine.proofs.Words.{Action, perform, IsOverfull}
 use Rattle.pv_machine.proofs.Moving.{on_err}
 use Rattle.pv_machine.proofs.actions.perform.Goals as goal
 

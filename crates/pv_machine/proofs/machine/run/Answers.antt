@@ -1,6 +1,5 @@
 use Rattle.std.proofs.Common.{◌≡◌, ℕ, ap, sym, subst, ◌∙◌, arith}
-use Rattle.pv_machine.specs.Machine.{State, running, start, after}
-use Rattle.pv_machine.specs.Steps.{now_of}
+use Rattle.pv_machine.proofs.Words.{State, running, start, after, now_of}
 use Rattle.pv_machine.proofs.Typing.{after_none}
 use Rattle.pv_machine.proofs.Ending.{steps_on, ends_within}
 use Rattle.pv_machine.proofs.machine.run.Goals as goal

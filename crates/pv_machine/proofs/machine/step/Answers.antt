@@ -1,5 +1,5 @@
 use Rattle.std.proofs.Common.{ap}
-use Rattle.pv_machine.specs.InMemory.{StateInMemory}
+use Rattle.pv_machine.proofs.Words.{StateInMemory}
 use Rattle.pv_machine.proofs.Ready.{found_at, no_step, ready}
 use Rattle.pv_machine.proofs.machine.step.Goals as goal
 

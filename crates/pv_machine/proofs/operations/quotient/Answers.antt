@@ -1,16 +1,8 @@
-use Rattle.std.proofs.Common.{◌≡◌, ◌≢◌, ℤ, pos, [], ◌∷◌, true, false, refl, ap, sym, ◌∙◌, inl, inr, of_z, to_z, w64, Some, SFits, rules}
-use Rattle.std.proofs.lemmas.Int.{to_z-of_z}
-use Rattle.std.specs.Prelude.{map, if◌then◌else◌}
-use Rattle.std.specs.Ordering.{int_eq}
-use Rattle.std.proofs.lemmas.Bool.Decides.{Decides-int_eq}
-use Rattle.pv_value.specs.declared.number.Num.{Num}
+use Rattle.std.proofs.Common.{◌≡◌, ◌≢◌, ℤ, pos, [], ◌∷◌, true, false, refl, ap, sym, ◌∙◌, inl, inr, of_z, to_z, w64, Some, SFits, rules, map, if◌then◌else◌}
+use Rattle.pv_machine.proofs.Words.{to_z-of_z, int_eq, Decides-int_eq, Num, ScalarOp, sort_of, sort_of_word, State, number_of, value_of, pushes, throws, divided, IsNumber}
 use Rattle.pv_value.specs.declared.number.Num.TheVariants as num
 use Rattle.pv_value.specs.declared.outcome.Fault.TheVariants as fault
-use Rattle.pv_value.specs.declared.operation.ScalarOp.{ScalarOp}
 use Rattle.pv_value.specs.Operations as operation
-use Rattle.pv_frame.specs.Effects.{sort_of, sort_of_word}
-use Rattle.pv_machine.specs.Machine.{State, number_of, value_of, pushes, throws, divided}
-use Rattle.pv_machine.specs.Doing.{IsNumber}
 use Rattle.pv_machine.proofs.Values.{shape}
 use Rattle.pv_machine.proofs.operations.quotient.Goals as goal
 

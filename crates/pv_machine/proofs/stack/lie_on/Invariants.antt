@@ -1,6 +1,5 @@
-use Rattle.std.proofs.Common.{◌≡◌, length}
-use Rattle.std.specs.Prelude.{reverse}
-use Rattle.pv_machine.specs.Operands.{lie_on}
+use Rattle.std.proofs.Common.{◌≡◌, length, reverse}
+use Rattle.pv_machine.proofs.Words.{lie_on}
 use Rattle.pv_machine.proofs.stack.lie_on.Given as goal
 
 abbrev pub invariant-loop-asked : goal.invariant-loop-asked

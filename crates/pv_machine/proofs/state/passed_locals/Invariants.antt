@@ -1,6 +1,5 @@
 use Rattle.std.proofs.Common.{◌≡◌, ◌++◌, drop}
-use Rattle.std.specs.List.{flat_map}
-use Rattle.pv_machine.specs.Machine.{locals_of, passed}
+use Rattle.pv_machine.proofs.Words.{flat_map, locals_of, passed}
 use Rattle.pv_machine.proofs.state.passed_locals.Given as goal
 
 abbrev pub invariant-loop-n : goal.invariant-loop-n

@@ -1,8 +1,7 @@
-use Rattle.std.proofs.lemmas.Int.{to_z-of_z}
 use Rattle.std.proofs.Common.{ℤ, subst, w32, [], ◌∷◌, Some, sym, ◌∙◌}
+use Rattle.pv_machine.proofs.Words.{to_z-of_z, Asks}
 use Rattle.pv_value.specs.declared.number.Num.TheVariants as num
 use Rattle.pv_frame.specs.declared.action.Action.TheVariants as act
-use Rattle.pv_machine.specs.Doing.{Asks}
 use Rattle.pv_machine.proofs.Accessing.{refs}
 use Rattle.pv_machine.proofs.types.store_ref.Goals as goal
 

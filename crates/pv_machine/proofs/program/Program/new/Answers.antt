@@ -1,14 +1,6 @@
-use Rattle.std.proofs.Common.{◌≡◌, ℕ, ap, ◌∙◌, inl, inr, Some, Ok, Err}
-use Rattle.std.specs.Prelude.{Result, slice_get}
-use Rattle.std.proofs.lemmas.Result.{err_from_is_err_and}
-use Rattle.pv_class.specs.declared.file.ClassFile.{ClassFile}
-use Rattle.pv_class.specs.declared.file.Method.{Method}
-use Rattle.pv_frame.specs.declared.cause.Cause.{Cause}
-use Rattle.pv_frame.specs.declared.cause.Refused.{Refused}
+use Rattle.std.proofs.Common.{◌≡◌, ℕ, ap, ◌∙◌, inl, inr, Some, Ok, Err, Result, slice_get}
+use Rattle.pv_machine.proofs.Words.{err_from_is_err_and, ClassFile, Method, Cause, Refused, Typed, AnswersOnly, IsRefusedAt, RefusesAs}
 use Rattle.pv_frame.specs.declared.cause.Refused.TheVariants as refused
-use Rattle.pv_frame.specs.declared.typed.Typed.{Typed}
-use Rattle.pv_frame.specs.Answers.{AnswersOnly}
-use Rattle.pv_machine.specs.Programs.{IsRefusedAt, RefusesAs}
 use Rattle.pv_machine.proofs.program.Program.new.Goals as goal
 
 -- an error that says a cause says this one

@@ -1,5 +1,5 @@
 use Rattle.std.proofs.Common.{ap, ◌∙◌}
-use Rattle.pv_machine.specs.InMemory.{StackInMemory}
+use Rattle.pv_machine.proofs.Words.{StackInMemory}
 use Rattle.pv_machine.proofs.OnStack.{cut_is}
 use Rattle.pv_machine.proofs.stack.Stack.discard.Goals as goal
 

@@ -1,5 +1,5 @@
 use Rattle.std.proofs.Common.{ap, ◌∙◌, arith}
-use Rattle.pv_machine.specs.InMemory.{StackInMemory}
+use Rattle.pv_machine.proofs.Words.{StackInMemory}
 use Rattle.pv_machine.proofs.OnStack.{no_operands, some_operands, operands_within}
 use Rattle.pv_machine.proofs.stack.Stack.operands.Goals as goal
 

@@ -1,6 +1,5 @@
 use Rattle.std.proofs.Common.{◌≡◌, ◌+◌, ◌-◌, length, ap, ◌∙◌, arith}
-use Rattle.std.proofs.lemmas.List.{length-reverse}
-use Rattle.pv_machine.specs.InMemory.{StackInMemory}
+use Rattle.pv_machine.proofs.Words.{length-reverse, StackInMemory}
 use Rattle.pv_machine.proofs.OnStack.{put_is}
 use Rattle.pv_machine.proofs.stack.Stack.put.Goals as goal
 

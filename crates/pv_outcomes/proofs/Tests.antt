@@ -25,7 +25,7 @@ use Rattle.pv_denote.specs.Denote.{strict, truth, is_clear}
 use Rattle.pv_equations.specs.Flow as flow
 use Rattle.pv_equations.specs.Flow.{Part, Of, NoPart, More, PartIs, Exit, Chain, Chooses}
 use Rattle.pv_runs.specs.Held.{Cell, null_part, int_part}
-use Rattle.pv_runs.specs.Matches.{StackIs}
+use Rattle.pv_outcomes.specs.Matches.{StackIs}
 use Rattle.pv_runs.specs.Chains.{ieq, ilt, aeq, is_zero, compared, test_part}
 
 twice : (b : Bool) → b ≡ not (not b)

@@ -32,14 +32,14 @@ use Rattle.pv_equations.specs.Flow.{To, Exit, Flow, Steps, Left, Waits, Runnable
 use Rattle.pv_equations.specs.Equations.{Values, form_of, AreEquations}
 use Rattle.pv_equations.specs.Root.{root_of, after, MachineEnds, Finishes}
 use Rattle.pv_equations.proofs.Cited.{graph_machine}
-use Rattle.pv_runs.specs.Matches.{IsCleanProgram}
+use Rattle.pv_runs.specs.Clean.{IsCleanProgram}
 use Rattle.pv_runs.specs.Methods.{flow_of}
-use Rattle.pv_runs.specs.Laws.{IsRanked, MethodConverts}
-use Rattle.pv_runs.proofs.Ranked.{method_ranked}
-use Rattle.pv_runs.proofs.States.{At, next_of, steps}
-use Rattle.pv_runs.proofs.Clean.{program_clean}
-use Rattle.pv_runs.proofs.Starts.{entry_slots, entry_starts, entry_at}
-use Rattle.pv_runs.proofs.Carried.{same_after, ended_to, Here, Does, moves, stops, idles, does, arguments, carries}
+use Rattle.pv_runs.specs.Laws.{IsRanked}
+use Rattle.pv_runs.proofs.Cited.{method_ranked, program_clean}
+use Rattle.pv_outcomes.specs.Laws.{MethodConverts}
+use Rattle.pv_outcomes.proofs.States.{At, next_of, steps}
+use Rattle.pv_outcomes.proofs.Starts.{entry_slots, entry_starts, entry_at}
+use Rattle.pv_outcomes.proofs.Carried.{same_after, ended_to, Here, Does, moves, stops, idles, does, arguments, carries}
 
 module _ (p : Program) (clean : IsCleanProgram p) (w : World) (world : IsWorld w) (x : Input) (frames : List (Option Frame)) (well_typed : AreFrames p frames) (blocks : List Block) (flow : IsFlow p blocks) (forest : Forest) where
   abbrev f : Flow

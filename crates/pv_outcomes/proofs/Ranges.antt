@@ -1,15 +1,11 @@
 -- Ints in a run are in the range of ints; and the lowest bit of an int.
-use Rattle.std.proofs.Common.{◌≡◌, ℕ, suc, ◌<◌, ◌≤◌, ◌-◌, inl, inr, ℤ, pos, negsuc, Bool, true, false, Option, Some, None, refl, ap, sym, subst, ◌∙◌, arith, lit<, lit≤}
+use Rattle.std.proofs.Common.{◌≡◌, ℕ, suc, ◌<◌, ◌-◌, ℤ, pos, negsuc, Option, Some, None, refl, ap, sym, subst, ◌∙◌, arith, lit<, lit≤}
 use Rattle.std.specs.Prelude.{option_map, FitsSigned, unwrap_or, ◌%◌, bit_and}
 use Rattle.std.specs.Int.{w8, w16, w32, int_wrap, int_bit_and, int_rem_euclid, cast_signed}
 use Rattle.std.specs.FinMap.{get}
 use Rattle.std.proofs.lemmas.Int.{SFits-int_wrap, ints}
 use Rattle.std.proofs.lemmas.Nat.{and_mask}
 use Rattle.std.proofs.Math.Nat.{mod-lt}
-use Rattle.std.proofs.Math.Facts.{sfits_to_z}
-use Rattle.std.proofs.Math.Dec.{ltb}
-use Rattle.std.proofs.lemmas.Bool.{cases_lt, ltb-true}
-use mir.Val.{sel}
 use Rattle.pv_value.specs.declared.number.Num.{Num}
 use Rattle.pv_value.specs.declared.number.Num.TheVariants as num
 use Rattle.pv_value.specs.declared.descriptor.JType.{JType}
@@ -26,7 +22,7 @@ use Rattle.pv_value.specs.Worlds.{IsWorld, length_of}
 use Rattle.pv_frame.proofs.Cited.{some_of, no_some}
 use Rattle.pv_machine.specs.Machine.{num_of, value_of}
 use Rattle.pv_denote.proofs.Cited.{wider, low_fits}
-use Rattle.pv_runs.specs.Matches.{InRange}
+use Rattle.pv_outcomes.specs.Matches.{InRange}
 
 -- ---- where ints come from
 
@@ -81,14 +77,6 @@ length_range w world r = go (get w.lengths r) refl
     go : (o : Option ℤ) → get w.lengths r ≡ o → FitsSigned w32 (unwrap_or o (pos 0))
     go None e = record { sfits = lit< tt }
     go (Some n) e = (world.lengths r n e).number
-
--- a number read in two's complement, also one that has more than 32 bits
-pub signed_range : (n : ℕ) → FitsSigned w32 (cast_signed w32 n)
-signed_range n = elim (cases_lt n 4294967296) [ inl lt ↦ sfits_to_z {w = w32} {n = n} (record { fits = lt }) | inr ge ↦ above (ltb n 2147483648) refl ge ]
-  where
-    above : (b : Bool) → ltb n 2147483648 ≡ b → 4294967296 ≤ n → FitsSigned w32 (sel b (pos n) (negsuc (4294967296 - suc n)))
-    above true e ge = let lt = ltb-true n 2147483648 e in absurd (omega arith)
-    above false e ge = record { sfits = omega arith }
 
 -- ---- the lowest bit
 

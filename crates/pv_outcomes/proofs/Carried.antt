@@ -38,15 +38,14 @@ use Rattle.pv_runs.specs.Held.{Held, held_at}
 use Rattle.pv_runs.specs.Chains.{to}
 use Rattle.pv_runs.specs.Blocks.{number_at, numbered_dest, numbered_exit, numbered}
 use Rattle.pv_runs.specs.Methods.{flow_of}
-use Rattle.pv_runs.specs.Matches.{Matches, IsClean, EndsWell, IsCleanProgram}
-use Rattle.pv_runs.proofs.States.{IsBlock, At, next_of, steps}
-use Rattle.pv_runs.proofs.Typed.{Chained, chained}
-use Rattle.pv_runs.proofs.Departures.{Departs, has_exits, exit_departs}
-use Rattle.pv_runs.proofs.Edges.{number_is, in_numbered, chain_at, goes_place}
-use Rattle.pv_runs.proofs.Tokens.{token_arguments}
-use Rattle.pv_runs.proofs.Once.{part_once, chooses_once, waits_on}
-use Rattle.pv_runs.proofs.Lasts.{Leaves, comes, over, waits}
-use Rattle.pv_runs.proofs.Runs.{block_runs, enters, left_slots, left_token, left_heap, left_parts, left_locals, left_stack, Run}
+use Rattle.pv_runs.specs.Clean.{IsClean, EndsWell, IsCleanProgram}
+use Rattle.pv_runs.proofs.Cited.{Chained, Departs, IsBlock, chain_at, chained, exit_departs, goes_place, has_exits, in_numbered, number_is}
+use Rattle.pv_outcomes.specs.Matches.{Matches}
+use Rattle.pv_outcomes.proofs.States.{At, next_of, steps}
+use Rattle.pv_outcomes.proofs.Tokens.{token_arguments}
+use Rattle.pv_outcomes.proofs.Once.{part_once, chooses_once, waits_on}
+use Rattle.pv_outcomes.proofs.Lasts.{Leaves, comes, over, waits}
+use Rattle.pv_outcomes.proofs.Runs.{block_runs, enters, left_slots, left_token, left_heap, left_parts, left_locals, left_stack, Run}
 
 sound_of : (a : Action) → IsClean a → IsSound a
 sound_of (act.Divide o) c = (_, _, c)

@@ -44,16 +44,16 @@ use Rattle.pv_denote.proofs.Cited.{wider, low_fits}
 use Rattle.pv_equations.specs.Flow as flow
 use Rattle.pv_equations.specs.Flow.{Part, Of, NoPart, More, PartIs, Exit, Chain, Leave, Chooses}
 use Rattle.pv_runs.specs.Held.{Cell, Held, cell_sort, unit_part, null_part, acted_on, with_result}
-use Rattle.pv_runs.specs.Matches.{InRange, IsClean, EndsWell}
-use Rattle.pv_runs.proofs.Ranges.{shown_range, length_range, boolean_is}
+use Rattle.pv_runs.specs.Clean.{IsClean, EndsWell}
+use Rattle.pv_outcomes.specs.Matches.{InRange}
+use Rattle.pv_outcomes.proofs.Ranges.{shown_range, length_range, boolean_is}
 use Rattle.pv_runs.specs.Chains.{to, throw, give, aeq, is_zero, test_part, branch, narrowed_part, unless_thrown, unless_null, within, unless_other, asks_class, stores_ref, chain_with, given_chain, last_chain, ends_method, chain_of}
-use Rattle.pv_runs.proofs.Options.{bound}
-use Rattle.pv_runs.proofs.States.{IsSimple}
-use Rattle.pv_runs.proofs.Acts.{M, Operands, takes_both, simple_goes, pushed_goes, heap_goes}
-use Rattle.pv_runs.proofs.Tests.{yes, no, same_test, suc_not_zero, null_tests, branch_asks}
-use Rattle.pv_runs.proofs.Calls.{call_leaves}
-use Rattle.pv_runs.proofs.Facts.{cast_null, cast_leaves, asks_null, asks_leaves, stores_leaves}
-use Rattle.pv_runs.proofs.Lasts.{Leaves, thrown, given_back, given_none, goes_there, goes_next, branch_leaves, switch_chooses, null_first, some_first, null_leaves, some_leaves, null_fault, not_null, divide_leaves, field_read, length_read, element_read, field_written, element_written, within_leaves}
+use Rattle.pv_runs.proofs.Cited.{IsSimple, bound}
+use Rattle.pv_outcomes.proofs.Acts.{M, Operands, takes_both, simple_goes, pushed_goes, heap_goes}
+use Rattle.pv_outcomes.proofs.Tests.{yes, no, same_test, suc_not_zero, null_tests, branch_asks}
+use Rattle.pv_outcomes.proofs.Calls.{call_leaves}
+use Rattle.pv_outcomes.proofs.Facts.{cast_null, cast_leaves, asks_null, asks_leaves, stores_leaves}
+use Rattle.pv_outcomes.proofs.Lasts.{Leaves, thrown, given_back, given_none, goes_there, goes_next, branch_leaves, switch_chooses, null_first, some_first, null_leaves, some_leaves, null_fault, not_null, divide_leaves, field_read, length_read, element_read, field_written, element_written, within_leaves}
 
 module _ (p : Program) (w : World) (x : Input) (σ : ℕ → Val) where
   -- the chain, and what is held after the action

@@ -20,8 +20,8 @@ use Rattle.pv_denote.specs.Denote as denote
 use Rattle.pv_denote.specs.Denote.{numbers, operand, scalar_on, scalar_value}
 use Rattle.pv_equations.specs.Flow.{PartsAre}
 use Rattle.pv_runs.specs.Held.{Cell, cell_sort, parts_of}
-use Rattle.pv_runs.specs.Matches.{InRange, StackIs}
-use Rattle.pv_runs.proofs.Ranges.{value_range}
+use Rattle.pv_outcomes.specs.Matches.{InRange, StackIs}
+use Rattle.pv_outcomes.proofs.Ranges.{value_range}
 
 abbrev pub numbers_of : List Num → List Val
 numbers_of [] = []

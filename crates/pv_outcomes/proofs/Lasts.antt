@@ -35,11 +35,11 @@ use Rattle.pv_equations.specs.Flow as flow
 use Rattle.pv_equations.specs.Flow.{Part, Slot, Of, NoPart, More, PartIs, PartsAre, Kind, Return, Throw, Dest, To, End, Exit, Chain, Leave, Chooses, Waits}
 use Rattle.pv_equations.specs.Root.{IsOutcome}
 use Rattle.pv_runs.specs.Held.{slots, Cell, Held, unit_part, null_part, int_part, parts_of, push}
-use Rattle.pv_runs.specs.Matches.{StackIs}
+use Rattle.pv_outcomes.specs.Matches.{StackIs}
 use Rattle.pv_runs.specs.Chains.{to, throw, give, end_slots, ieq, ilt, aeq, is_zero, branch, switch, unless_null, within}
-use Rattle.pv_runs.proofs.Values.{numbers_of, computes_two, Computes}
-use Rattle.pv_runs.proofs.Acts.{M, Goes, scalar_goes, scalar_strict}
-use Rattle.pv_runs.proofs.Tests.{Tests, yes, no, same_test, suc_not_zero, ieq_tests, ilt_tests, null_tests, zero_tests, int_is}
+use Rattle.pv_outcomes.proofs.Values.{numbers_of, computes_two, Computes}
+use Rattle.pv_outcomes.proofs.Acts.{M, Goes, scalar_goes, scalar_strict}
+use Rattle.pv_outcomes.proofs.Tests.{Tests, yes, no, same_test, suc_not_zero, ieq_tests, ilt_tests, null_tests, zero_tests, int_is}
 
 flip : (m n : ℤ) → int_eq m n ≡ int_eq n m
 flip m n = int_eq_equiv.symm m n

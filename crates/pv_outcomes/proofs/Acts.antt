@@ -36,13 +36,12 @@ use Rattle.pv_graph.specs.declared.node.Op.TheVariants as op
 use Rattle.pv_denote.specs.Denote.{strict}
 use Rattle.pv_equations.specs.Flow.{Part, Of, NoPart, More, PartIs}
 use Rattle.pv_runs.specs.Held.{Cell, Held, cell_sort, unset, number_part, parts_of, push, local_cell, increased_cell, acted_on, acted}
-use Rattle.pv_runs.specs.Matches.{InRange, StackIs, LocalIs, Matches, IsClean}
-use Rattle.pv_runs.proofs.Ranges.{shown_range}
-use Rattle.pv_runs.proofs.Options.{mapped}
-use Rattle.pv_runs.proofs.States.{IsSimple}
-use Rattle.pv_runs.proofs.Related.{popped_both, moved_both, taken_found, lists_found}
-use Rattle.pv_runs.proofs.Locals.{set_local_is, room_as, local_is, set_is}
-use Rattle.pv_runs.proofs.Values.{numbers_of, parts_are, computes}
+use Rattle.pv_runs.specs.Clean.{IsClean}
+use Rattle.pv_runs.proofs.Cited.{IsSimple, lists_found, mapped, moved_both, popped_both, taken_found}
+use Rattle.pv_outcomes.specs.Matches.{InRange, StackIs, LocalIs, Matches}
+use Rattle.pv_outcomes.proofs.Ranges.{shown_range}
+use Rattle.pv_outcomes.proofs.Locals.{set_local_is, room_as, local_is, set_is}
+use Rattle.pv_outcomes.proofs.Values.{numbers_of, parts_are, computes}
 
 module _ (p : Program) (w : World) (x : Input) (σ : ℕ → Val) where
   abbrev pub M : State → Held → Type 0

@@ -24,14 +24,16 @@ use Rattle.pv_machine.specs.Runs.{frame_of}
 use Rattle.pv_denote.specs.Denote.{strict}
 use Rattle.pv_equations.specs.Flow.{Part, PartIs, Exit, Chain, InChain}
 use Rattle.pv_equations.specs.Root.{Goes as Onward, then as followed, after}
-use Rattle.pv_runs.specs.Held.{local_place, stack_place, local_slot, stack_slot, by_turns, slots, Cell, Held, local_part, stack_part, local_cells, stack_cells, held_at, slots_of}
-use Rattle.pv_runs.specs.Matches.{InRange, StackIs, LocalIs, Matches, EndsWell, IsCleanProgram}
+use Rattle.pv_runs.specs.Held.{local_slot, stack_slot, by_turns, slots, Cell, Held, local_part, stack_part, local_cells, stack_cells, held_at, slots_of}
+use Rattle.pv_runs.specs.Clean.{EndsWell, IsCleanProgram}
+use Rattle.pv_outcomes.specs.Matches.{InRange, StackIs, LocalIs, Matches}
 use Rattle.pv_runs.specs.Chains.{chain_of}
-use Rattle.pv_runs.proofs.States.{IsBlock, goes_on, ends, LocalsHeld, StackHeld, next_of, steps}
-use Rattle.pv_runs.proofs.Acts.{M, steps_on}
-use Rattle.pv_runs.proofs.Lasts.{Leaves}
-use Rattle.pv_runs.proofs.Ends.{last_leaves}
-use Rattle.pv_runs.proofs.Tokens.{IsToken, last_tokens}
+use Rattle.pv_runs.proofs.Cited.{IsBlock, ends, goes_on, turns_both, turns_local, turns_stack}
+use Rattle.pv_outcomes.proofs.States.{LocalsHeld, StackHeld, next_of, steps}
+use Rattle.pv_outcomes.proofs.Acts.{M, steps_on}
+use Rattle.pv_outcomes.proofs.Lasts.{Leaves}
+use Rattle.pv_outcomes.proofs.Ends.{last_leaves}
+use Rattle.pv_outcomes.proofs.Tokens.{IsToken, last_tokens}
 
 module _ (p : Program) (clean : IsCleanProgram p) (w : World) (world : IsWorld w) (x : Input) (σ : ℕ → Val) (unit : σ 0 ≡ val.Unit) where
   step_is : (s : State) (k : ℕ) (a : Action) → s.at ≡ k → IsAt p k a → step p w s ≡ unwrap_or (performed p w s a) (running s)
@@ -128,19 +130,6 @@ module _ (w : World) (x : Input) (σ : ℕ → Val) where
   stack_parts (n ∷ ns) (c ∷ cs) h j =
       subst (λ (l : ℕ). PartIs w x σ (if j == l then c.part else stack_part cs j) (if j == length ns then val.Num n else stack_value ns j)) (long_as ns cs h.1)
       (elim (j == length ns) as (λ b. PartIs w x σ (if b then c.part else stack_part cs j) (if b then val.Num n else stack_value ns j)) [ true ↦ h.0.is | false ↦ stack_parts ns cs h.1 j ])
-
-pub turns_both : {A B : Type 0} (P : A → B → Type 0) (l s : ℕ → A) (k t : ℕ → B) → ((i : ℕ) → P (l i) (k i)) → ((i : ℕ) → P (s i) (t i)) → (n : ℕ) → P (by_turns l s n) (by_turns k t n)
-turns_both P l s k t f g zero = f 0
-turns_both P l s k t f g (suc zero) = g 0
-turns_both P l s k t f g (suc (suc n)) = turns_both P (λ i. l (suc i)) (λ i. s (suc i)) (λ i. k (suc i)) (λ i. t (suc i)) (λ i. f (suc i)) (λ i. g (suc i)) n
-
-pub turns_stack : {A : Type 0} (l s : ℕ → A) (j : ℕ) → by_turns l s (stack_place j) ≡ s j
-turns_stack l s zero = refl
-turns_stack l s (suc j) = turns_stack (λ i. l (suc i)) (λ i. s (suc i)) j
-
-pub turns_local : {A : Type 0} (l s : ℕ → A) (j : ℕ) → by_turns l s (local_place j) ≡ l j
-turns_local l s zero = refl
-turns_local l s (suc j) = turns_local (λ i. l (suc i)) (λ i. s (suc i)) j
 
 -- i + k, by moving one after the other
 abbrev pub moved_on : ℕ → ℕ → ℕ

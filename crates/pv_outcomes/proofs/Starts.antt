@@ -25,14 +25,15 @@ use Rattle.pv_graph.specs.declared.node.OpSort.TheVariants as opsort
 use Rattle.pv_denote.specs.Denote.{strict, number_of, param_of}
 use Rattle.pv_equations.specs.Flow.{Starts}
 use Rattle.pv_runs.specs.Held.{local_slot}
-use Rattle.pv_runs.proofs.States.{LocalsHeld, At}
+use Rattle.pv_outcomes.proofs.States.{LocalsHeld, At}
 use Rattle.pv_runs.specs.Entries.{param_ops, passed_ops, op_at, start_op}
 use Rattle.pv_runs.specs.Methods.{flow_of}
-use Rattle.pv_runs.specs.Matches.{InRange}
-use Rattle.pv_runs.proofs.Ranges.{type_range}
+use Rattle.pv_outcomes.specs.Matches.{InRange}
+use Rattle.pv_outcomes.proofs.Ranges.{type_range}
 use Rattle.pv_flow.specs.declared.block.Block.{Block}
 use Rattle.pv_loops.specs.declared.forest.Forest.{Forest}
-use Rattle.pv_runs.proofs.Runs.{turns_both, turns_local, moved_on, moved_sum}
+use Rattle.pv_runs.proofs.Cited.{turns_both, turns_local}
+use Rattle.pv_outcomes.proofs.Runs.{moved_on, moved_sum}
 
 abbrev value_of : Input → Op → Val
 value_of x op.This = val.Num (num.Ref x.this)

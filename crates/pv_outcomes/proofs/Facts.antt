@@ -32,10 +32,10 @@ use Rattle.pv_equations.specs.Flow as flow
 use Rattle.pv_equations.specs.Flow.{Part, Parts, Of, NoPart, More, PartIs, PartsAre, Exit, Chain, Leave, Chooses}
 use Rattle.pv_runs.specs.Held.{Held, null_part, int_part, push}
 use Rattle.pv_runs.specs.Chains.{to, throw, two_parts, ieq, ilt, aeq, start_part, is_part, fits_part, thrown_literal, with_held, unless_other, asks_class, unless_unfit, stores_ref}
-use Rattle.pv_runs.proofs.Values.{numbers_of, numbers_back}
-use Rattle.pv_runs.proofs.Acts.{M, Goes, pushed_goes}
-use Rattle.pv_runs.proofs.Tests.{Tests, yes, no, same_test, suc_not_zero, ilt_tests, not_less_tests, null_tests, int_is}
-use Rattle.pv_runs.proofs.Lasts.{Leaves, thrown, goes_next, after_no, null_first, some_first, length_read, index_fault, not_index}
+use Rattle.pv_outcomes.proofs.Values.{numbers_of, numbers_back}
+use Rattle.pv_outcomes.proofs.Acts.{M, Goes, pushed_goes}
+use Rattle.pv_outcomes.proofs.Tests.{Tests, yes, no, same_test, suc_not_zero, ilt_tests, not_less_tests, null_tests, int_is}
+use Rattle.pv_outcomes.proofs.Lasts.{Leaves, thrown, goes_next, after_no, null_first, some_first, length_read, index_fault, not_index}
 
 -- ---- the value of a fact
 

@@ -28,14 +28,14 @@ use Rattle.pv_graph.specs.declared.node.Op.TheVariants as op
 use Rattle.pv_denote.specs.Denote.{strict, reply_result, end_part, result_part, fault_part as fault_of_reply, heap_part, over_call}
 use Rattle.pv_equations.specs.Flow.{Part, Of, NoPart, More, call_token, PartIs, PartsAre, Throw, Chain, Leave, Waits}
 use Rattle.pv_runs.specs.Held.{Cell, Held, call_parts, after_call, with_result}
-use Rattle.pv_runs.specs.Matches.{StackIs}
+use Rattle.pv_outcomes.specs.Matches.{StackIs}
 use Rattle.pv_runs.specs.Chains.{to, throw, fault_part, unless_thrown}
-use Rattle.pv_runs.proofs.Ranges.{sort_range}
-use Rattle.pv_runs.proofs.Once.{parts_once}
-use Rattle.pv_runs.proofs.Values.{numbers_of, numbers_back, parts_are}
-use Rattle.pv_runs.proofs.Acts.{M, Operands}
-use Rattle.pv_runs.proofs.Lasts.{Leaves, comes, waits, thrown}
-use Rattle.pv_runs.proofs.Tests.{Tests, yes, no, clear_tests}
+use Rattle.pv_outcomes.proofs.Ranges.{sort_range}
+use Rattle.pv_outcomes.proofs.Once.{parts_once}
+use Rattle.pv_outcomes.proofs.Values.{numbers_of, numbers_back, parts_are}
+use Rattle.pv_outcomes.proofs.Acts.{M, Operands}
+use Rattle.pv_outcomes.proofs.Lasts.{Leaves, comes, waits, thrown}
+use Rattle.pv_outcomes.proofs.Tests.{Tests, yes, no, clear_tests}
 
 module _ (p : Program) (w : World) (x : Input) (σ : ℕ → Val) (world : IsWorld w) (unit : σ 0 ≡ val.Unit) (s : State) (h : Held) (f : Sym) (d : Descriptor) (nums : List Num) (cells : List Cell)
     (m : M p w x σ s h) (all : Operands p w x σ nums cells) where

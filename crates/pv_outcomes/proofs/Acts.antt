@@ -34,7 +34,8 @@ use Rattle.pv_machine.specs.Machine.{State, Now, running, next, pushes, stored, 
 use Rattle.pv_machine.proofs.Cited.{shown_gives, kept_some, no_nums, one_num}
 use Rattle.pv_graph.specs.declared.node.Op.TheVariants as op
 use Rattle.pv_denote.specs.Denote.{strict}
-use Rattle.pv_equations.specs.Flow.{Part, Of, NoPart, More, PartIs}
+use Rattle.pv_equations.specs.Flow.{Part, Of, NoPart, More}
+use Rattle.pv_conversion.specs.Runs.{PartIs}
 use Rattle.pv_runs.specs.Held.{Cell, Held, cell_sort, unset, number_part, parts_of, push, local_cell, increased_cell, acted_on, acted}
 use Rattle.pv_runs.specs.Clean.{IsClean}
 use Rattle.pv_runs.proofs.Cited.{IsSimple, lists_found, mapped, moved_both, popped_both, taken_found}

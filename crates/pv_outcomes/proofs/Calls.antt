@@ -26,7 +26,8 @@ use Rattle.pv_machine.specs.Machine.{State, called}
 use Rattle.pv_machine.proofs.Cited.{of_sort_type}
 use Rattle.pv_graph.specs.declared.node.Op.TheVariants as op
 use Rattle.pv_denote.specs.Denote.{strict, reply_result, end_part, result_part, fault_part as fault_of_reply, heap_part, over_call}
-use Rattle.pv_equations.specs.Flow.{Part, Of, NoPart, More, call_token, PartIs, PartsAre, Throw, Chain, Leave, Waits}
+use Rattle.pv_equations.specs.Flow.{Part, Of, NoPart, More, call_token, Throw, Chain, Leave}
+use Rattle.pv_conversion.specs.Runs.{PartIs, PartsAre, Waits}
 use Rattle.pv_runs.specs.Held.{Cell, Held, call_parts, after_call, with_result}
 use Rattle.pv_outcomes.specs.Matches.{StackIs}
 use Rattle.pv_runs.specs.Chains.{to, throw, fault_part, unless_thrown}

@@ -31,9 +31,10 @@ use Rattle.pv_flow.specs.Exits.{departures}
 use Rattle.pv_flow.proofs.Cited.{target_or_next, goes_to_successors}
 use Rattle.pv_loops.specs.declared.forest.Forest.{Forest}
 use Rattle.pv_equations.specs.Flow as flows
-use Rattle.pv_equations.specs.Flow.{PartIs, Kind, Dest, To, End, Exit, Chain, Leave, InChain, Flow, Chooses, Steps, Parts, call_token, PartsAre, Ends, Waits}
-use Rattle.pv_equations.specs.Root.{IsOutcome, Next, Goes as Onward, Stops, then as followed, after, MachineEnds, Carries}
-use Rattle.pv_equations.proofs.Cited.{chooses_in, after_rest}
+use Rattle.pv_equations.specs.Flow.{Kind, Dest, To, End, Exit, Chain, Leave, InChain, Flow, Parts, call_token}
+use Rattle.pv_conversion.specs.Runs.{PartIs, Chooses, Steps, PartsAre, Ends, Waits}
+use Rattle.pv_conversion.specs.Outcomes.{IsOutcome, Next, Goes as Onward, Stops, then as followed, after, MachineEnds, Carries}
+use Rattle.pv_conversion.proofs.Cited.{chooses_in, after_rest}
 use Rattle.pv_runs.specs.Held.{Held, held_at}
 use Rattle.pv_runs.specs.Chains.{to}
 use Rattle.pv_runs.specs.Blocks.{number_at, numbered_dest, numbered_exit, numbered}

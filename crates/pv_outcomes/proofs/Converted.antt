@@ -28,10 +28,12 @@ use Rattle.pv_denote.specs.Meaning.{Value}
 use Rattle.pv_graph.specs.Unfold.{UnfoldsAs}
 use Rattle.pv_graph.specs.Graphs.{Graph, form_at}
 use Rattle.pv_equations.specs.Exp.{Exp}
-use Rattle.pv_equations.specs.Flow.{To, Exit, Flow, Steps, Left, Waits, Runnable}
+use Rattle.pv_equations.specs.Flow.{To, Exit, Flow}
+use Rattle.pv_conversion.specs.Runs.{Steps, Left, Waits, Runnable}
 use Rattle.pv_equations.specs.Equations.{Values, form_of, AreEquations}
-use Rattle.pv_equations.specs.Root.{root_of, after, MachineEnds, Finishes}
-use Rattle.pv_equations.proofs.Cited.{graph_machine}
+use Rattle.pv_equations.specs.Root.{root_of}
+use Rattle.pv_conversion.specs.Outcomes.{after, MachineEnds, Finishes}
+use Rattle.pv_conversion.proofs.Cited.{graph_machine}
 use Rattle.pv_runs.specs.Clean.{IsCleanProgram}
 use Rattle.pv_runs.specs.Methods.{flow_of}
 use Rattle.pv_runs.specs.Laws.{IsRanked}

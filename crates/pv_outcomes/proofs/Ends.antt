@@ -42,7 +42,8 @@ use Rattle.pv_graph.specs.declared.node.Op.TheVariants as op
 use Rattle.pv_denote.specs.Denote.{strict}
 use Rattle.pv_denote.proofs.Cited.{wider, low_fits}
 use Rattle.pv_equations.specs.Flow as flow
-use Rattle.pv_equations.specs.Flow.{Part, Of, NoPart, More, PartIs, Exit, Chain, Leave, Chooses}
+use Rattle.pv_equations.specs.Flow.{Part, Of, NoPart, More, Exit, Chain, Leave}
+use Rattle.pv_conversion.specs.Runs.{PartIs}
 use Rattle.pv_runs.specs.Held.{Cell, Held, cell_sort, unit_part, null_part, acted_on, with_result}
 use Rattle.pv_runs.specs.Clean.{IsClean, EndsWell}
 use Rattle.pv_outcomes.specs.Matches.{InRange}

@@ -29,7 +29,8 @@ use Rattle.pv_machine.specs.Machine.{State, Now, throws, pushes, element_fault, 
 use Rattle.pv_graph.specs.declared.node.Op.TheVariants as op
 use Rattle.pv_denote.specs.Denote.{strict, result_part, reply_result, truth}
 use Rattle.pv_equations.specs.Flow as flow
-use Rattle.pv_equations.specs.Flow.{Part, Parts, Of, NoPart, More, PartIs, PartsAre, Exit, Chain, Leave, Chooses}
+use Rattle.pv_equations.specs.Flow.{Part, Parts, Of, NoPart, More, Exit, Chain, Leave}
+use Rattle.pv_conversion.specs.Runs.{PartIs, PartsAre, Chooses}
 use Rattle.pv_runs.specs.Held.{Held, null_part, int_part, push}
 use Rattle.pv_runs.specs.Chains.{to, throw, two_parts, ieq, ilt, aeq, start_part, is_part, fits_part, thrown_literal, with_held, unless_other, asks_class, unless_unfit, stores_ref}
 use Rattle.pv_outcomes.proofs.Values.{numbers_of, numbers_back}

@@ -32,8 +32,9 @@ use Rattle.pv_machine.specs.Machine.{State, Now, running, ended, goes, throws, p
 use Rattle.pv_graph.specs.declared.node.Op.TheVariants as op
 use Rattle.pv_denote.specs.Denote.{strict}
 use Rattle.pv_equations.specs.Flow as flow
-use Rattle.pv_equations.specs.Flow.{Part, Slot, Of, NoPart, More, PartIs, PartsAre, Kind, Return, Throw, Dest, To, End, Exit, Chain, Leave, Chooses, Waits}
-use Rattle.pv_equations.specs.Root.{IsOutcome}
+use Rattle.pv_equations.specs.Flow.{Part, Slot, Of, NoPart, More, Kind, Return, Throw, Dest, To, End, Exit, Chain, Leave}
+use Rattle.pv_conversion.specs.Runs.{PartIs, Chooses, Waits}
+use Rattle.pv_conversion.specs.Outcomes.{IsOutcome}
 use Rattle.pv_runs.specs.Held.{slots, Cell, Held, unit_part, null_part, int_part, parts_of, push}
 use Rattle.pv_outcomes.specs.Matches.{StackIs}
 use Rattle.pv_runs.specs.Chains.{to, throw, give, end_slots, ieq, ilt, aeq, is_zero, branch, switch, unless_null, within}

@@ -14,7 +14,7 @@ use Rattle.pv_frame.specs.Stacks.{fits, is_wide, last_local, has_room, first_cle
 use Rattle.pv_frame.specs.Effects.{sort_of_local}
 use Rattle.pv_frame.proofs.Cited.{fits_same}
 use Rattle.pv_machine.specs.Machine.{of_sort}
-use Rattle.pv_equations.specs.Flow.{PartIs}
+use Rattle.pv_conversion.specs.Runs.{PartIs}
 use Rattle.pv_runs.specs.Held.{Cell, cell_sort, unset, of_cell}
 use Rattle.pv_outcomes.specs.Matches.{InRange, StackIs, LocalIs}
 use Rattle.pv_denote.specs.Denote.{strict}

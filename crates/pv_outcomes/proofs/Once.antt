@@ -4,7 +4,8 @@ use Rattle.pv_value.specs.declared.world.World.{World}
 use Rattle.pv_value.specs.declared.outcome.Input.{Input}
 use Rattle.pv_value.specs.declared.outcome.Val.{Val}
 use Rattle.pv_denote.specs.Denote.{strict, truth}
-use Rattle.pv_equations.specs.Flow.{Part, Parts, Slot, Of, NoPart, More, PartIs, PartsAre, Exit, Chain, Leave, Test, Chooses, Waits}
+use Rattle.pv_equations.specs.Flow.{Part, Parts, Slot, Of, NoPart, More, Exit, Chain, Leave, Test}
+use Rattle.pv_conversion.specs.Runs.{PartIs, PartsAre, Chooses, Waits}
 
 module _ (w : World) (x : Input) (σ : ℕ → Val) where
   mutual

@@ -22,8 +22,9 @@ use Rattle.pv_frame.specs.Frames.{Flows}
 use Rattle.pv_machine.specs.Machine.{State, Now, running, step, perform_at, performed}
 use Rattle.pv_machine.specs.Runs.{frame_of}
 use Rattle.pv_denote.specs.Denote.{strict}
-use Rattle.pv_equations.specs.Flow.{Part, PartIs, Exit, Chain, InChain}
-use Rattle.pv_equations.specs.Root.{Goes as Onward, then as followed, after}
+use Rattle.pv_equations.specs.Flow.{Part, Exit, Chain, InChain}
+use Rattle.pv_conversion.specs.Runs.{PartIs}
+use Rattle.pv_conversion.specs.Outcomes.{Goes as Onward, then as followed, after}
 use Rattle.pv_runs.specs.Held.{local_slot, stack_slot, by_turns, slots, Cell, Held, local_part, stack_part, local_cells, stack_cells, held_at, slots_of}
 use Rattle.pv_runs.specs.Clean.{EndsWell, IsCleanProgram}
 use Rattle.pv_outcomes.specs.Matches.{InRange, StackIs, LocalIs, Matches}

@@ -23,7 +23,7 @@ use Rattle.pv_graph.specs.declared.node.Op.TheVariants as op
 use Rattle.pv_graph.specs.declared.node.OpSort.{OpSort}
 use Rattle.pv_graph.specs.declared.node.OpSort.TheVariants as opsort
 use Rattle.pv_denote.specs.Denote.{strict, number_of, param_of}
-use Rattle.pv_equations.specs.Flow.{Starts}
+use Rattle.pv_conversion.specs.Runs.{Starts}
 use Rattle.pv_runs.specs.Held.{local_slot}
 use Rattle.pv_outcomes.proofs.States.{LocalsHeld, At}
 use Rattle.pv_runs.specs.Entries.{param_ops, passed_ops, op_at, start_op}

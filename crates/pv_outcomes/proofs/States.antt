@@ -9,7 +9,7 @@ use Rattle.pv_frame.specs.declared.program.Program.{Program}
 use Rattle.pv_frame.specs.declared.frame.Frame.{Frame}
 use Rattle.pv_machine.specs.Machine.{State, Now, running, ended, step}
 use Rattle.pv_machine.specs.Runs.{IsTypedState}
-use Rattle.pv_equations.specs.Root.{Next, Goes, Stops}
+use Rattle.pv_conversion.specs.Outcomes.{Next, Goes, Stops}
 use Rattle.pv_runs.specs.Held.{local_slot, stack_slot}
 use Rattle.pv_outcomes.specs.Matches.{InRange}
 

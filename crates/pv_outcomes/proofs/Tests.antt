@@ -23,7 +23,8 @@ use Rattle.pv_machine.specs.Machine.{number_of, compares, tested}
 use Rattle.pv_graph.specs.declared.node.Op.TheVariants as op
 use Rattle.pv_denote.specs.Denote.{strict, truth, is_clear}
 use Rattle.pv_equations.specs.Flow as flow
-use Rattle.pv_equations.specs.Flow.{Part, Of, NoPart, More, PartIs, Exit, Chain, Chooses}
+use Rattle.pv_equations.specs.Flow.{Part, Of, NoPart, More, Exit, Chain}
+use Rattle.pv_conversion.specs.Runs.{PartIs, Chooses}
 use Rattle.pv_runs.specs.Held.{Cell, null_part, int_part}
 use Rattle.pv_outcomes.specs.Matches.{StackIs}
 use Rattle.pv_runs.specs.Chains.{ieq, ilt, aeq, is_zero, compared, test_part}

@@ -17,7 +17,8 @@ use Rattle.pv_frame.specs.declared.program.Program.{Program}
 use Rattle.pv_frame.proofs.Cited.{some_of}
 use Rattle.pv_machine.specs.Machine.{State}
 use Rattle.pv_equations.specs.Flow as flow
-use Rattle.pv_equations.specs.Flow.{Part, Parts, Of, NoPart, More, call_token, PartIs, PartsAre, Exit, Chain, Leave, InChain}
+use Rattle.pv_equations.specs.Flow.{Part, Parts, Of, NoPart, More, call_token, Exit, Chain, Leave, InChain}
+use Rattle.pv_conversion.specs.Runs.{PartIs, PartsAre}
 use Rattle.pv_runs.specs.Held.{Cell, Held, cell_sort, call_parts, acted_on}
 use Rattle.pv_runs.specs.Chains.{to, branch, switch, unless_thrown, test_part, chain_with, given_chain, last_chain, ends_method, chain_of}
 use Rattle.pv_runs.proofs.Cited.{Kept, acted_token, bound, mapped}

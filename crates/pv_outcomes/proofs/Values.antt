@@ -18,7 +18,7 @@ use Rattle.pv_machine.proofs.Cited.{shape, value_sort}
 use Rattle.pv_frame.specs.declared.sort.Sort.{Sort}
 use Rattle.pv_denote.specs.Denote as denote
 use Rattle.pv_denote.specs.Denote.{numbers, operand, scalar_on, scalar_value}
-use Rattle.pv_equations.specs.Flow.{PartsAre}
+use Rattle.pv_conversion.specs.Runs.{PartsAre}
 use Rattle.pv_runs.specs.Held.{Cell, cell_sort, parts_of}
 use Rattle.pv_outcomes.specs.Matches.{InRange, StackIs}
 use Rattle.pv_outcomes.proofs.Ranges.{value_range}

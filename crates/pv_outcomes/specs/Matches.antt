@@ -11,7 +11,7 @@ use Rattle.pv_value.specs.declared.outcome.Val.TheVariants as val
 use Rattle.pv_frame.specs.declared.sort.Sort.TheVariants as sort
 use Rattle.pv_frame.specs.Effects.{sort_of, sort_of_local}
 use Rattle.pv_machine.specs.Machine.{State}
-use Rattle.pv_equations.specs.Flow.{PartIs}
+use Rattle.pv_conversion.specs.Runs.{PartIs}
 use Rattle.pv_runs.specs.Held.{Cell, Held}
 
 -- an int has 32 bits; nothing is said of a long and a reference

@@ -8,8 +8,9 @@ use Rattle.pv_value.specs.declared.outcome.Outcome.TheVariants.{Returned, Threw}
 use Rattle.pv_value.specs.declared.outcome.Fault.{Fault}
 use Rattle.pv_value.specs.declared.heap.Heap.{Heap}
 use Rattle.pv_value.specs.declared.number.Num.{Num}
-use Rattle.pv_equations.specs.Flow.{Kind, Return, Throw, Dest, To, End, Exit, Flow, Steps, Runs, ends, goes}
-use Rattle.pv_equations.specs.Root.{IsOutcome, EndsWith, Next, Goes, Stops, then, after, MachineEnds, Carries}
+use Rattle.pv_equations.specs.Flow.{Kind, Return, Throw, Dest, To, End, Exit, Flow}
+use Rattle.pv_conversion.specs.Runs.{Steps, Runs, ends, goes}
+use Rattle.pv_conversion.specs.Outcomes.{IsOutcome, EndsWith, Next, Goes, Stops, then, after, MachineEnds, Carries}
 
 pub outcome_once : (k : Kind) (τ : ℕ → Val) (o p : Outcome) → IsOutcome k τ o → IsOutcome k τ p → o ≡ p
 outcome_once Return τ o p a b =

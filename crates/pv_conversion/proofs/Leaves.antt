@@ -11,9 +11,9 @@ use Rattle.pv_denote.specs.Denote.{Index, at_depth, strict}
 use Rattle.pv_equations.specs.Exp.{Exp, Over, NoExp, one, two, three, made}
 use Rattle.pv_equations.specs.Flow.{Part, put, To, Exit, Chain, Leave, Test, InChain, Flow, TokenPart, kept, calls, Shape}
 use Rattle.pv_equations.specs.Equations.{Target, Node, Back, Finish, Returning, Leaving, Place, On, Again, Header, Gone, Ended, Seen, Joins, IsChain, Values, outs, token_out, leaf, AtPlace, IsExit, IsTree, never_exp, AreEquations}
-use Rattle.pv_equations.specs.Meaning.{Meaning}
-use Rattle.pv_equations.proofs.Walks.{Walk, stop, go, IsNode, IsGoal, Walks, on_rank, walk_around}
-use Rattle.pv_equations.proofs.Follow.{some_inj, seen_once, seen_to, unit_value, node_leaf}
+use Rattle.pv_equations.proofs.Cited.{IsGoal, IsNode, Walk, Walks, go, on_rank, seen_once, seen_to, stop, walk_around}
+use Rattle.pv_conversion.specs.Meaning.{Meaning}
+use Rattle.pv_conversion.proofs.Follow.{some_inj, unit_value, node_leaf}
 
 pub never_none : (w : World) (x : Input) (vs : List Val) (u : Val) → strict w x op.Never vs ≡ Some u → ⊥
 unfolding strict

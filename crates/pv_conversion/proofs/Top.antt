@@ -16,14 +16,16 @@ use Rattle.pv_value.specs.declared.outcome.Fault.TheVariants as fault
 use Rattle.pv_value.specs.declared.outcome.Outcome.{Outcome}
 use Rattle.pv_value.specs.declared.outcome.Outcome.TheVariants.{Threw}
 use Rattle.pv_equations.specs.Exp.{Exp, Over, NoExp, Then, three, listed}
-use Rattle.pv_equations.specs.Flow.{Kind, Return, Throw, Flow, Shape, Runs, ends, goes, Starts, Runnable}
+use Rattle.pv_equations.specs.Flow.{Kind, Return, Throw, Flow, Shape}
+use Rattle.pv_conversion.specs.Runs.{Runs, ends, goes, Starts, Runnable}
 use Rattle.pv_equations.specs.Equations.{Finish, Returning, Values, or_else, tree_of, never_exp, AreEquations}
-use Rattle.pv_equations.specs.Meaning.{Meaning}
-use Rattle.pv_equations.specs.Root.{root_of, IsOutcome, EndsWith, Next, MachineEnds, Carries, Finishes}
-use Rattle.pv_equations.proofs.Follow.{done_next, starts_done, machine_to_graph}
-use Rattle.pv_equations.proofs.Leaves.{never_none}
-use Rattle.pv_equations.proofs.Run.{graph_to_machine}
-use Rattle.pv_equations.proofs.Machine.{blocks_machine}
+use Rattle.pv_conversion.specs.Meaning.{Meaning}
+use Rattle.pv_equations.specs.Root.{root_of}
+use Rattle.pv_conversion.specs.Outcomes.{IsOutcome, EndsWith, Next, MachineEnds, Carries, Finishes}
+use Rattle.pv_conversion.proofs.Follow.{done_next, starts_done, machine_to_graph}
+use Rattle.pv_conversion.proofs.Leaves.{never_none}
+use Rattle.pv_conversion.proofs.Run.{graph_to_machine}
+use Rattle.pv_conversion.proofs.Machine.{blocks_machine}
 
 end_same : (o p : Outcome) → vals.End o ≡ vals.End p → o ≡ p
 end_same o p e = cc

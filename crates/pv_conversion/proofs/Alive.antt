@@ -10,12 +10,11 @@ use Rattle.pv_denote.specs.Denote.{Index, at_depth, truth}
 use Rattle.pv_equations.specs.Exp.{Exp, Over, NoExp, one}
 use Rattle.pv_equations.specs.Flow.{Dest, To, End, Exit, InChain, Flow, Shape}
 use Rattle.pv_equations.specs.Equations.{Target, Back, Finish, Leaving, Place, On, Again, Header, Gone, Ended, Seen, Values, OfToken, IsTree, tree_of, never_exp, true_exp, false_exp, AreEquations}
-use Rattle.pv_equations.specs.Meaning.{Meaning}
-use Rattle.pv_equations.proofs.Moves.{about}
-use Rattle.pv_equations.proofs.Walks.{Walk, stop, go, walk_then, Boundary, Outside, OutWalk, IsGoal, Further, walk_around, out_walk, node_out, walk_widen, exit_out}
-use Rattle.pv_equations.proofs.Follow.{some_inj, given_is, seen_to, AgreesTo, Later, seen_heads}
-use Rattle.pv_equations.proofs.Leaves.{const_is, Leafs, tree_leaf, SomeAt, some_exit, some_walk}
-use Rattle.pv_equations.proofs.Aims.{EndsAt, PassIs, Chained, chain_snoc, Placed, far}
+use Rattle.pv_equations.proofs.Cited.{Boundary, Further, IsGoal, Later, OutWalk, Outside, Walk, about, exit_out, go, node_out, out_walk, seen_heads, seen_to, stop, walk_around, walk_then, walk_widen}
+use Rattle.pv_conversion.specs.Meaning.{Meaning}
+use Rattle.pv_conversion.proofs.Follow.{some_inj, given_is, AgreesTo}
+use Rattle.pv_conversion.proofs.Leaves.{const_is, Leafs, tree_leaf, SomeAt, some_exit, some_walk}
+use Rattle.pv_conversion.proofs.Aims.{EndsAt, PassIs, Chained, chain_snoc, Placed, far}
 
 -- a widened walk's blocks
 pub walk_widen_all : (f : Flow) (rank : ℕ → ℕ) (shape : Shape f rank) (F Q K : List ℕ) (b : ℕ) (H : List ℕ) (n : ℕ) → Walk f (F ++ Q) K b H n → f.around b ≡ K ++ (F ++ Q) → Walk f Q (K ++ F) b (H ++ F) n

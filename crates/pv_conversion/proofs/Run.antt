@@ -16,16 +16,15 @@ use Rattle.pv_value.specs.Worlds as worlds
 use Rattle.pv_value.specs.declared.name.Sym.{Sym}
 use Rattle.pv_equations.specs.Exp.{Exp, Over, NoExp, two, three, listed, made}
 use Rattle.pv_loops.specs.Ranks.{Heads}
-use Rattle.pv_equations.specs.Flow.{Part, Parts, call_token, put, put_all, PartIs, PartsAre, Kind, Dest, To, End, Exit, InChain, Flow, TokenPart, kept, calls, Shape, Chain, Leave, Test, Chooses, Steps, Left, Ends, Fails, Waits, Runs, ends, goes, Starts, Runnable}
+use Rattle.pv_equations.specs.Flow.{Part, Parts, call_token, put, put_all, Kind, Dest, To, End, Exit, InChain, Flow, TokenPart, kept, calls, Shape, Chain, Leave, Test}
+use Rattle.pv_conversion.specs.Runs.{PartIs, PartsAre, Chooses, Steps, Left, Ends, Fails, Waits, Runs, ends, goes, Starts, Runnable}
 use Rattle.pv_equations.specs.Equations.{Target, Node, Back, Finish, Leaving, Place, On, Again, Header, Gone, Ended, Seen, Joins, IsChain, IsExit, Values, outs, leaf, token_out, token_outs, AtPlace, IsTree, tree_of, never_exp, true_exp, false_exp, AreEquations, first_kid}
-use Rattle.pv_equations.specs.Meaning.{Meaning}
-use Rattle.pv_equations.proofs.Moves.{snoc_same, Goes, move}
-use Rattle.pv_equations.proofs.Walks.{Walk, stop, go, IsNode, OutWalk, IsGoal, on_rank, walk_rank, walk_around, node_out, header_back}
-use Rattle.pv_equations.proofs.Follow.{some_inj, given_is, seen_to, AgreesTo, put_value, put_all_values, Ends_chain, Follows, agrees_self, agrees_in, Here, chooses_in, goes_on, at_on, step_on, step_in, step_back, step_start}
-use Rattle.pv_equations.proofs.Leaves.{never_none, Stops, no_snoc, stops_or_on, SomeAt, chain_some, some_exit, some_walk, made_two, token_out_says, OfGoing, Evidence, Any, goal_leaf, goal_evidence}
-use Rattle.pv_equations.proofs.Aims.{EndsAt, Settled, settle, token_first, PassIs, Chained, chain_agree, chain_outs, Placed, far, peel}
-use Rattle.pv_equations.proofs.Alive.{goal_token, goal_later, NotNow, pass_no, pass_yes, yes_true, no_false, alive}
-use Rattle.pv_equations.proofs.Lands.{lands_header}
+use Rattle.pv_equations.proofs.Cited.{Goes, IsGoal, IsNode, OutWalk, Walk, go, header_back, lands_header, move, node_out, on_rank, seen_to, snoc_same, stop, walk_around, walk_rank}
+use Rattle.pv_conversion.specs.Meaning.{Meaning}
+use Rattle.pv_conversion.proofs.Follow.{some_inj, given_is, AgreesTo, put_value, put_all_values, Ends_chain, Follows, agrees_self, agrees_in, Here, chooses_in, goes_on, at_on, step_on, step_in, step_back, step_start}
+use Rattle.pv_conversion.proofs.Leaves.{never_none, Stops, no_snoc, stops_or_on, SomeAt, chain_some, some_exit, some_walk, made_two, token_out_says, OfGoing, Evidence, Any, goal_leaf, goal_evidence}
+use Rattle.pv_conversion.proofs.Aims.{EndsAt, Settled, settle, token_first, PassIs, Chained, chain_agree, chain_outs, Placed, far, peel}
+use Rattle.pv_conversion.proofs.Alive.{goal_token, goal_later, NotNow, pass_no, pass_yes, yes_true, no_false, alive}
 
 callend_done : (w : World) (x : Input) (s : Sym) (us : List Val) (z : Val) → strict w x (op.CallEnd s) us ≡ Some z → z ≡ vals.Unit
 unfolding strict

@@ -9,11 +9,10 @@ use Rattle.pv_denote.specs.Denote.{Index, at_depth}
 use Rattle.pv_equations.specs.Exp.{Exp, Over, one, two}
 use Rattle.pv_equations.specs.Flow.{put, Exit, InChain, Flow, Shape}
 use Rattle.pv_equations.specs.Equations.{Target, Node, On, Values, outs, token_out, token_outs, leaf, first_of_region, first_loops, tree_of, Given, FreeIn, AreEquations}
-use Rattle.pv_equations.specs.Meaning.{Meaning}
-use Rattle.pv_equations.proofs.Moves.{snoc_same, About, about}
-use Rattle.pv_equations.proofs.Walks.{Walk, stop, go, walk_then, IsNode, Walks, walk_around, walk_rank, walks_rank, walks_end, walk_split}
-use Rattle.pv_equations.proofs.Follow.{given_is, seen_to, AgreesTo, Later, Later_back, Ends, Ends_chain, Ends_refl, Follows, faith_here, agrees_self, token_outs_last}
-use Rattle.pv_equations.proofs.Leaves.{IsSnoc, snoc_of, no_snoc, tree_leaf, some_node, token_out_says, keeps_token, OfGoing, Evidence, Any, node_evidence}
+use Rattle.pv_equations.proofs.Cited.{About, IsNode, Later, Walk, Walks, about, go, seen_to, snoc_same, stop, walk_around, walk_rank, walk_split, walk_then, walks_end, walks_rank}
+use Rattle.pv_conversion.specs.Meaning.{Meaning}
+use Rattle.pv_conversion.proofs.Follow.{given_is, AgreesTo, Later_back, Ends, Ends_chain, Ends_refl, Follows, faith_here, agrees_self, token_outs_last}
+use Rattle.pv_conversion.proofs.Leaves.{IsSnoc, snoc_of, no_snoc, tree_leaf, some_node, token_out_says, keeps_token, OfGoing, Evidence, Any, node_evidence}
 
 app_none : (P E : List ℕ) (h : ℕ) → P ++ (E ++ h ∷ []) ≡ [] → ⊥
 app_none [] [] h e = absurd (cc)

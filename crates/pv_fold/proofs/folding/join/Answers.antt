@@ -1,8 +1,8 @@
 use Rattle.std.proofs.Common.{ℕ, Option, Some, sym, subst, subst₂}
 use Rattle.pv_terms.specs.Terms.{IsOfSort}
-use Rattle.pv_terms.specs.Fold.{IsMaybeOf, ReadsJoin}
-use Rattle.pv_terms.proofs.Folded.{join_one, join_phi, phi_has}
-use Rattle.pv_terms.proofs.folding.join.Goals as goal
+use Rattle.pv_fold.specs.Fold.{IsMaybeOf, ReadsJoin}
+use Rattle.pv_fold.proofs.Folded.{join_one, join_phi, phi_has}
+use Rattle.pv_fold.proofs.folding.join.Goals as goal
 
 pub returns-then-u-v-clause-reads : goal.returns-then-u-v-clause-reads
 returns-then-u-v-clause-reads c = join_one c.args.g.now c.args.test c.in-Some.u c.in-Some-no.v c.args.yes c.args.no c.in-Some.is c.in-Some-no.is c.if-u-v.true

@@ -1,7 +1,7 @@
 use Rattle.std.proofs.Common.{◌≡◌, length}
 use Rattle.pv_terms.specs.Terms.{Grows}
-use Rattle.pv_terms.specs.Fold.{ReadsFold, FoldKeepsSort}
-use Rattle.pv_terms.proofs.folding.fold.Given as goal
+use Rattle.pv_fold.specs.Fold.{ReadsFold, FoldKeepsSort}
+use Rattle.pv_fold.proofs.folding.fold.Given as goal
 
 abbrev pub invariant-loop-i : goal.invariant-loop-i
 invariant-loop-i l = record {

@@ -2,8 +2,8 @@ use Rattle.std.proofs.Common.{◌≡◌, ◌<◌, ◌∙◌, length, None, Some,
 use Rattle.std.proofs.lemmas.Option.{slice_get-get_or}
 use Rattle.std.proofs.lemmas.Result.{IfOk-weaker}
 use Rattle.pv_decide.specs.declared.tree.TreeNode.TheVariants as node
-use Rattle.pv_terms.proofs.Folded.{one_nothing, one_dead, one_test}
-use Rattle.pv_terms.proofs.folding.one.Goals as goal
+use Rattle.pv_fold.proofs.Folded.{one_nothing, one_dead, one_test}
+use Rattle.pv_fold.proofs.folding.one.Goals as goal
 
 pub returns-in-Leaf-clause-sort : goal.returns-in-Leaf-clause-sort
 returns-in-Leaf-clause-sort c s given made =

@@ -15,9 +15,8 @@ use Rattle.pv_decide.specs.Folds.{Folds, at_leaf, at_test, at_nothing, at_dead}
 use Rattle.pv_terms.specs.declared.names.Named.{Named}
 use Rattle.pv_terms.specs.Reads.{Reads}
 use Rattle.pv_terms.specs.Terms.{Grows, IsOfSort, ReadsOver}
-use Rattle.pv_terms.specs.Fold.{IsMaybeOf, AreMaybeOf, GivenSort, ReadsMaybe, ReadsJoin, AreGiven, ReadsOne, ReadsFold}
-use Rattle.pv_terms.proofs.Reading.{reads_once, reads_one, names_stand, extends_stand}
-use Rattle.pv_terms.proofs.Made.{reads_grown}
+use Rattle.pv_fold.specs.Fold.{IsMaybeOf, AreMaybeOf, GivenSort, ReadsMaybe, ReadsJoin, AreGiven, ReadsOne, ReadsFold}
+use Rattle.pv_terms.proofs.Cited.{reads_once, reads_one, names_stand, extends_stand, reads_grown}
 
 -- ---- sorts
 

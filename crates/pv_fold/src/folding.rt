@@ -3,11 +3,11 @@
 ghost use Rattle.std.specs.Prelude.{◌≡◌, ◌<◌, length, IfOk};
 ghost use Rattle.pv_graph.specs.Graphs.{IsGraph};
 ghost use Rattle.pv_terms.specs.Terms.{Grows, IsOfSort};
-ghost use Rattle.pv_terms.specs.Fold.{IsOrdered, IsMaybeOf, AreAlike, HaveOneSort, HaveOneSortWith, ReadsJoin, ReadsOne, ReadsFold, FoldKeepsSort, JoinKeepsSort, OneKeepsSort};
+ghost use Rattle.pv_fold.specs.Fold.{IsOrdered, IsMaybeOf, AreAlike, HaveOneSort, HaveOneSortWith, ReadsJoin, ReadsOne, ReadsFold, FoldKeepsSort, JoinKeepsSort, OneKeepsSort};
 
-use crate::terms::over;
 use pv_decide::TreeNode;
 use pv_graph::{Graph, NodeId, Op, OpSort};
+use pv_terms::over;
 use pv_value::Memory;
 use std::alloc::Global;
 

@@ -1,8 +1,8 @@
 use Rattle.std.proofs.Common.{◌∙◌, ℕ, ◌+◌, List, [], ◌∷◌, length, length-append, Option, ap, sym, subst}
-use Rattle.pv_terms.specs.Fold.{AreMaybeOf, ReadsOne, ReadsFold}
-use Rattle.pv_terms.proofs.Growing.{grows_then}
-use Rattle.pv_terms.proofs.Folded.{fold_more, given_sort_grown, sorts_push}
-use Rattle.pv_terms.proofs.folding.fold.Goals as goal
+use Rattle.pv_fold.specs.Fold.{AreMaybeOf, ReadsOne, ReadsFold}
+use Rattle.pv_terms.proofs.Cited.{grows_then}
+use Rattle.pv_fold.proofs.Folded.{fold_more, given_sort_grown, sorts_push}
+use Rattle.pv_fold.proofs.folding.fold.Goals as goal
 
 pub one-requires-clause-sorts : goal.one-requires-clause-sorts
 one-requires-clause-sorts c =

@@ -15,7 +15,8 @@ use Rattle.pv_denote.specs.Meaning.{Value}
 use Rattle.pv_graph.specs.Graphs.{Graph, form_at}
 use Rattle.pv_graph.specs.Unfold.{UnfoldsAs}
 use Rattle.pv_equations.specs.Exp.{Exp}
-use Rattle.pv_equations.specs.Flow.{Part, Slot, PartIs, Kind, Return, To, End, Exit, Flow, Chooses, Steps, Runs, ends, goes, Starts}
+use Rattle.pv_equations.specs.Flow.{Part, Slot, Kind, Return, To, End, Exit, Flow}
+use Rattle.pv_conversion.specs.Runs.{PartIs, Chooses, Steps, Runs, ends, goes, Starts}
 use Rattle.pv_equations.specs.Equations.{Values, form_of, AreEquations}
 use Rattle.pv_equations.specs.Root.{root_of}
 use Rattle.examples_flows.proofs.Flows.{Block, flow_of, exit_of, goes as goes_on, add_part, less_part, int_part}

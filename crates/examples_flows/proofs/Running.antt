@@ -6,7 +6,8 @@ use Rattle.pv_value.specs.declared.outcome.Input.{Input}
 use Rattle.pv_value.specs.declared.outcome.Val.{Val}
 use Rattle.pv_value.specs.declared.outcome.Val.TheVariants as vals
 use Rattle.pv_denote.specs.Denote.{strict, truth}
-use Rattle.pv_equations.specs.Flow.{Part, Parts, Slot, Of, NoPart, More, PartIs, PartsAre, Kind, Dest, To, End, Chooses, Steps, Runs, ends, goes}
+use Rattle.pv_equations.specs.Flow.{Part, Parts, Slot, Of, NoPart, More, Kind, Dest, To, End}
+use Rattle.pv_conversion.specs.Runs.{PartIs, PartsAre, Chooses, Steps, Runs, ends, goes}
 use Rattle.examples_flows.proofs.Flows.{Block, Way, Ways, Go, If, exit_of, chain_of, slots_of, block_at, flow_of, unit_part}
 
 -- the first slots; the others are unit

@@ -21,15 +21,17 @@ use Rattle.pv_graph.specs.declared.node.Op.{Op}
 use Rattle.pv_graph.specs.declared.node.Op.TheVariants as op
 use Rattle.pv_graph.specs.declared.node.OpSort.TheVariants as sort
 use Rattle.pv_denote.specs.Denote.{strict, truth, result_of, number_of}
-use Rattle.pv_equations.specs.Flow.{Part, Parts, Slot, Of, NoPart, More, PartIs, PartsAre, Kind, Return, Throw, Dest, To, End, Exit, InChain, Flow, call_token, Chooses, Steps, Starts, Runnable}
+use Rattle.pv_equations.specs.Flow.{Part, Parts, Slot, Of, NoPart, More, Kind, Return, Throw, Dest, To, End, Exit, InChain, Flow, call_token}
+use Rattle.pv_conversion.specs.Runs.{PartIs, PartsAre, Chooses, Steps, Starts, Runnable}
 use Rattle.pv_denote.specs.Denote.{Index}
 use Rattle.pv_denote.specs.Meaning.{Value}
 use Rattle.pv_graph.specs.Graphs.{Graph, form_at}
 use Rattle.pv_graph.specs.Unfold.{UnfoldsAs}
 use Rattle.pv_equations.specs.Exp.{Exp}
 use Rattle.pv_equations.specs.Equations.{Values, form_of, AreEquations}
-use Rattle.pv_equations.specs.Root.{root_of, IsOutcome, EndsWith, Finishes}
-use Rattle.pv_equations.proofs.Cited.{graph_blocks, chooses_in}
+use Rattle.pv_equations.specs.Root.{root_of}
+use Rattle.pv_conversion.specs.Outcomes.{IsOutcome, EndsWith, Finishes}
+use Rattle.pv_conversion.proofs.Cited.{graph_blocks, chooses_in}
 use Rattle.examples_flows.proofs.Tests.{and_parts, or_parts}
 use Rattle.examples_flows.proofs.Flows.{Block, Way, Ways, Go, If, exit_of, chain_of, slots_of, block_at, flow_of}
 use Rattle.examples_flows.proofs.Shapes.{all_below, below_true, all_ways, ways_true, is_slot, slot_true, less_true, rank_at, is_shaped, shaped, shape_is, below_top, deep}

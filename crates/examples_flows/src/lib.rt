@@ -1,4 +1,4 @@
-//! Worked examples of flows: what the definitions of `pv_equations` and `pv_runs` say of small ones.
+//! Worked examples of flows: what the definitions of `pv_equations`, `pv_conversion` and `pv_runs` say of small ones.
 //!
 //! There is no code, and nothing stands on this crate: it shows that the definitions mean what they are to mean. `proofs/Flows` writes
 //! small flows, and `Tests`, `Places`, `Evaluate` and `Shapes` have the checker compute what solves their equations. `Examples` has the solutions

@@ -32,7 +32,7 @@ use Rattle.pv_runs.specs.Held as parts
 use Rattle.pv_runs.specs.Chains.{chain_of}
 use Rattle.pv_runs.proofs.Cited.{turns_both, turns_local, turns_stack, Departs, has_exits, exit_departs, bound, sorts_held, HeldAt, Chained, chained_at, leads_typed}
 use Rattle.pv_runs.specs.Blocks.{place_chain}
-use Rattle.pv_runs.specs.Matches.{IsClean}
+use Rattle.pv_runs.specs.Clean.{IsClean}
 use Rattle.pv_block.specs.declared.held.Cell.{Cell}
 use Rattle.pv_block.specs.declared.held.Held.{Held}
 use Rattle.pv_block.specs.declared.ran.State.{State}

@@ -5,7 +5,7 @@ use Rattle.pv_frame.specs.declared.action.Action.TheVariants as act
 use Rattle.pv_frame.specs.declared.program.Program.{Program}
 use Rattle.pv_frame.specs.Programs.{IsAt}
 use Rattle.pv_frame.specs.Actions.{IsFloatlessMethod}
-use Rattle.pv_runs.specs.Matches.{IsClean}
+use Rattle.pv_runs.specs.Clean.{IsClean}
 
 -- a call has neither floats nor doubles
 abbrev pub IsFloatlessCall : Action → Type 0

@@ -86,7 +86,7 @@ pub use Rattle.pv_decide.specs.declared.tree.Target.{Target}
 pub use Rattle.pv_decide.specs.declared.tree.Tree.{Tree}
 pub use Rattle.pv_decide.specs.declared.tree.TreeNode.{TreeNode}
 pub use Rattle.pv_terms.proofs.Cited.{extends_stand, grows_by_then, grows_same, grows_then, grows_unchanged, grows_wider, name_last, names_stand, names_within, on_err, reads_stand, same_kids, same_node, same_op, sorted_within, stand_then, standing_reads, tied_stand, tying_unfolds}
-pub use Rattle.pv_terms.specs.Fold.{AreGiven, FoldKeepsSort, GivenSort, HaveOneSort, IsMaybeOf, ReadsFold, ReadsMaybe}
+pub use Rattle.pv_fold.specs.Fold.{AreGiven, FoldKeepsSort, GivenSort, HaveOneSort, IsMaybeOf, ReadsFold, ReadsMaybe}
 pub use Rattle.pv_terms.specs.Laws.{IsTiedName, IsUnfinishedName, Making, depths}
 pub use Rattle.pv_terms.specs.Reads.{AreNames, Reads, Stand, Within, named}
 pub use Rattle.pv_terms.specs.Terms.{Enlarges, Grows, GrowsBy, HasItsSort, IsFlat, IsFlatOrOut, IsOfSort, IsUnnamed, Keeps, KeepsSort, Opens, ReadsOut, ReadsOver, ReadsTokenOut, StayNames, has_depth}

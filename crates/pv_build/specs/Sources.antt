@@ -11,7 +11,7 @@ use Rattle.pv_decide.specs.Folds.{Folds}
 use Rattle.pv_terms.specs.declared.names.Named.{Named}
 use Rattle.pv_terms.specs.Reads.{Reads, AreNames}
 use Rattle.pv_terms.specs.Terms.{IsOfSort}
-use Rattle.pv_terms.specs.Fold.{IsOrdered, IsMaybeOf, ReadsMaybe}
+use Rattle.pv_fold.specs.Fold.{IsOrdered, IsMaybeOf, ReadsMaybe}
 use Rattle.pv_block.specs.Ran.{slot_at}
 use Rattle.pv_build.specs.declared.source.Given.{Given}
 use Rattle.pv_build.specs.declared.source.Source.{Source}

@@ -11,9 +11,10 @@ ghost use Rattle.pv_build.specs.States.{AreCellsOf, CellGives, CellFoldsToOne, C
 use crate::slot::{Part, Slot};
 use crate::source::{Given, given_nodes};
 use pv_block::{Cell, State};
+use pv_fold::fold;
 use pv_frame::{Frame, Sort};
 use pv_graph::{Graph, NodeId, Op};
-use pv_terms::{fold, over};
+use pv_terms::over;
 use pv_value::Memory;
 use std::alloc::Global;
 

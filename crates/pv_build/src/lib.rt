@@ -1,9 +1,9 @@
 //! From a method to the root of its graph.
 //!
 //! This layer stands on `pv_block`, which runs a block on nodes, on `pv_decide`, whose trees say by which
-//! exits a block is reached, and on `pv_terms`, which folds a tree and ties thetas. `structure` finds a
-//! method's blocks and loops; `specs/Structure` says which programs are structured, and for which cause
-//! others aren't.
+//! exits a block is reached, on `pv_fold`, which folds a tree, and on `pv_terms`, which ties thetas.
+//! `structure` finds a method's blocks and loops; `specs/Structure` says which programs are structured, and
+//! for which cause others aren't.
 //!
 //! The blocks are taken in the order of the forest, in which those of a loop stand together, one
 //! after another (`building`). What is held where a block is entered is what the method is given (`starting`), or
@@ -17,7 +17,7 @@
 //! `proofs/Lib` lists the lemmas pass by pass, in this order; `proofs/Words` brings them the words of which they speak.
 //!
 //! The layer above uses `convert`: its root unfolds as whatever solves the equations of the method's flow
-//! says (`IsRootOf` in `specs/Conversion`), so that by the laws of `pv_runs` it has the outcomes of the
+//! says (`IsRootOf` in `specs/Conversion`), so that by the law of `pv_outcomes` it has the outcomes of the
 //! method; or it gives the cause why the method has no root, those of `pv_frame` before those of its blocks.
 #![tactic(auto)]
 

@@ -4,7 +4,7 @@ use Rattle.pv_equations.specs.Exp.{Exp, Then, made}
 use Rattle.pv_loops.specs.Ranks.{Heads}
 use Rattle.pv_equations.specs.Flow.{Part, Parts, Slot, Of, NoPart, More, put, put_all, Kind, Return, Throw, To, Exit, Chain, Leave, Test, InChain, Flow, Shape, Compact}
 use Rattle.pv_equations.specs.Equations.{Target, Node, Back, Finish, Returning, Leaving, Place, On, Again, Header, Gone, Ended, Seen, Joins, IsChain, Values, outs, leaf, AtPlace, IsExit, IsTree, never_exp, AreTrees}
-use Rattle.pv_equations.proofs.Follow.{seen_once, seen_to}
+use Rattle.pv_equations.proofs.Seen.{seen_once, seen_to}
 use Rattle.pv_equations.proofs.Moves.{split_app, About, about, other_loop}
 use Rattle.pv_equations.proofs.Walks.{IsNode, Walk, stop, go, on_rank, walk_rank, walk_around}
 use Rattle.pv_equations.proofs.Same.{Done, Names, LoopsAgree, AllDone, put_names, outs_same, tokens_same}

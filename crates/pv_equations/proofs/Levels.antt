@@ -1,22 +1,17 @@
 -- In a value at a block no depth is free but those of the loops around it; so `free` sees all.
-use Rattle.std.proofs.Common.{◌≡◌, ◌≢◌, ℕ, zero, suc, ◌+◌, ◌<◌, ◌≤◌, Bool, true, false, pos, List, [], ◌∷◌, ◌++◌, length, Option, Some, None, ◌⊎◌, ◌↔◌, inl, inr, ⊎_elim, refl, sym, ap, ◌∙◌, subst, append-nil, append_assoc, arith, ◌==◌, if◌then◌else◌, le_refl}
+use Rattle.std.proofs.Common.{◌≡◌, ◌≢◌, ℕ, zero, suc, ◌+◌, ◌<◌, ◌≤◌, Bool, true, false, pos, List, [], ◌∷◌, ◌++◌, length, Option, Some, None, ◌⊎◌, inl, inr, ⊎_elim, refl, sym, ap, ◌∙◌, subst, append-nil, append_assoc, arith, ◌==◌, if◌then◌else◌, le_refl}
 use Rattle.std.proofs.lemmas.Bool.Decides.{nat_tests}
-use Rattle.pv_value.specs.declared.world.World.{World}
-use Rattle.pv_value.specs.declared.outcome.Input.{Input}
 use Rattle.pv_graph.specs.declared.node.Op.{Op}
 use Rattle.pv_graph.specs.declared.node.Op.TheVariants as op
 use Rattle.pv_graph.specs.Ops as ops
-use Rattle.pv_denote.specs.Denote.{Value}
 use Rattle.pv_graph.specs.Walks.{In, open_kids}
-use Rattle.pv_denote.proofs.Cited.{den_makes, value_once, value_says, not_free}
 use Rattle.pv_equations.specs.Exp.{Exp, Exps, Name, Over, NoExp, Then, one, two, three, listed, made}
 use Rattle.pv_loops.specs.Ranks.{Heads}
 use Rattle.pv_equations.specs.Flow.{Part, Parts, Slot, Of, NoPart, More, put, put_all, Return, Throw, Exit, Chain, Leave, Test, InChain, Flow, Shape}
-use Rattle.pv_equations.specs.Equations.{Target, Node, Back, Finish, Returning, Leaving, Place, On, Header, Gone, Ended, Seen, Joins, IsChain, Values, outs, token_out, token_outs, leaf, AtPlace, IsExit, IsTree, first_of_region, first_loops, tree_of, Given, form_of, FreeIn, theta, name, entered, begun, kid, never_exp, true_exp, false_exp, AreEquations, first_kid}
-use Rattle.pv_equations.specs.Meaning.{Meaning}
-use Rattle.pv_equations.proofs.Follow.{Later, seen_to}
+use Rattle.pv_equations.specs.Equations.{Target, Node, Back, Finish, Returning, Leaving, Place, On, Header, Gone, Ended, Seen, Joins, IsChain, Values, outs, token_out, token_outs, leaf, AtPlace, IsExit, IsTree, first_of_region, first_loops, tree_of, Given, FreeIn, theta, name, entered, begun, kid, never_exp, true_exp, false_exp, AreEquations, first_kid}
+use Rattle.pv_equations.proofs.Seen.{Later, seen_to}
 use Rattle.pv_equations.proofs.Walks.{on_rank}
-use Rattle.pv_equations.proofs.Free.{FreeAll, found}
+use Rattle.pv_equations.proofs.Free.{FreeAll}
 
 dec : (a b : ℕ) → (a ≡ b) ⊎ (a ≢ b)
 dec a b = grind arith
@@ -336,15 +331,3 @@ module _ (f : Flow) (v : Values) (rank : ℕ → ℕ) (eqs : AreEquations f v) (
   -- THE RULE ON FREE DEPTHS: a depth by which `free` doesn't find a theta isn't free at all
   pub free_seen : (n : ℕ) (a : Exp) (d : ℕ) → FA d n a → FreeIn f v d a
   free_seen n a d h = (levels (suc n) n (omega arith)).2 a d h
-
-  pub meaning : (w : World) (x : Input) → Meaning w x (Value (form_of f v) w x) f v
-  meaning w x = record {
-    makes = λ o es i u h. den_makes (form_of f v) w x (Over o es) i u o (listed es) refl h;
-    says = λ o es i u h. value_says (form_of f v) w x (Over o es) i u o (listed es) refl h;
-    once = λ a i u z p q. value_once (form_of f v) w x a i u z p q;
-    tied = λ h s B i u ah c. subst (λ (A : List ℕ). Value (form_of f v) w x (Name h s) i u ↔ Value (form_of f v) w x (Over (op.Theta (length A)) (two (first_kid v h s) (v.again h s))) i u) ah (
-      (λ y. den_makes (form_of f v) w x _ i u _ _ refl (value_says (form_of f v) w x (Name h s) i u (op.Theta (length (f.around h))) (first_kid v h s ∷ v.again h s ∷ []) refl y)),
-      (λ y. den_makes (form_of f v) w x (Name h s) i u (op.Theta (length (f.around h))) (first_kid v h s ∷ v.again h s ∷ []) refl (value_says (form_of f v) w x _ i u _ _ refl y)),
-    );
-    unfree = λ d k a i u free h. (not_free (form_of f v) w x a i d k u (λ z. let r = found f v d a z in free (free_seen r.0 a d r.1))).1 h;
-  }

@@ -1,26 +1,26 @@
+-- where exits come to, seen from a region, and the walks through it
 pub mod Lands
-pub mod Follow
+pub mod Seen
 pub mod Moves
 pub mod Walks
-pub mod Leaves
-pub mod Aims
-pub mod Alive
-pub mod Run
-pub mod Machine
-pub mod Top
+-- the tree from a block is one
+pub mod Once
+-- which depths are free
 pub mod Free
 pub mod Levels
-pub mod Once
 pub mod Unfolded
-pub mod Law
+-- two solutions unfold equally
 pub mod Same
 pub mod Agree
 pub mod Unique
+-- there is a solution
 pub mod Search
 pub mod Reached
+pub mod Decide
 pub mod Within
 pub mod Bare
 pub mod Build
 pub mod Exists
-pub mod Decide
+-- the laws, and what other crates cite
+pub mod Law
 pub mod Cited

@@ -4,7 +4,7 @@ use Rattle.pv_equations.proofs.Lands.{same_or_longer, lands_on, lands_in, lands_
 use Rattle.pv_loops.specs.Ranks.{Heads}
 use Rattle.pv_equations.specs.Flow.{Dest, To, End, Exit, InChain, Flow, Edge, Shape}
 use Rattle.pv_equations.specs.Equations.{Place, On, Again, Header, Gone, Ended, Lands, Seen}
-use Rattle.pv_equations.proofs.Follow.{seen_once}
+use Rattle.pv_equations.proofs.Seen.{seen_once}
 
 pub split_app : (F R C D : List ℕ) → F ++ R ≡ C ++ D → ((X : List ℕ) × (F ≡ C ++ X) × (D ≡ X ++ R)) ⊎ ((c : ℕ) × (X : List ℕ) × (C ≡ F ++ c ∷ X) × (R ≡ c ∷ (X ++ D)))
 split_app F R [] D e = inl (F, refl, sym e)

@@ -3,7 +3,7 @@ use Rattle.std.proofs.Common.{◌≡◌, ◌≢◌, ℕ, List, [], ◌∷◌, Op
 use Rattle.pv_equations.specs.Exp.{Exp}
 use Rattle.pv_equations.specs.Flow.{Part, put, Kind, Return, Throw, Exit, Chain, Leave, Test, Flow}
 use Rattle.pv_equations.specs.Equations.{Target, Node, Back, Finish, Returning, Leaving, Place, On, Again, Header, Gone, Ended, Joins, IsChain, Values, outs, AtPlace, IsExit, IsTree}
-use Rattle.pv_equations.proofs.Follow.{seen_once}
+use Rattle.pv_equations.proofs.Seen.{seen_once}
 
 joins_once : (c : Exp) (a b r q : Option Exp) → Joins c a b r → Joins c a b q → r ≡ q
 joins_once c None b r q h k = h ∙ sym k

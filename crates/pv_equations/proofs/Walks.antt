@@ -4,7 +4,7 @@ use Rattle.pv_equations.proofs.Lands.{lands_on, lands_in, lands_header}
 use Rattle.pv_loops.specs.Ranks.{Heads}
 use Rattle.pv_equations.specs.Flow.{Dest, To, End, Exit, InChain, Flow, LeadsBack, turns, passes, Shape}
 use Rattle.pv_equations.specs.Equations.{Target, Back, Finish, Place, On, Again, Header, Gone, Ended, Lands, Seen, Hits, Ahead, now, later}
-use Rattle.pv_equations.proofs.Follow.{seen_to}
+use Rattle.pv_equations.proofs.Seen.{seen_to}
 use Rattle.pv_equations.proofs.Moves.{snoc_split, About, Goes, other_loop, move, about}
 
 -- blocks that the region's walk goes through, from b inside the loops F

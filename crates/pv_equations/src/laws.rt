@@ -1,12 +1,6 @@
 //! The laws of the equations, each as the contract of a function that does nothing.
 
-ghost use Rattle.pv_equations.specs.Laws.{Conversion, Solvable, Unique, TreesOnce, FreeFound};
-
-/// A node that unfolds as the root of a flow's equations has, at every index, the values with which runs
-/// of the flow end, and no others. Then the graph may stand for the method.
-pub fn law_conversion()
-    ensures { Conversion }
-{}
+ghost use Rattle.pv_equations.specs.Laws.{Solvable, Unique, TreesOnce, FreeFound};
 
 /// The equations of a flow with finitely many blocks and slots have a solution, and a node that unfolds as
 /// the root of one solution unfolds as the root of each other one.

@@ -26,7 +26,8 @@ use Rattle.pv_alike.specs.Least.{Rooted}
 use Rattle.pv_alike.proofs.Cited.{first_means, second_means}
 use Rattle.pv_loops.specs.declared.forest.TheConstants.{MAX_DEPTH}
 use Rattle.pv_runs.specs.Methods.{flow_of}
-use Rattle.pv_runs.proofs.Cited.{method_ranked, method_converts}
+use Rattle.pv_runs.proofs.Cited.{method_ranked}
+use Rattle.pv_outcomes.proofs.Cited.{method_converts}
 use Rattle.pv_build.specs.Unfolded.{none_of}
 use Rattle.pv_build.specs.Conversion.{Form, IsRootOf}
 use Rattle.pv_report.specs.Roots.{HaveRoots, HaveLeast}

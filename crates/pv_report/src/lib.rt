@@ -3,7 +3,7 @@
 //! This layer stands on `pv_build`, which converts two methods into one graph, on `pv_alike`, which makes the least graph of their
 //! roots, on `pv_counted`, which clears it of tokens that end because of counted loops, on `pv_prove`, which searches for a proof that
 //! the roots are equal, on `pv_certify`, which gives the steps of that proof, and on those below them; that a root has the outcomes of
-//! its method is a law of `pv_runs`. `pv_token` shows names and writes numbers.
+//! its method is a law of `pv_outcomes`. `pv_token` shows names and writes numbers.
 //! `specs/` says which method is the partner of another (`Partners`), what the least graph of two methods' roots is
 //! (`Roots`), by which axioms, within which limits and in which graphs a search may find them equal (`Options`), what is said of a method
 //! with these options (`Verdicts`), what the lines are (`Lines`), what a report is (`Report`), and which numbers the statuses have

@@ -30,7 +30,7 @@ use Rattle.pv_runs.specs.Chains.{to, throw, give, compared, branch, switch, test
 use Rattle.pv_runs.specs.Blocks.{acted_along}
 use Rattle.pv_runs.proofs.Options.{mapped, bound}
 use Rattle.pv_runs.proofs.Related.{popped_both, moved_both, taken_found, lists_found}
-use Rattle.pv_runs.proofs.Runs.{turns_both}
+use Rattle.pv_runs.proofs.Turns.{turns_both}
 
 -- ---- numbers of slots
 

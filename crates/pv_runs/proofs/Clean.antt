@@ -1,6 +1,10 @@
 -- The actions of a program are clean.
-use Rattle.std.proofs.Common.{◌≡◌, ℕ, zero, suc, ◌+◌, true, false, List, [], ◌∷◌, Option, Some, None, refl, sym, subst, inl, inr, lit<, lit≤}
-use Rattle.std.specs.Int.{w8, w16, w32}
+use Rattle.std.proofs.Common.{◌≡◌, ℕ, zero, suc, ◌+◌, ◌-◌, ◌≤◌, pos, negsuc, Bool, arith, true, false, List, [], ◌∷◌, Option, Some, None, refl, sym, subst, inl, inr, lit<, lit≤}
+use Rattle.std.specs.Int.{w8, w16, w32, cast_signed}
+use Rattle.std.proofs.Math.Facts.{sfits_to_z}
+use Rattle.std.proofs.Math.Dec.{ltb}
+use Rattle.std.proofs.lemmas.Bool.{cases_lt, ltb-true}
+use mir.Val.{sel}
 use Rattle.std.specs.Prelude.{◌==◌, ◌||◌, FitsSigned, option_map, if◌then◌else◌, slice_get}
 use Rattle.std.specs.List.{AllZip, AllByRecursion}
 use Rattle.pv_value.specs.declared.name.Sym.{Sym}
@@ -32,8 +36,15 @@ use Rattle.pv_frame.proofs.Cited.{some_of, no_some}
 use Rattle.pv_value.specs.Spelled.{field_type}
 use Rattle.pv_value.proofs.Cited.{field_spelled, receivers_apart}
 use Rattle.pv_denote.proofs.Cited.{wider}
-use Rattle.pv_runs.specs.Matches.{IsClean}
-use Rattle.pv_runs.proofs.Ranges.{signed_range}
+use Rattle.pv_runs.specs.Clean.{IsClean}
+
+-- a number read in two's complement, also one that has more than 32 bits
+signed_range : (n : ℕ) → FitsSigned w32 (cast_signed w32 n)
+signed_range n = elim (cases_lt n 4294967296) [ inl lt ↦ sfits_to_z {w = w32} {n = n} (record { fits = lt }) | inr ge ↦ above (ltb n 2147483648) refl ge ]
+  where
+    above : (b : Bool) → ltb n 2147483648 ≡ b → 4294967296 ≤ n → FitsSigned w32 (sel b (pos n) (negsuc (4294967296 - suc n)))
+    above true e ge = let lt = ltb-true n 2147483648 e in absurd (omega arith)
+    above false e ge = record { sfits = omega arith }
 
 row_has : {A : Type 0} (P : A → Type 0) (rows : List (ℕ × A)) → AllByRecursion (λ r. P r.1) rows → (opcode : ℕ) (x : A) → row_of rows opcode ≡ Some x → P x
 row_has P [] all opcode x e = no_some x e

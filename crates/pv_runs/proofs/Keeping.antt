@@ -21,7 +21,7 @@ use Rattle.pv_equations.specs.Flow.{Part, Slot, To, Exit, InChain, TokenPart, ke
 use Rattle.pv_runs.specs.Held.{local_place, local_slot, by_turns, Cell, Held, local_part, stack_part, slots_of, local_cells, stack_cells, held_at, call_parts, acted_on}
 use Rattle.pv_runs.specs.Blocks.{held_first, block_chain}
 use Rattle.pv_runs.specs.Carrying.{writes_along, block_writes, always_carried, members_of, writes_in, carries}
-use Rattle.pv_runs.proofs.Runs.{turns_local}
+use Rattle.pv_runs.proofs.Turns.{turns_local}
 use Rattle.pv_runs.proofs.Tokens.{acted_token}
 use Rattle.pv_runs.proofs.Departures.{Departs, exit_departs}
 use Rattle.pv_runs.proofs.Edges.{ExitOf, exit_of, goes_place, placed, no_exit}

@@ -20,7 +20,7 @@ use Rattle.pv_runs.specs.Carrying.{holds_wide, writes_local, writes_heap, writes
 use Rattle.pv_runs.specs.Blocks.{acted_along}
 use Rattle.pv_runs.proofs.Tokens.{Kept, acted_token}
 use Rattle.pv_runs.proofs.Options.{mapped, bound}
-use Rattle.pv_runs.proofs.Runs.{turns_local}
+use Rattle.pv_runs.proofs.Turns.{turns_local}
 
 -- ---- locals
 

@@ -1,29 +1,21 @@
+-- what operands and slots have in common, whatever stands in them
 pub mod Options
-pub mod States
-pub mod Ranges
 pub mod Related
-pub mod Locals
-pub mod Values
-pub mod Acts
-pub mod Tests
-pub mod Lasts
-pub mod Once
-pub mod Calls
-pub mod Facts
-pub mod Ends
-pub mod Tokens
-pub mod Runs
+pub mod Turns
+-- the actions of a method's program, one by one
 pub mod Clean
-pub mod Starts
+pub mod Actions
+pub mod Tokens
+-- each block has its chain, whose exits are the edges of the flow
+pub mod Frames
+pub mod Typed
 pub mod Departures
 pub mod Edges
+-- what chains name and what blocks leave as it is, so that the flow is ranked and finite
+pub mod Below
 pub mod Kept
 pub mod Members
-pub mod Frames
-pub mod Below
 pub mod Keeping
-pub mod Typed
-pub mod Carried
 pub mod Ranked
-pub mod Converted
+-- what other crates cite
 pub mod Cited

@@ -28,10 +28,10 @@ use Rattle.pv_equations.specs.Flow.{Part, Exit, Chain}
 use Rattle.pv_runs.specs.Held.{Cell, Held, cell_sort, unset, of_cell, int_part, push, increased_cell, local_cells, stack_cells, held_at, with_result, acted_on, acted}
 use Rattle.pv_runs.specs.Chains.{to, branch, test_part, chain_with, given_chain, last_chain, ends_method, chain_of}
 use Rattle.pv_runs.specs.Blocks.{acted_along, place_chain}
-use Rattle.pv_runs.specs.Matches.{IsClean}
+use Rattle.pv_runs.specs.Clean.{IsClean}
 use Rattle.pv_runs.proofs.Frames.{no_successor, each_of}
-use Rattle.pv_runs.proofs.States as states
-use Rattle.pv_runs.proofs.States.{IsSimple, IsBlock}
+use Rattle.pv_runs.proofs.Actions as actions
+use Rattle.pv_runs.proofs.Actions.{IsSimple, IsBlock}
 
 -- ---- the sorts of what is held
 
@@ -334,7 +334,7 @@ module _ (p : Program) (frames : List (Option Frame)) (well_typed : AreFrames p 
   along : (first last : ℕ) → IsSpan p first last → (n k : ℕ) (h : Held) → first ≤ k → k + n ≡ last → HeldAt k h → Along n k last h
   along first last span zero k h le e t =
       let here : k ≡ last = omega arith in
-      record { held = h; is = refl; typed = subst (λ (j : ℕ). HeldAt j h) here t; block = λ c a at ch. subst (λ (j : ℕ). IsBlock p j h c) (sym here) (states.ends last h a c at ch) }
+      record { held = h; is = refl; typed = subst (λ (j : ℕ). HeldAt j h) here t; block = λ c a at ch. subst (λ (j : ℕ). IsBlock p j h c) (sym here) (actions.ends last h a c at ch) }
   along first last span (suc n) k h le e t =
       let x = next_of k h t (span.whole (suc k) (omega arith) (omega arith)) in
       let rest = along first last span n (suc k) x.after (omega arith) (omega arith) x.next in
@@ -342,7 +342,7 @@ module _ (p : Program) (frames : List (Option Frame)) (well_typed : AreFrames p 
         held = rest.held;
         is = ap (λ (o : Option Action). o >>= λ a. acted a h >>= λ g. acted_along p n (suc k) g) x.at ∙ ap (λ (o : Option Held). o >>= λ g. acted_along p n (suc k) g) x.is ∙ rest.is;
         typed = rest.typed;
-        block = λ c a at ch. states.goes_on k h x.after x.action c x.at x.simple x.is (rest.block c a at ch);
+        block = λ c a at ch. actions.goes_on k h x.after x.action c x.at x.simple x.is (rest.block c a at ch);
       }
 
   last_chain_is : (k : ℕ) (a : Action) (h : Held) → IsAt p k a → HeldAt k h → HasChain (chain_of p.desc.result k a h)

@@ -5,5 +5,5 @@ pub mod Blocks
 pub mod Carrying
 pub mod Entries
 pub mod Methods
-pub mod Matches
+pub mod Clean
 pub mod Laws

@@ -4,5 +4,4 @@ pub mod Freed
 pub mod Growing
 pub mod Made
 pub mod Naming
-pub mod Folded
 pub mod Cited

@@ -2,4 +2,3 @@
 pub mod Reads
 pub mod Laws
 pub mod Terms
-pub mod Fold

@@ -13,14 +13,11 @@
 //! whose inner loops are tied, `Graph::free_growing` tells whether the depth of the loop is free in an
 //! expression (`law_free`). The contracts of `over`, `both`, `begin_name`, `out` and `token_out` say, for whatever the
 //! kids stand for, what the new node stands for and its sort, and that the graph only grows (`specs/Terms`).
-//! `fold` does so with a decision tree, node by node (`specs/Fold`).
 #![tactic(auto)]
 
-mod folding;
 pub mod laws;
 mod names;
 mod terms;
 
-pub use folding::fold;
 pub use names::{Named, Names};
 pub use terms::{begin_name, both, out, over, token_out};

@@ -1,6 +1,6 @@
 use Rattle.std.proofs.Common.{◌≡◌, ℕ, ◌-◌, List, get_or, length, sym, ap, ◌∙◌, subst}
 use Rattle.pv_build.proofs.Words.{TreeNode, Source, HaveOneSort, ReadsFold, FoldKeepsSort, number, given_nodes, MaybeReads, MaybeSorted}
-use Rattle.pv_terms.specs.Fold.{IsOrdered}
+use Rattle.pv_fold.specs.Fold.{IsOrdered}
 use Rattle.pv_build.proofs.Folding.{given_length, have_one, root_reads, root_sorted}
 use Rattle.pv_build.proofs.entering.fold_slot.Goals as goal
 

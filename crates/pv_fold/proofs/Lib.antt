@@ -1,0 +1,2 @@
+-- what the nodes stand for
+mod Folded

@@ -1,0 +1,12 @@
+use Rattle.std.proofs.Common.{◌≡◌, length}
+use Rattle.pv_terms.specs.Terms.{Grows}
+use Rattle.pv_fold.specs.Fold.{ReadsFold, FoldKeepsSort}
+use Rattle.pv_fold.proofs.folding.fold.Given as goal
+
+abbrev pub invariant-loop-i : goal.invariant-loop-i
+invariant-loop-i l = record {
+  count : length l.made.items ≡ l.i;
+  grows : Grows l.fn.g l.g;
+  reads : ReadsFold l.fn.g l.tree l.given l.dead l.g l.made.items;
+  sort : FoldKeepsSort l.fn.g l.tree l.given l.dead l.g l.made.items;
+}

@@ -1,0 +1,2 @@
+-- what public contracts and laws say
+pub mod Fold

@@ -1,0 +1,4 @@
+-- what public contracts and laws say
+pub mod Laws
+-- the vocabulary of proofs
+pub mod Matches

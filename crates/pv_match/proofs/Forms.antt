@@ -1,7 +1,7 @@
 -- The first node of each form in each class is kept, and nothing that a class holds is lost.
-use Rattle.std.proofs.Common.{◌≡◌, ◌⊎◌, ℕ, zero, suc, ◌<◌, Bool, List, [], ◌∷◌, ◌++◌, map, length, Option, Some, None, slice_get, inl, inr, refl, sym, ap, ◌∙◌, subst, arith}
-use Rattle.std.specs.List.{AllZip, Contains}
-use Rattle.std.proofs.lemmas.Option.{slice_get_within, slice_get-get_or, same_Some, none-some}
+use Rattle.std.proofs.Common.{◌≡◌, ◌⊎◌, ℕ, zero, suc, ◌<◌, Bool, List, [], ◌∷◌, ◌++◌, map, Option, Some, None, slice_get, inl, inr, refl, sym, ap, ◌∙◌, subst, arith}
+use Rattle.std.specs.List.{AllZip}
+use Rattle.std.proofs.lemmas.Option.{slice_get_within, same_Some, none-some}
 use Rattle.pv_graph.specs.declared.node.Op.{Op}
 use Rattle.pv_graph.specs.declared.node.Node.{Node}
 use Rattle.pv_graph.specs.Nodes.{node_of}
@@ -10,8 +10,7 @@ use Rattle.pv_graph.specs.Graphs.{Graph, form_at}
 use Rattle.pv_graph.proofs.Cited.{node_at, form_there, same_or_other}
 use Rattle.pv_classes.specs.Partition.{AreOne}
 use Rattle.pv_classes.specs.Forms as forms
-use Rattle.pv_heights.specs.SameClasses.{IsCongruence}
-use Rattle.pv_heights.specs.Searches.{nodes, IsNode, OneClass, base_view}
+use Rattle.pv_heights.specs.Searches.{nodes}
 use Rattle.pv_marks.specs.Classes.{class_of, HasForm}
 use Rattle.pv_match.specs.Kept.{IsKept, KeepsForms, AddsKept}
 use Rattle.pv_match.proofs.Adding.{in_left, in_right, in_both}

@@ -12,7 +12,7 @@ use Rattle.std.proofs.Common.{inl, inr, sym, ap, ◌∙◌, subst, arith, tests}
 use Rattle.std.proofs.lemmas.List.{length-take, take_all}
 use Rattle.pv_graph.specs.Walks.{In}
 use Rattle.pv_match.specs.declared.found.Match.{Match}
-use Rattle.pv_match.specs.Orders.{match_cmp, AreOne}
+use Rattle.pv_match.specs.Orders.{match_cmp}
 use Rattle.pv_match.specs.Gathering.{HasOne, AreFrom, GathersAll}
 use Rattle.pv_match.proofs.Ordered.{ordered}
 

@@ -3,6 +3,7 @@ pub mod Reading
 pub mod Parameters
 pub mod AllMatches
 pub mod Orders
+pub mod OrderLaws
 -- matches by the numbers of classes, as this crate's own functions speak of them
 pub mod Standing
 pub mod Matches

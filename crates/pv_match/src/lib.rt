@@ -22,7 +22,8 @@
 //! for each variable. A binding of the whole left side whose conditions hold is a match (`matching`). The nodes at which a left side may
 //! begin are cut into consecutive pieces, which run at once over the same graph, classes and table (`finder`). Each gathers its matches
 //! in a set, so each is there once, and stops as soon as its set has one more than the limit. Its set becomes an ordered list, in which
-//! each match is once (`gathered`). The lists are merged in the order of the pieces, two at a time, in linear time (`merge`, `together`).
+//! each match is once (`gathered`). The lists are merged in the order of the pieces, two at a time. Since pieces are consecutive, their lists
+//! interleave in few runs, and a run is moved as a whole after few comparisons (`merge`, `together`).
 //! No clause names workers or pieces: the answer is the same for every number of them.
 #![tactic(auto)]
 

@@ -1,12 +1,14 @@
-use Rattle.std.proofs.Common.{◌≡◌, ◌≤◌, ◌++◌, true, length}
-use Rattle.std.specs.Set.{sorted_merge}
+use Rattle.std.proofs.Common.{◌≡◌, ◌++◌, length}
+use Rattle.std.specs.List.Sorted.{IsStrictlySortedBy}
+use Rattle.pv_match.proofs.Merging.{merged}
 use Rattle.pv_match.proofs.merge.merge_ordered.Given as goal
 
-abbrev pub invariant-loop-x : goal.invariant-loop-x
-invariant-loop-x g l = record {
-  few : length l.list.items ≤ l.limit;
-  whole : l.list.items ++ sorted_merge g.T.Ord.cmp true l.first.items l.second.items ≡ sorted_merge g.T.Ord.cmp true l.fn.first.items l.fn.second.items;
+abbrev pub invariant-loop-first : goal.invariant-loop-first
+invariant-loop-first g l = record {
+  first : IsStrictlySortedBy g.T.Ord.cmp l.first.items;
+  second : IsStrictlySortedBy g.T.Ord.cmp l.second.items;
+  whole : l.list.items ++ merged g.T.Ord.cmp l.first.items l.second.items ≡ merged g.T.Ord.cmp l.fn.first.items l.fn.second.items;
 }
 
-abbrev pub decreases-loop-x : goal.decreases-loop-x
-decreases-loop-x g l = length (sorted_merge g.T.Ord.cmp true l.first.items l.second.items)
+abbrev pub decreases-loop-first : goal.decreases-loop-first
+decreases-loop-first g l = length (merged g.T.Ord.cmp l.first.items l.second.items)

@@ -11,9 +11,11 @@ use Rattle.pv_graph.specs.Graphs.{Graph, IsGraph}
 use Rattle.pv_graph.proofs.Cited.{kid_within}
 use Rattle.pv_steps.specs.Right.{MayBeAssumed, RootKids}
 use Rattle.pv_endings.specs.declared.root.RootParts.{RootParts}
-use Rattle.pv_endings.specs.Endings.{AreEndingsOf, IsRootOver, WaitsFor}
-use Rattle.pv_endings.specs.Waiting.{AreWaitingOn}
-use Rattle.pv_endings.proofs.Tested.{assumed_there}
+use Rattle.pv_graph.specs.Reach.{IsMarked}
+use Rattle.pv_endings.specs.Endings.{AreEndingsOf, IsEnding, IsRootOver, WaitsFor}
+use Rattle.pv_endings.specs.Spine.{IsSpine}
+use Rattle.pv_endings.specs.Waiting.{AreWaitingOn, Waits}
+use Rattle.pv_endings.proofs.Tested.{assumed_there, may_be_is}
 use Rattle.pv_endings.proofs.Listed.{none_ascend}
 
 -- ---- a root and its kids
@@ -55,6 +57,13 @@ are_endings g h p k ns e is on = record {
 -- a node that is no root has none
 pub no_endings : (g : Graph) (p : ℕ) → ((k : RootParts) → IsRootOver g p k → ⊥) → AreEndingsOf g p []
 no_endings g p none = record { are = λ n. ((λ i. absurd i), (λ r. absurd (not_root g p none r.0))); ordered = none_ascend }
+
+-- a root has none either where no marked node waits, and the spine of its token is marked
+pub none_wait : (g : Graph) → IsGraph g → (p : ℕ) (k : RootParts) (marks : List Bool) → IsRootOver g p k → IsSpine g.nodes k.token marks → ((n : ℕ) → Waits g n → IsMarked marks n → ⊥) → AreEndingsOf g p []
+none_wait g graph p k marks is spine none = record { are = λ n. ((λ i. absurd i), (λ r. absurd (nothing n r))); ordered = none_ascend }
+  where
+    nothing : (n : ℕ) → IsEnding g p n → ⊥
+    nothing n r = let m = (may_be_is g graph k.token marks spine n).1 (subst (λ (t : ℕ). MayBeAssumed g t n) (token_same g p k is r.0) r.1) in none n m.0 m.1.1
 
 all_in : (P : ℕ → Type 0) (xs : List ℕ) → AllByRecursion P xs → (x : ℕ) → In xs x → P x
 all_in P [] h x m = absurd m

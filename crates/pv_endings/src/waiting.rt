@@ -8,7 +8,7 @@ ghost use Rattle.pv_endings.specs.Waiting.{IsClosedBelow, MayBe, Waits};
 use pv_graph::{Graph, NodeId, Op};
 
 // Whether node n is a pass or the end of a call.
-fn waits(graph: &Graph, n: NodeId) -> bool
+pub(crate) fn waits(graph: &Graph, n: NodeId) -> bool
     requires { n < length graph.now.nodes }
     ensures { IsTrue result ↔ Waits graph.now n }
 {
@@ -29,7 +29,8 @@ fn is_closed(graph: &Graph, n: NodeId) -> bool
     true
 }
 
-fn is_marked(marks: &[bool], n: NodeId) -> bool
+// Whether node n is marked.
+pub(crate) fn is_marked(marks: &[bool], n: NodeId) -> bool
     ensures { IsTrue result ↔ IsMarked marks.now n }
 {
     matches!(marks.get(n as usize), Some(true))

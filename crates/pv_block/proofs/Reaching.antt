@@ -18,9 +18,6 @@ use Rattle.pv_block.specs.Acting.{Acts, ActsAlong}
 abbrev pub Reaches : Program → ℕ → ℕ → ℕ → ℕ → List Node → Held → List Node → Held → Type 0
 Reaches p n k m j old before new now = (at : Entry) (h g : parts.Held) → HoldsFor at old before h → acted_along p n k h ≡ Some g → (i : parts.Held) × HoldsFor at new now i × (acted_along p m j i ≡ Some g)
 
-pub reaches_first : (p : Program) (n k : ℕ) (nodes : List Node) (c : Held) → Reaches p n k n k nodes c nodes c
-reaches_first p n k nodes c at h g x e = (h, x, e)
-
 -- from what is held in parts the action goes on, and so do the others
 record Goes (p : Program) (m j : ℕ) (a : Action) (i g : parts.Held) : Type 0 where
   next : parts.Held

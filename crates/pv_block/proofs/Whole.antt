@@ -2,7 +2,6 @@
 use Rattle.std.proofs.Common.{◌≡◌, ℕ, zero, suc, ◌+◌, ◌-◌, ◌<◌, Bool, true, false, List, [], ◌∷◌, length, Option, Some, None, refl, ap, sym, subst, ◌∙◌, inl, inr, arith, eq-eqb, ne_eqb}
 use Rattle.std.specs.Prelude.{◌==◌, ◌⊎◌, if◌then◌else◌, map, slice_get, Contains}
 use Rattle.std.specs.List.{AllZip, AllByRecursion}
-use Rattle.std.proofs.lemmas.Option.{slice_get_within}
 use Rattle.std.proofs.lemmas.Slice.Zip.{AllZip-long}
 use Rattle.pv_value.specs.declared.descriptor.JType.{JType}
 use Rattle.pv_frame.specs.declared.sort.Sort.{Sort}
@@ -269,9 +268,6 @@ module _ (p : Program) (frames : List (Option Frame)) (well_typed : AreFrames p 
       going : (a : Action) (f h : Frame) → frame_after a f ≡ Some h → GivesResult p.desc.result a
       going (act.Give s) f h e = let q = bound (popped same (takes (act.Give s)) f.stack) (λ x. frame_done (act.Give s) (record f { stack = x.1 })) h e in no_some h q.2
       going a f h e = tt
-
-  pub last_there : (w : Whole) → b.last < length p.actions
-  last_there w = slice_get_within p.actions b.last w.action w.at
 
   pub last_some : slice_get p.actions b.last ≡ None → ⊥
   last_some e = let w = whole in no_some w.action (sym e ∙ w.at)

@@ -2,7 +2,7 @@ use Rattle.std.proofs.Common.{◌≡◌, ap, sym, ◌∙◌, List, Some}
 use Rattle.std.proofs.lemmas.Result.{IfOk-weaker}
 use Rattle.pv_block.specs.declared.held.Cell.{Cell}
 use Rattle.pv_block.specs.Acting.{popped_in}
-use Rattle.pv_block.proofs.Popped.{acts_none, acts_popped, pops_sorted}
+use Rattle.pv_block.proofs.Popped.{acts_none, acts_popped, pops_sorted, pops_known}
 use Rattle.pv_block.proofs.acting.act.Goals as goal
 
 pub returns-in_default-clause-acts : goal.returns-in_default-clause-acts
@@ -20,6 +20,12 @@ act_on-requires-clause-operands c =
     let some = rw c.in-Some.is at c.in_ok-operands.ensures in
     let found : popped_in c.args.action.now c.args.held ≡ Some (c.deref.result.now, c.in-Some.rest) = sym some ∙ ap (λ (l : List Cell). Some (l, c.in-Some.rest)) (sym c.deref.ensures.value) in
     (pops_sorted c.args.g.now c.args.action.now c.args.held c.in-Some.rest c.deref.result.now c.requires.sorted found).operands
+
+pub act_on-requires-clause-known : goal.act_on-requires-clause-known
+act_on-requires-clause-known c =
+    let some = rw c.in-Some.is at c.in_ok-operands.ensures in
+    let found : popped_in c.args.action.now c.args.held ≡ Some (c.deref.result.now, c.in-Some.rest) = sym some ∙ ap (λ (l : List Cell). Some (l, c.in-Some.rest)) (sym c.deref.ensures.value) in
+    pops_known c.args.action.now c.args.held c.in-Some.rest c.deref.result.now found
 
 pub act_on-requires-clause-takes : goal.act_on-requires-clause-takes
 act_on-requires-clause-takes c =

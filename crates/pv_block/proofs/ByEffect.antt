@@ -1,36 +1,12 @@
 -- The effect of each action is what the action does, and has its sorts.
 use Rattle.std.proofs.Common.{◌≡◌, List, [], ◌∷◌, Option, Some, None, refl, ap, subst, ◌∙◌}
-use Rattle.std.specs.Prelude.{map, option_map, slice_set}
-use Rattle.pv_pool.specs.Readers.{◌>>=◌}
-use Rattle.pv_value.specs.declared.descriptor.JType.{JType}
-use Rattle.pv_value.specs.declared.descriptor.Descriptor.{Descriptor}
-use Rattle.pv_value.specs.declared.name.Sym.{Sym}
+use Rattle.pv_block.proofs.Words.{map, option_map, slice_set, ◌>>=◌, JType, Descriptor, Sym, bind, Sort, Action, sort_of_type, sort_of_kind, some_of, no_some, Op, OpSort, I, A, T, H, CallSorts, exactly, sort_over, Part, Parts, Of, More, call_token, parts_of, push, increased_cell, local_cell, with_result, acted_on, mapped, Given, Made, Kids, WithHeap, Operands, Zero, One, Two, Effect, op_sort, IsPlain, line, taken, all_made, sort_made, parts_in, pushes, writes, call, effect_for, cell_part, given_parts, read_parts, sorts_read, effect_parts, EffectFits}
 use Rattle.pv_value.specs.declared.number.Num.TheVariants as num
-use Rattle.pv_value.specs.Spelled.{bind}
 use Rattle.pv_value.specs.declared.heap.Kind.TheVariants as kind
-use Rattle.pv_frame.specs.declared.sort.Sort.{Sort}
 use Rattle.pv_frame.specs.declared.sort.Sort.TheVariants as sort
-use Rattle.pv_frame.specs.declared.action.Action.{Action}
 use Rattle.pv_frame.specs.declared.action.Action.TheVariants as act
-use Rattle.pv_frame.specs.Effects.{sort_of_type, sort_of_kind}
-use Rattle.pv_frame.proofs.Cited.{some_of, no_some}
-use Rattle.pv_graph.specs.declared.node.Op.{Op}
 use Rattle.pv_graph.specs.declared.node.Op.TheVariants as op
-use Rattle.pv_graph.specs.declared.node.OpSort.{OpSort}
-use Rattle.pv_graph.specs.declared.node.OpSort.TheVariants.{I, A, T, H}
-use Rattle.pv_graph.specs.Ops.{CallSorts, exactly, sort_over}
-use Rattle.pv_equations.specs.Flow.{Part, Parts, Of, More, call_token}
-use Rattle.pv_runs.specs.Held.{parts_of, push, increased_cell, local_cell, with_result, acted_on}
 use Rattle.pv_runs.specs.Held as parts
-use Rattle.pv_runs.proofs.Cited.{mapped}
-use Rattle.pv_block.specs.declared.line.Kid.TheVariants.{Given, Made}
-use Rattle.pv_block.specs.declared.line.Kids.{Kids}
-use Rattle.pv_block.specs.declared.line.Kids.TheVariants.{WithHeap, Operands, Zero, One, Two}
-use Rattle.pv_block.specs.declared.effect.Effect.{Effect}
-use Rattle.pv_block.specs.Sorted.{op_sort}
-use Rattle.pv_block.specs.Plain.{IsPlain}
-use Rattle.pv_block.specs.Lines.{line, taken, all_made, sort_made, parts_in}
-use Rattle.pv_block.specs.Effects.{pushes, writes, call, effect_for, cell_part, given_parts, read_parts, sorts_read, effect_parts, EffectFits}
 use Rattle.pv_block.proofs.Sorts.{exactly_same, scalar_over, field_over, kind_sorts, given, taken_by_call, call_sorted}
 
 -- ---- in parts

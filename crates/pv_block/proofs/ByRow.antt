@@ -1,46 +1,21 @@
 -- The row of each action is its chain, and has its sorts.
 use Rattle.std.proofs.Common.{◌≡◌, ℕ, ℤ, suc, true, List, [], ◌∷◌, ◌++◌, length, Option, Some, None, refl, ap, sym, subst, ◌∙◌}
-use Rattle.std.specs.Prelude.{map, option_map, slice_get}
-use Rattle.std.specs.List.{AllByRecursion}
-use Rattle.pv_pool.specs.Readers.{◌>>=◌}
+use Rattle.pv_block.proofs.Words.{map, option_map, slice_get, AllByRecursion, ◌>>=◌, bind, JType, Descriptor, Sym, Sort, Action, sort_of_word, takes, test_takes, sorts_of_result, some_of, no_some, Op, OpSort, I, L, A, F, T, H, CallSorts, exactly, sort_over, Part, Parts, Of, NoPart, More, Exit, Chain, Leave, int_part, null_part, call_parts, after_call, with_result, acted_on, to, throw, ieq, aeq, is_zero, given_chain, chain_with, last_chain, ends_method, Kid, Given, Made, Zero, One, Two, op_sort, IsPlain, GivesResult, line, pick, taken, all_made, sort_made, parts_in, part_made, case_lines, case_tests, case_exits, branch, switch, unless_zero, unless_thrown, unless_null_or_thrown, row_for, chain_by, row_chain, WayFits, RowFits, cell_part, given_parts}
 use Rattle.pv_value.specs.Reading.{field_at}
-use Rattle.pv_value.specs.Spelled.{bind, params_at}
-use Rattle.pv_value.specs.declared.descriptor.JType.{JType}
+use Rattle.pv_value.specs.Spelled.{params_at}
 use Rattle.pv_value.specs.declared.descriptor.JType.TheVariants as jtype
-use Rattle.pv_value.specs.declared.descriptor.Descriptor.{Descriptor}
-use Rattle.pv_value.specs.declared.name.Sym.{Sym}
 use Rattle.pv_value.specs.declared.operation.ScalarOp.TheVariants.{Ieq}
 use Rattle.pv_value.specs.Operations as operation
 use Rattle.pv_insn.specs.declared.insn.Case.{Case}
-use Rattle.pv_frame.specs.declared.sort.Sort.{Sort}
 use Rattle.pv_frame.specs.declared.action.Comparison.TheVariants as comparison
 use Rattle.pv_frame.specs.declared.action.Test.{Test}
 use Rattle.pv_frame.specs.declared.action.Test.TheVariants as test
-use Rattle.pv_frame.specs.declared.action.Action.{Action}
 use Rattle.pv_frame.specs.declared.action.Action.TheVariants as act
-use Rattle.pv_frame.specs.Effects.{sort_of_word, takes, test_takes, sorts_of_result}
-use Rattle.pv_frame.proofs.Cited.{some_of, no_some}
-use Rattle.pv_graph.specs.declared.node.Op.{Op}
 use Rattle.pv_graph.specs.declared.node.Op.TheVariants as op
-use Rattle.pv_graph.specs.declared.node.OpSort.{OpSort}
-use Rattle.pv_graph.specs.declared.node.OpSort.TheVariants.{I, L, A, F, T, H}
-use Rattle.pv_graph.specs.Ops.{CallSorts, exactly, sort_over}
 use Rattle.pv_equations.specs.Flow as flow
-use Rattle.pv_equations.specs.Flow.{Part, Parts, Of, NoPart, More, Exit, Chain, Leave}
-use Rattle.pv_runs.specs.Held.{parts_of, int_part, null_part, call_parts, after_call, with_result, acted_on}
 use Rattle.pv_runs.specs.Held as parts
-use Rattle.pv_runs.specs.Chains.{to, throw, ieq, aeq, is_zero, given_chain, chain_with, last_chain, ends_method}
 use Rattle.pv_runs.specs.Chains as chains
-use Rattle.pv_block.specs.declared.line.Kid.{Kid}
-use Rattle.pv_block.specs.declared.line.Kid.TheVariants.{Given, Made}
-use Rattle.pv_block.specs.declared.line.Kids.TheVariants.{Zero, One, Two}
-use Rattle.pv_block.specs.Sorted.{op_sort}
-use Rattle.pv_block.specs.Plain.{IsPlain}
 use Rattle.pv_block.specs.Ran.{result_sort}
-use Rattle.pv_block.specs.Leaving.{GivesResult}
-use Rattle.pv_block.specs.Lines.{line, pick, taken, all_made, sort_made, parts_in, part_made}
-use Rattle.pv_block.specs.Rows.{case_lines, case_tests, case_exits, branch, switch, unless_zero, unless_thrown, unless_null_or_thrown, row_for, chain_by, row_chain, WayFits, RowFits}
-use Rattle.pv_block.specs.Effects.{cell_part, given_parts}
 use Rattle.pv_block.specs.Rows as rows
 use Rattle.pv_block.proofs.Sorts.{exactly_same, taken_by_call, call_sorted}
 use Rattle.pv_block.proofs.ByEffect.{in_cells}

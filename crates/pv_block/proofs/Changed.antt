@@ -1,39 +1,11 @@
 -- What is held after an effect: it stands for what is held in parts after it, and has its sorts.
 use Rattle.std.proofs.Common.{◌≡◌, ◌≢◌, ℕ, zero, suc, List, [], ◌∷◌, Some, None, inr, refl, sym, ap, subst, ◌∙◌}
-use Rattle.std.specs.Prelude.{map, option_map, slice_set}
-use Rattle.std.specs.List.{AllZip}
-use Rattle.pv_pool.specs.Readers.{◌>>=◌}
-use Rattle.pv_frame.specs.declared.sort.Sort.{Sort}
+use Rattle.pv_block.proofs.Words.{map, option_map, slice_set, AllZip, ◌>>=◌, Sort, Action, fits, takes, some_of, no_some, if_some, fits_same, Node, OpSort, I, T, H, HaveSorts, Graph, Part, Grows, IsOfSort, push, local_cell, bound, mapped, Cell, Held, Kid, Effect, sort_in, local_of, IsPlain, op_sort, IsSortedCell, AreSorted, IsSorted, Entry, StandsFor, CellStands, HoldsFor, ActsOn, AreKnown, pick, all_made, part_made, node_at, Stands, Fit, AreMade, effect_for, node_in, given_nodes, read_in, cell_part, given_parts, read_parts, changed, changed_parts, ChangeFits, HoldsAfter, SortedAfter}
 use Rattle.pv_frame.specs.declared.sort.Sort.TheVariants as sort
-use Rattle.pv_frame.specs.declared.action.Action.{Action}
 use Rattle.pv_frame.specs.declared.action.Action.TheVariants as act
-use Rattle.pv_frame.specs.Stacks.{fits}
-use Rattle.pv_frame.specs.Effects.{takes}
-use Rattle.pv_frame.proofs.Cited.{some_of, no_some, if_some, fits_same}
-use Rattle.pv_graph.specs.declared.node.Node.{Node}
-use Rattle.pv_graph.specs.declared.node.OpSort.{OpSort}
-use Rattle.pv_graph.specs.declared.node.OpSort.TheVariants.{I, T, H}
-use Rattle.pv_graph.specs.Ops.{HaveSorts}
-use Rattle.pv_graph.specs.Graphs.{Graph}
-use Rattle.pv_equations.specs.Flow.{Part}
-use Rattle.pv_terms.specs.Terms.{Grows, IsOfSort}
-use Rattle.pv_runs.specs.Held.{push, local_cell, acted_on}
 use Rattle.pv_runs.specs.Held as parts
-use Rattle.pv_runs.proofs.Cited.{bound, mapped}
-use Rattle.pv_block.specs.declared.held.Cell.{Cell}
-use Rattle.pv_block.specs.declared.held.Held.{Held}
-use Rattle.pv_block.specs.declared.line.Kid.{Kid}
 use Rattle.pv_block.specs.declared.effect.Change.{Change}
 use Rattle.pv_block.specs.declared.effect.Change.TheVariants.{Pushes, Writes, Sets, Calls, CallsFor}
-use Rattle.pv_block.specs.declared.effect.Effect.{Effect}
-use Rattle.pv_block.specs.Cells.{sort_in, local_of}
-use Rattle.pv_block.specs.Plain.{IsPlain}
-use Rattle.pv_block.specs.Sorted.{op_sort, IsSortedCell, AreSorted, IsSorted}
-use Rattle.pv_block.specs.Standing.{Entry, StandsFor, CellStands, HoldsFor}
-use Rattle.pv_block.specs.Acting.{ActsOn}
-use Rattle.pv_block.specs.Leaving.{AreKnown}
-use Rattle.pv_block.specs.Lines.{pick, all_made, part_made, node_at, Stands, Fit, AreMade}
-use Rattle.pv_block.specs.Effects.{effect_for, node_in, given_nodes, read_in, cell_part, given_parts, read_parts, changed, changed_parts, ChangeFits, HoldsAfter, SortedAfter}
 use Rattle.pv_block.proofs.Sorts.{fits_known}
 use Rattle.pv_block.proofs.Standing.{grown, known_stands}
 use Rattle.pv_block.proofs.Holding.{local_both, holds_on}

@@ -1,24 +1,8 @@
 -- The tests and exits of the last action of a block: what they stand for, and their sorts.
 use Rattle.std.proofs.Common.{◌≡◌, ℕ, zero, suc, List, [], ◌∷◌, Some, refl, subst}
-use Rattle.pv_frame.specs.declared.sort.Sort.{Sort}
+use Rattle.pv_block.proofs.Words.{Sort, some_of, no_some, Node, OpSort, F, T, H, Graph, Part, Grows, IsOfSort, unit_part, clear_part, end_slots, throw, give, Held, Ending, Returns, Entry, StandsFor, HoldsFor, op_sort, AreSorted, IsSorted, ending_slot, ExitStands, IsSortedEnding, state_of, ended, faulted, EndsFor, IsSortedState, IsSortedLeaving}
 use Rattle.pv_frame.specs.declared.sort.Sort.TheVariants as sort
-use Rattle.pv_frame.proofs.Cited.{some_of, no_some}
-use Rattle.pv_graph.specs.declared.node.Node.{Node}
-use Rattle.pv_graph.specs.declared.node.OpSort.{OpSort}
-use Rattle.pv_graph.specs.declared.node.OpSort.TheVariants.{F, T, H}
-use Rattle.pv_graph.specs.Graphs.{Graph}
-use Rattle.pv_equations.specs.Flow.{Part}
-use Rattle.pv_terms.specs.Terms.{Grows, IsOfSort}
-use Rattle.pv_runs.specs.Held.{parts_of, unit_part, clear_part, int_part}
 use Rattle.pv_runs.specs.Held as parts
-use Rattle.pv_runs.specs.Chains.{end_slots, throw, give}
-use Rattle.pv_block.specs.declared.held.Held.{Held}
-use Rattle.pv_block.specs.declared.ran.Ending.{Ending}
-use Rattle.pv_block.specs.declared.ran.Leaving.TheVariants.{Returns}
-use Rattle.pv_block.specs.Standing.{Entry, StandsFor, HoldsFor}
-use Rattle.pv_block.specs.Sorted.{op_sort, AreSorted, IsSorted}
-use Rattle.pv_block.specs.Ran.{ending_slot, ExitStands, IsSortedEnding}
-use Rattle.pv_block.specs.Leaving.{state_of, ended, faulted, EndsFor, IsSortedState, IsSortedLeaving}
 use Rattle.pv_block.proofs.Standing.{grown, stands_on}
 
 -- ---- where a graph grows

@@ -1,27 +1,8 @@
 -- What is held in nodes stands for what is held in parts: where a graph grows, and after actions that move values alone.
 use Rattle.std.proofs.Common.{◌≡◌, ℕ, zero, suc, Bool, true, false, List, [], ◌∷◌, length, Option, Some, None, inl, refl, ap, subst, ◌∙◌}
-use Rattle.std.specs.Prelude.{if◌then◌else◌, option_map, slice_get, nat_lt}
-use Rattle.std.specs.List.{AllZip}
-use Rattle.pv_pool.specs.Readers.{◌>>=◌}
-use Rattle.pv_frame.specs.declared.sort.Sort.{Sort}
-use Rattle.pv_frame.specs.declared.action.Move.{Move}
-use Rattle.pv_frame.specs.declared.action.Action.{Action}
+use Rattle.pv_block.proofs.Words.{if◌then◌else◌, option_map, slice_get, nat_lt, AllZip, ◌>>=◌, Sort, Move, Action, fits, is_wide, last_local, has_room, first_cleared, moved, set_local, some_of, no_some, if_some, fits_same, Node, Stand, stand_then, Slot, cell_sort, of_cell, unset, unit_part, clear_part, acted_on, moved_both, lists_found, Cell, Held, sort_in, cell_of, local_of, empty, Entry, CellStands, HoldsFor, shifted, rearranged, effect_for}
 use Rattle.pv_frame.specs.declared.action.Action.TheVariants as act
-use Rattle.pv_frame.specs.Stacks.{fits, is_wide, last_local, has_room, first_cleared, moved, set_local}
-use Rattle.pv_frame.proofs.Cited.{some_of, no_some, if_some, fits_same}
-use Rattle.pv_graph.specs.declared.node.Node.{Node}
-use Rattle.pv_terms.specs.Reads.{Stand}
-use Rattle.pv_terms.proofs.Cited.{stand_then}
-use Rattle.pv_equations.specs.Flow.{Slot}
-use Rattle.pv_runs.specs.Held.{cell_sort, of_cell, unset, unit_part, clear_part, acted_on}
 use Rattle.pv_runs.specs.Held as parts
-use Rattle.pv_runs.proofs.Cited.{moved_both, lists_found}
-use Rattle.pv_block.specs.declared.held.Cell.{Cell}
-use Rattle.pv_block.specs.declared.held.Held.{Held}
-use Rattle.pv_block.specs.Cells.{sort_in, cell_of, local_of, empty}
-use Rattle.pv_block.specs.Standing.{Entry, CellStands, HoldsFor}
-use Rattle.pv_block.specs.Acting.{shifted, rearranged}
-use Rattle.pv_block.specs.Effects.{effect_for}
 use Rattle.pv_block.proofs.Standing.{stands_on, cell_on}
 
 -- ---- growth

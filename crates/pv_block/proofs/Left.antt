@@ -1,39 +1,11 @@
 -- The tests and exits of a row stand for the chain that it is, and have their sorts.
 use Rattle.std.proofs.Common.{◌≡◌, ℕ, List, [], ◌∷◌, Option, Some, inr, refl, ap, sym, subst}
-use Rattle.std.specs.Prelude.{map}
-use Rattle.std.specs.List.{AllZip, AllByRecursion}
-use Rattle.pv_pool.specs.Readers.{◌>>=◌}
-use Rattle.pv_frame.specs.declared.sort.Sort.{Sort}
+use Rattle.pv_block.proofs.Words.{map, AllZip, AllByRecursion, ◌>>=◌, Sort, fits, some_of, no_some, if_some, fits_same, Node, OpSort, I, F, HaveSorts, Graph, Part, Exit, Chain, Leave, Grows, IsOfSort, cell_sort, unit_part, to, throw, give, bound, Cell, Held, Kid, Row, Ending, Leaving, Ran, Entry, StandsFor, CellStands, HoldsFor, op_sort, AreSorted, IsSorted, IsSortedEnding, pick, all_made, part_made, node_at, Stands, AreMade, with_int, exit_by, chain_by, WayFits, with_int_node, leaving_by, LeavesByRow, KeepsSorts, ended, EndsFor, IsExit, LeavesAlong, IsSortedLeaving, AreTests}
 use Rattle.pv_frame.specs.declared.sort.Sort.TheVariants as sort
-use Rattle.pv_frame.specs.Stacks.{fits}
-use Rattle.pv_frame.proofs.Cited.{some_of, no_some, if_some, fits_same}
-use Rattle.pv_graph.specs.declared.node.Node.{Node}
-use Rattle.pv_graph.specs.declared.node.OpSort.{OpSort}
-use Rattle.pv_graph.specs.declared.node.OpSort.TheVariants.{I, F}
-use Rattle.pv_graph.specs.Ops.{HaveSorts}
-use Rattle.pv_graph.specs.Graphs.{Graph}
 use Rattle.pv_equations.specs.Flow as flow
-use Rattle.pv_equations.specs.Flow.{Part, Exit, Chain, Leave}
-use Rattle.pv_terms.specs.Terms.{Grows, IsOfSort}
-use Rattle.pv_runs.specs.Held.{cell_sort, unit_part}
 use Rattle.pv_runs.specs.Held as parts
-use Rattle.pv_runs.specs.Chains.{to, throw, give}
-use Rattle.pv_runs.proofs.Cited.{bound}
-use Rattle.pv_block.specs.declared.held.Cell.{Cell}
-use Rattle.pv_block.specs.declared.held.Held.{Held}
-use Rattle.pv_block.specs.declared.line.Kid.{Kid}
-use Rattle.pv_block.specs.declared.row.Row.{Row}
 use Rattle.pv_block.specs.declared.row.Way.{Way}
 use Rattle.pv_block.specs.declared.row.Way.TheVariants.{Goes, GoesWith, Throws, ThrowsAfter, Gives, Ends}
-use Rattle.pv_block.specs.declared.ran.Ending.{Ending}
-use Rattle.pv_block.specs.declared.ran.Leaving.{Leaving}
-use Rattle.pv_block.specs.declared.ran.Ran.{Ran}
-use Rattle.pv_block.specs.Standing.{Entry, StandsFor, CellStands, HoldsFor}
-use Rattle.pv_block.specs.Sorted.{op_sort, AreSorted, IsSorted}
-use Rattle.pv_block.specs.Ran.{IsSortedEnding}
-use Rattle.pv_block.specs.Lines.{pick, all_made, part_made, node_at, Stands, AreMade}
-use Rattle.pv_block.specs.Rows.{with_int, exit_by, chain_by, WayFits, with_int_node, leaving_by, LeavesByRow, KeepsSorts}
-use Rattle.pv_block.specs.Leaving.{ended, EndsFor, IsExit, LeavesAlong, IsSortedLeaving, AreTests}
 use Rattle.pv_block.proofs.Standing.{grown}
 use Rattle.pv_block.proofs.Holding.{holds_on}
 use Rattle.pv_block.proofs.Lines.{stands_later, sorts_later, picked}

@@ -1,27 +1,6 @@
 -- What lines make, line by line.
 use Rattle.std.proofs.Common.{◌≡◌, ℕ, zero, suc, ◌+◌, ◌<◌, Bool, true, false, List, [], ◌∷◌, ◌++◌, length, get_or, drop, Option, Some, None, refl, sym, ap, subst, ◌∙◌, add-one, drop-cons}
-use Rattle.std.specs.Prelude.{slice_get, slice_index_or, if◌then◌else◌}
-use Rattle.std.specs.List.{AllZip}
-use Rattle.pv_pool.specs.Readers.{◌>>=◌}
-use Rattle.pv_frame.proofs.Cited.{some_of, no_some}
-use Rattle.pv_graph.specs.declared.node.Op.{Op}
-use Rattle.pv_graph.specs.declared.node.Node.{Node}
-use Rattle.pv_graph.specs.declared.node.OpSort.{OpSort}
-use Rattle.pv_graph.specs.Ops.{Shape, plain, shape, sort_over, HaveSorts}
-use Rattle.pv_graph.specs.Graphs.{Graph, IsGraph}
-use Rattle.pv_graph.specs.Calls.{FitsOver}
-use Rattle.pv_equations.specs.Flow.{Part, Of}
-use Rattle.pv_terms.specs.Terms.{IsFlat, has_depth, Grows, IsOfSort, HasItsSort}
-use Rattle.pv_terms.specs.Reads.{Stand}
-use Rattle.pv_terms.proofs.Cited.{stand_then, grows_same, grows_then}
-use Rattle.pv_runs.proofs.Cited.{bound}
-use Rattle.pv_block.specs.declared.line.Kid.{Kid}
-use Rattle.pv_block.specs.declared.line.Kid.TheVariants.{Given, Made}
-use Rattle.pv_block.specs.declared.line.Kids.{Kids}
-use Rattle.pv_block.specs.declared.line.Kids.TheVariants.{WithHeap, Operands, Zero, One, Two, Three}
-use Rattle.pv_block.specs.declared.line.Line.{Line}
-use Rattle.pv_block.specs.Standing.{Entry, StandsFor, AllStand, StandsOver}
-use Rattle.pv_block.specs.Lines.{pick, but_first, taken, all_made, sort_made, parts_in, part_over, part_made, node_at, after_first, nodes_for, Stands, Fit, AreMade}
+use Rattle.pv_block.proofs.Words.{slice_get, slice_index_or, if◌then◌else◌, AllZip, ◌>>=◌, some_of, no_some, Op, Node, OpSort, Shape, plain, shape, sort_over, HaveSorts, Graph, IsGraph, FitsOver, Part, Of, IsFlat, has_depth, Grows, IsOfSort, HasItsSort, Stand, stand_then, grows_same, grows_then, bound, Kid, Given, Made, Kids, WithHeap, Operands, Zero, One, Two, Three, Line, Entry, StandsFor, AllStand, StandsOver, pick, but_first, taken, all_made, sort_made, parts_in, part_over, part_made, node_at, after_first, nodes_for, Stands, Fit, AreMade}
 use Rattle.pv_block.proofs.Standing.{grown, stands_on}
 
 -- ---- what a line takes

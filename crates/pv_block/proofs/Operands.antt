@@ -1,40 +1,9 @@
 -- What is left of a block whose last action takes its operands.
-use Rattle.std.proofs.Common.{◌≡◌, ℕ, suc, Vec, Global, Bool, true, false, List, ◌∷◌, Option, Some, None, refl, ap, sym, subst, ◌∙◌}
-use Rattle.std.specs.Prelude.{option_map, if◌then◌else◌, map}
-use Rattle.std.specs.List.{AllZip}
-use Rattle.pv_frame.proofs.Cited.{some_of, no_some}
-use Rattle.pv_pool.specs.Readers.{◌>>=◌}
-use Rattle.pv_value.specs.declared.descriptor.JType.{JType}
-use Rattle.pv_frame.specs.declared.sort.Sort.{Sort}
-use Rattle.pv_frame.specs.declared.action.Action.{Action}
+use Rattle.std.proofs.Common.{◌≡◌, ℕ, suc, Bool, true, false, List, ◌∷◌, Option, Some, None, refl, ap, sym, subst, ◌∙◌}
+use Rattle.pv_block.proofs.Words.{if◌then◌else◌, map, AllZip, some_of, no_some, ◌>>=◌, JType, Sort, Action, Taken, popped, takes, Node, HaveSorts, T, H, Graph, Chain, Grows, cell_sort, acted_on, acted, to, chain_with, last_chain, ends_method, bound, Cell, Held, Row, Ending, Ran, sort_in, CellStands, HoldsFor, op_sort, AreSorted, IsSorted, IsPlain, popped_in, ActsOn, given_nodes, given_parts, Fit, row_for, LeavesByRow, RowFits, KeepsSorts, AreKnown, ended, LeavesBy, AreSortedExits, chain_from, LeavesFrom, LeavesAs, GivesResult}
 use Rattle.pv_frame.specs.declared.action.Action.TheVariants as act
-use Rattle.pv_frame.specs.Stacks.{Taken, popped}
-use Rattle.pv_frame.specs.Effects.{takes}
-use Rattle.pv_graph.specs.declared.node.Node.{Node}
-use Rattle.pv_graph.specs.Ops.{HaveSorts}
-use Rattle.pv_graph.specs.declared.node.OpSort.TheVariants.{T, H}
-use Rattle.pv_graph.specs.Graphs.{Graph}
-use Rattle.pv_equations.specs.Flow.{Chain}
-use Rattle.pv_terms.specs.Terms.{Grows}
-use Rattle.pv_runs.specs.Held.{cell_sort, acted_on, acted}
 use Rattle.pv_runs.specs.Held as parts
-use Rattle.pv_runs.specs.Chains.{to, chain_with, last_chain, ends_method}
-use Rattle.pv_runs.proofs.Cited.{bound}
-use Rattle.pv_block.specs.declared.held.Cell.{Cell}
-use Rattle.pv_block.specs.declared.held.Held.{Held}
-use Rattle.pv_block.specs.declared.row.Row.{Row}
-use Rattle.pv_block.specs.declared.ran.Ending.{Ending}
-use Rattle.pv_block.specs.declared.ran.Ran.{Ran}
 use Rattle.pv_block.specs.Ran.{result_sort}
-use Rattle.pv_block.specs.Cells.{sort_in}
-use Rattle.pv_block.specs.Standing.{CellStands, HoldsFor}
-use Rattle.pv_block.specs.Sorted.{op_sort, AreSorted, IsSorted}
-use Rattle.pv_block.specs.Plain.{IsPlain}
-use Rattle.pv_block.specs.Acting.{popped_in, ActsOn}
-use Rattle.pv_block.specs.Effects.{given_nodes, given_parts}
-use Rattle.pv_block.specs.Lines.{Fit}
-use Rattle.pv_block.specs.Rows.{row_for, LeavesByRow, RowFits, KeepsSorts}
-use Rattle.pv_block.specs.Leaving.{AreKnown, ended, LeavesBy, AreSortedExits, chain_from, LeavesFrom, LeavesAs, GivesResult}
 use Rattle.pv_block.proofs.Exits.{ends_on, ended_for}
 use Rattle.pv_block.proofs.Lines.{stands_later, sorts_later}
 use Rattle.pv_block.proofs.Popped.{pops}
@@ -121,10 +90,3 @@ pub left_sorted : (old new mid : Graph) (r : Option JType) (next : ℕ) (a : Act
 left_sorted old new mid r next a held cells row given ran g p v s t m e f keeps =
     let ss = T ∷ H ∷ map op_sort (takes a) in
     keeps ss (result_sort r) (subst (λ (ks : List ℕ). HaveSorts mid.sorts ks ss) (sym f) (given_sorted old mid a held cells g s t m)) (subst (RowFits ss (result_sort r)) (sym e) (row_fits r next a p v))
-
--- what is popped, as pairs
-pub popped_none : (a : Action) (c : Held) (o : Option (Vec Cell Global × Held)) → option_map (λ q. (q.0.items, q.1)) o ≡ popped_in a c → o ≡ None → popped_in a c ≡ None
-popped_none a c o e is = sym e ∙ ap (option_map (λ q. (q.0.items, q.1))) is
-
-pub popped_some : (a : Action) (c : Held) (o : Option (Vec Cell Global × Held)) (v : Vec Cell Global) (rest : Held) → option_map (λ q. (q.0.items, q.1)) o ≡ popped_in a c → o ≡ Some (v, rest) → popped_in a c ≡ Some (v.items, rest)
-popped_some a c o v rest e is = sym e ∙ ap (option_map (λ q. (q.0.items, q.1))) is

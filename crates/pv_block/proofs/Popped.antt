@@ -1,27 +1,9 @@
 -- Operands that are popped: they stand for those that are popped in parts, and have the sorts that the action takes, which are known.
-use Rattle.std.proofs.Common.{◌≡◌, ◌≢◌, true, false, List, [], ◌∷◌, ◌++◌, reverse, Option, Some, None, refl, ap, sym, subst, ◌∙◌}
-use Rattle.std.specs.Prelude.{map, option_map, if◌then◌else◌}
-use Rattle.std.specs.List.{AllZip, AllByRecursion}
-use Rattle.std.proofs.lemmas.List.{reverse-append}
-use Rattle.pv_pool.specs.Readers.{◌>>=◌}
-use Rattle.pv_frame.specs.declared.sort.Sort.{Sort}
+use Rattle.std.proofs.Common.{◌≡◌, ◌≢◌, true, false, Vec, Global, List, [], ◌∷◌, ◌++◌, reverse, Option, Some, None, refl, ap, sym, subst, ◌∙◌}
+use Rattle.pv_block.proofs.Words.{map, option_map, if◌then◌else◌, AllZip, AllByRecursion, reverse-append, ◌>>=◌, Sort, Action, Taken, fits, with_first, turned, popped, takes, map_reverse, some_of, no_some, popped_sorts, Node, Graph, cell_sort, acted_on, popped_both, taken_found, Cell, Held, sort_in, Entry, CellStands, HoldsFor, AreSorted, IsSorted, popped_in, ActsOn, Acts, AreKnown}
 use Rattle.pv_frame.specs.declared.sort.Sort.TheVariants as sort
-use Rattle.pv_frame.specs.declared.action.Action.{Action}
-use Rattle.pv_frame.specs.Stacks.{Taken, fits, with_first, taken, turned, popped}
-use Rattle.pv_frame.specs.Effects.{takes}
-use Rattle.pv_frame.proofs.Cited.{map_reverse, some_of, no_some, popped_sorts}
-use Rattle.pv_graph.specs.declared.node.Node.{Node}
-use Rattle.pv_graph.specs.Graphs.{Graph}
-use Rattle.pv_runs.specs.Held.{cell_sort, acted_on}
+use Rattle.pv_frame.specs.Stacks.{taken}
 use Rattle.pv_runs.specs.Held as parts
-use Rattle.pv_runs.proofs.Cited.{popped_both, taken_found}
-use Rattle.pv_block.specs.declared.held.Cell.{Cell}
-use Rattle.pv_block.specs.declared.held.Held.{Held}
-use Rattle.pv_block.specs.Cells.{sort_in}
-use Rattle.pv_block.specs.Standing.{Entry, CellStands, HoldsFor}
-use Rattle.pv_block.specs.Sorted.{AreSorted, IsSorted}
-use Rattle.pv_block.specs.Acting.{popped_in, ActsOn, Acts}
-use Rattle.pv_block.specs.Leaving.{AreKnown}
 use Rattle.pv_block.proofs.Sorts.{fits_known}
 use Rattle.pv_block.proofs.Rearranged.{Same, to_zip, of_zip}
 
@@ -123,3 +105,10 @@ pops_known a c rest cells e = go (popped sort_in (takes a) c.stack) refl e
     go : (t : Taken Cell) → popped sort_in (takes a) c.stack ≡ t → option_map {U = List Cell × Held} (λ (q : List Cell × List Cell). (q.0, record c { stack = q.1 })) t ≡ Some (cells, rest) → AreKnown cells
     go None i e = no_some _ e
     go (Some q) i e = subst (λ (z : List Cell × Held). AreKnown z.0) (some_of _ _ e) (popped_known (takes a) c.stack q i)
+
+-- what is popped, as pairs
+pub popped_none : (a : Action) (c : Held) (o : Option (Vec Cell Global × Held)) → option_map (λ q. (q.0.items, q.1)) o ≡ popped_in a c → o ≡ None → popped_in a c ≡ None
+popped_none a c o e is = sym e ∙ ap (option_map (λ q. (q.0.items, q.1))) is
+
+pub popped_some : (a : Action) (c : Held) (o : Option (Vec Cell Global × Held)) (v : Vec Cell Global) (rest : Held) → option_map (λ q. (q.0.items, q.1)) o ≡ popped_in a c → o ≡ Some (v, rest) → popped_in a c ≡ Some (v.items, rest)
+popped_some a c o v rest e is = sym e ∙ ap (option_map (λ q. (q.0.items, q.1))) is

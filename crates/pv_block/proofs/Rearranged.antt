@@ -1,22 +1,7 @@
 -- After actions that move values alone all that is held still has its sort.
 use Rattle.std.proofs.Common.{◌≡◌, ℕ, zero, suc, true, false, List, [], ◌∷◌, Option, Some, None, refl, ap, sym, subst, ◌∙◌}
-use Rattle.std.specs.Prelude.{if◌then◌else◌, option_map, IfSome}
-use Rattle.std.specs.List.{AllZip}
-use Rattle.pv_frame.specs.declared.sort.Sort.{Sort}
-use Rattle.pv_frame.specs.declared.action.Move.{Move}
-use Rattle.pv_frame.specs.declared.action.Action.{Action}
+use Rattle.pv_block.proofs.Words.{if◌then◌else◌, option_map, IfSome, AllZip, Sort, Move, Action, is_wide, has_room, first_cleared, moved, set_local, some_of, no_some, if_some, T, Graph, IsOfSort, moved_both, lists_found, Cell, Held, sort_in, empty, IsSortedCell, AreSorted, IsSorted, shifted, rearranged}
 use Rattle.pv_frame.specs.declared.action.Action.TheVariants as act
-use Rattle.pv_frame.specs.Stacks.{is_wide, has_room, first_cleared, moved, set_local}
-use Rattle.pv_frame.proofs.Cited.{some_of, no_some, if_some}
-use Rattle.pv_graph.specs.declared.node.OpSort.TheVariants.{T}
-use Rattle.pv_graph.specs.Graphs.{Graph}
-use Rattle.pv_terms.specs.Terms.{IsOfSort}
-use Rattle.pv_runs.proofs.Cited.{moved_both, lists_found}
-use Rattle.pv_block.specs.declared.held.Cell.{Cell}
-use Rattle.pv_block.specs.declared.held.Held.{Held}
-use Rattle.pv_block.specs.Cells.{sort_in, empty}
-use Rattle.pv_block.specs.Sorted.{IsSortedCell, AreSorted, IsSorted}
-use Rattle.pv_block.specs.Acting.{shifted, rearranged}
 
 module _ (g : Graph) where
   -- one cell, which has its sort

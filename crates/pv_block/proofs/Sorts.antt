@@ -1,28 +1,15 @@
 -- Sorts: those of operands are known, and operations over operands have the sorts of what they give.
 use Rattle.std.proofs.Common.{◌≡◌, ◌≢◌, Bool, true, List, [], ◌∷◌, Option, Some, None, refl, ap, sym, ◌∙◌}
-use Rattle.std.specs.Prelude.{map, option_map, ◌&&◌, if◌then◌else◌}
-use Rattle.std.specs.List.{AllByRecursion}
-use Rattle.pv_value.specs.declared.descriptor.JType.{JType}
+use Rattle.pv_block.proofs.Words.{map, option_map, ◌&&◌, if◌then◌else◌, AllByRecursion, JType, Descriptor, Sym, bind, field_type, Sort, sort_of_type, sort_of_word, sort_of_kind, fits, OpSort, I, L, A, N, F, T, H, R, same_sort, same_sorts, exactly, word_sort, type_sort, kind_sort, field_sort, type_sorts, result_sort, call_sorts, sort_over, IsPlain, op_sort}
 use Rattle.pv_value.specs.declared.descriptor.JType.TheVariants as jtype
-use Rattle.pv_value.specs.declared.descriptor.Descriptor.{Descriptor}
 use Rattle.pv_value.specs.declared.heap.Kind.{Kind}
 use Rattle.pv_value.specs.declared.heap.Kind.TheVariants as kind
-use Rattle.pv_value.specs.declared.name.Sym.{Sym}
-use Rattle.pv_value.specs.Spelled.{bind, field_type}
 use Rattle.pv_value.specs.Operations as operation
 use Rattle.pv_value.proofs.Cited.{method_spelled}
 use Rattle.pv_frame.specs.declared.action.Action.TheVariants as act
-use Rattle.pv_frame.specs.declared.sort.Sort.{Sort}
 use Rattle.pv_frame.specs.declared.sort.Sort.TheVariants as sort
 use Rattle.pv_frame.specs.Actions.{IsFloatless, HasFloatlessResult}
-use Rattle.pv_frame.specs.Effects.{sort_of_type, sort_of_word, sort_of_kind}
-use Rattle.pv_frame.specs.Stacks.{fits}
 use Rattle.pv_graph.specs.declared.node.Op.TheVariants as op
-use Rattle.pv_graph.specs.declared.node.OpSort.{OpSort}
-use Rattle.pv_graph.specs.declared.node.OpSort.TheVariants.{I, L, A, N, F, T, H, R}
-use Rattle.pv_graph.specs.Ops.{same_sort, same_sorts, exactly, word_sort, type_sort, kind_sort, field_sort, type_sorts, result_sort, call_sorts, sort_over}
-use Rattle.pv_block.specs.Plain.{IsPlain}
-use Rattle.pv_block.specs.Sorted.{op_sort}
 
 -- a value that is there where one of a sort is asked for has a sort
 pub fits_known : (s t : Sort) → fits s t ≡ true → s ≢ sort.Unknown

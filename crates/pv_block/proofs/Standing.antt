@@ -1,24 +1,12 @@
 -- Nodes go on standing for parts where a graph grows, and an operation over them stands for the part over theirs.
 use Rattle.std.proofs.Common.{◌≡◌, ◌≢◌, ℕ, List, [], ◌∷◌, get_or, Some, inl, inr, refl, sym, subst}
+use Rattle.pv_block.proofs.Words.{Op, Node, OpSort, T, plain, shape, sort_over, HaveSorts, HasSort, Graph, FitsOver, Part, Parts, Of, NoPart, More, put, put_all, Reads, ReadAll, Stand, Grows, IsOfSort, HasItsSort, ReadsOver, ReadsBoth, names_stand, standing_reads, extends_stand, Cell, Entry, IsEntered, StandsFor, AllStand, CellStands, StandsOver}
 use Rattle.pv_frame.specs.declared.sort.Sort.TheVariants as sort
-use Rattle.pv_graph.specs.declared.node.Op.{Op}
 use Rattle.pv_graph.specs.declared.node.Op.TheVariants as op
-use Rattle.pv_graph.specs.declared.node.Node.{Node}
-use Rattle.pv_graph.specs.declared.node.OpSort.{OpSort}
-use Rattle.pv_graph.specs.declared.node.OpSort.TheVariants.{T}
-use Rattle.pv_graph.specs.Ops.{plain, shape, sort_over, HaveSorts, HasSort}
-use Rattle.pv_graph.specs.Graphs.{Graph}
-use Rattle.pv_graph.specs.Calls.{FitsOver}
 use Rattle.pv_graph.proofs.Cited.{exactly_are}
 use Rattle.pv_equations.specs.Exp.{Exp, Exps, Over, made}
-use Rattle.pv_equations.specs.Flow.{Part, Parts, Of, NoPart, More, put, put_all}
 use Rattle.pv_terms.specs.declared.names.Named.{Named}
-use Rattle.pv_terms.specs.Reads.{Reads, ReadAll, Stand}
-use Rattle.pv_terms.specs.Terms.{Grows, IsOfSort, HasItsSort, ReadsOver, ReadsBoth}
-use Rattle.pv_terms.proofs.Cited.{names_stand, standing_reads, extends_stand}
 use Rattle.pv_runs.specs.Held as parts
-use Rattle.pv_block.specs.declared.held.Cell.{Cell}
-use Rattle.pv_block.specs.Standing.{Entry, IsEntered, StandsFor, AllStand, CellStands, StandsOver}
 
 -- ---- growth
 

@@ -85,6 +85,13 @@ fn pushes(alloc: Global, op: Op, kids: Kids, sort: Sort) -> Result<Effect, Memor
     effect_of(alloc, [line_of(op, kids)], Pushes(sort, Made(0)))
 }
 
+// The value of an operation over the heap and the operands is pushed.
+fn reads(alloc: Global, op: Op, sort: Sort) -> Result<Effect, Memory>
+    ensures { IfOk result (λ e. e ≡ effects.pushes op Kids.WithHeap sort) }
+{
+    pushes(alloc, op, WithHeap, sort)
+}
+
 // The value of an operation over the heap and the operands is the heap.
 fn writes(alloc: Global, op: Op) -> Result<Effect, Memory>
     ensures { IfOk result (λ e. e ≡ effects.writes op) }
@@ -160,17 +167,10 @@ pub(crate) fn effect_for(alloc: Global, action: &Action) -> Result<Option<Effect
         }
         Action::PutStatic(_, f) => writes(alloc, Op::PutStatic(copy_sym(alloc, f)?))?,
         Action::GetField(t, f) => {
-            pushes(
-                alloc,
-                Op::GetField(copy_sym(alloc, f)?),
-                WithHeap,
-                sort_of_type(*t),
-            )?
+            reads(alloc, Op::GetField(copy_sym(alloc, f)?), sort_of_type(*t))?
         }
         Action::PutField(_, f) => writes(alloc, Op::PutField(copy_sym(alloc, f)?))?,
-        Action::LoadElement(kind) => {
-            pushes(alloc, Op::Load(*kind), WithHeap, sort_of_kind(*kind))?
-        }
+        Action::LoadElement(kind) => reads(alloc, Op::Load(*kind), sort_of_kind(*kind))?,
         Action::StoreElement(kind) => writes(alloc, Op::Store(*kind))?,
         Action::StoreRef => writes(alloc, Op::Store(Kind::Ref))?,
         Action::Length => pushes(alloc, Op::Length, Operands, Sort::Int)?,

@@ -1,7 +1,5 @@
 use Rattle.std.proofs.Common.{◌≡◌, List, ℕ, ap, sym, subst, ◌∙◌}
-use Rattle.std.proofs.lemmas.Result.{IfOk-weaker}
-use Rattle.pv_block.specs.Lines.{Fit}
-use Rattle.pv_block.specs.Effects.{given_nodes, HoldsAfter, SortedAfter}
+use Rattle.pv_block.proofs.Words.{IfOk-weaker, Fit, given_nodes, HoldsAfter, SortedAfter}
 use Rattle.pv_block.proofs.Holding.{rearranged_holds}
 use Rattle.pv_block.proofs.Rearranged.{if_sorted}
 use Rattle.pv_block.proofs.Changed.{reads_none, acts_by_effect, effect_fit, sorted_by_effect}

@@ -1,8 +1,5 @@
 use Rattle.std.proofs.Common.{ap, sym, subst, ◌∙◌, List, ℕ}
-use Rattle.std.proofs.lemmas.Result.{IfOk-weaker}
-use Rattle.pv_block.specs.declared.line.Line.{Line}
-use Rattle.pv_block.specs.Lines.{AreMade}
-use Rattle.pv_block.specs.Effects.{changed, HoldsAfter, SortedAfter}
+use Rattle.pv_block.proofs.Words.{IfOk-weaker, Line, AreMade, changed, HoldsAfter, SortedAfter}
 use Rattle.pv_block.proofs.Changed.{effect_holds, effect_sorted}
 use Rattle.pv_block.proofs.effect.affected.Goals as goal
 

@@ -1,11 +1,5 @@
 use Rattle.std.proofs.Common.{◌≡◌, ℕ, ◌+◌, drop, List, sym, ap, subst, ◌∙◌}
-use Rattle.std.proofs.lemmas.List.{drop_all}
-use Rattle.pv_graph.specs.Calls.{FitsOver}
-use Rattle.pv_terms.specs.Terms.{HasItsSort}
-use Rattle.pv_block.specs.Standing.{StandsOver}
-use Rattle.pv_terms.proofs.Cited.{grows_then}
-use Rattle.pv_block.specs.declared.line.Line.{Line}
-use Rattle.pv_block.specs.Lines.{nodes_for}
+use Rattle.pv_block.proofs.Words.{drop_all, FitsOver, HasItsSort, StandsOver, grows_then, Line, nodes_for}
 use Rattle.pv_block.proofs.Lines.{SoFar, so_far_none, so_far_all, line_fits, so_far_next, next_left}
 use Rattle.pv_block.proofs.line.emit.Goals as goal
 

@@ -1,10 +1,6 @@
 use Rattle.std.proofs.Common.{◌≡◌, ◌≢◌, ap, sym, subst, length, arith}
-use Rattle.std.proofs.lemmas.Result.{IfOk-weaker}
-use Rattle.pv_graph.specs.declared.node.Op.{Op}
+use Rattle.pv_block.proofs.Words.{IfOk-weaker, Op, FitsOver, HasItsSort, ReadsOver, StandsOver}
 use Rattle.pv_graph.specs.declared.node.Op.TheVariants as op
-use Rattle.pv_graph.specs.Calls.{FitsOver}
-use Rattle.pv_terms.specs.Terms.{HasItsSort, ReadsOver}
-use Rattle.pv_block.specs.Standing.{StandsOver}
 use Rattle.pv_block.proofs.Standing.{both_two, stands_two, sort_of_two, stands_over}
 use Rattle.pv_block.proofs.line.operation.Goals as goal
 use Rattle.pv_block.proofs.line.operation.Goals.{in-Both, in_default}

@@ -1,9 +1,6 @@
 use Rattle.std.proofs.Common.{refl}
+use Rattle.pv_block.proofs.Words.{T, F, grows_same, grows_then, unit_part, entry_of}
 use Rattle.pv_graph.specs.declared.node.Op.TheVariants as op
-use Rattle.pv_graph.specs.declared.node.OpSort.TheVariants.{T, F}
-use Rattle.pv_terms.proofs.Cited.{grows_same, grows_then}
-use Rattle.pv_runs.specs.Held.{unit_part}
-use Rattle.pv_block.specs.Ran.{entry_of}
 use Rattle.pv_block.proofs.Standing.{grown, stands_on, over_none, makes}
 use Rattle.pv_block.proofs.Exits.{sort_on, cells_on}
 use Rattle.pv_block.proofs.Whole.{holds_first}

@@ -1,21 +1,11 @@
 -- Folds stand for what trees give.
-use Rattle.std.proofs.Common.{◌≡◌, ◌≢◌, ℕ, zero, suc, List, [], ◌∷◌, ◌++◌, length, get_or, Option, Some, None, slice_get, ⊎_elim, refl, sym, ap, ◌∙◌, subst, subst₂, arith, if◌then◌else◌}
-use Rattle.std.specs.Prelude.{slice_index}
+use Rattle.std.proofs.Common.{◌≡◌, ◌≢◌, ℕ, zero, suc, List, [], ◌∷◌, ◌++◌, length, Option, Some, None, slice_get, ⊎_elim, refl, sym, ap, ◌∙◌, subst, subst₂, arith, if◌then◌else◌}
+use Rattle.pv_terms.proofs.Words.{slice_index, OpSort, same_sort, but_root, sort_over, HasSort, Graph, push_cases, Exp, Over, three, Joins, Named, Reads, Grows, IsOfSort, ReadsOver, IsMaybeOf, AreMaybeOf, GivenSort, ReadsMaybe, ReadsJoin, AreGiven, ReadsOne, ReadsFold}
 use Rattle.pv_graph.specs.declared.node.Op.TheVariants as op
-use Rattle.pv_graph.specs.declared.node.OpSort.{OpSort}
 use Rattle.pv_graph.specs.declared.node.OpSort.TheVariants as sort
-use Rattle.pv_graph.specs.Ops.{same_sort, but_root, sort_over, HasSort}
-use Rattle.pv_graph.specs.Graphs.{Graph}
-use Rattle.pv_graph.proofs.Cited.{push_cases}
-use Rattle.pv_equations.specs.Exp.{Exp, Over, three}
-use Rattle.pv_equations.specs.Equations.{Joins}
 use Rattle.pv_decide.specs.declared.tree.TreeNode.{TreeNode}
 use Rattle.pv_decide.specs.declared.tree.TreeNode.TheVariants as node
 use Rattle.pv_decide.specs.Folds.{Folds, at_leaf, at_test, at_nothing, at_dead}
-use Rattle.pv_terms.specs.declared.names.Named.{Named}
-use Rattle.pv_terms.specs.Reads.{Reads}
-use Rattle.pv_terms.specs.Terms.{Grows, IsOfSort, ReadsOver}
-use Rattle.pv_terms.specs.Fold.{IsMaybeOf, AreMaybeOf, GivenSort, ReadsMaybe, ReadsJoin, AreGiven, ReadsOne, ReadsFold}
 use Rattle.pv_terms.proofs.Reading.{reads_once, reads_one, names_stand, extends_stand}
 use Rattle.pv_terms.proofs.Made.{reads_grown}
 
@@ -41,9 +31,6 @@ maybe_sort_grown : (old new : Graph) → Grows old new → (s : OpSort) (n : Opt
 maybe_sort_grown old new g s None h = tt
 maybe_sort_grown old new g s (Some n) h = g.extends.sorts n s h
 
-pub sorts_grown : (old new : Graph) → Grows old new → (s : OpSort) (made : List (Option ℕ)) → AreMaybeOf old s made → AreMaybeOf new s made
-sorts_grown old new g s made a k d less = maybe_sort_grown old new g s (get_or made k d) (a k d less)
-
 pub given_sort_grown : (old new : Graph) → Grows old new → (tree : List TreeNode) (given : List ℕ) (dead : Option ℕ) (s : OpSort) → GivenSort old tree given dead s → GivenSort new tree given dead s
 given_sort_grown old new g tree given dead s h = record {
   value = h.value;
@@ -63,13 +50,6 @@ sorts_push g h w s (x ∷ made) one a o (suc k) d less = sorts_push g h w s made
 pub maybe_grown : (old new : Graph) (names : List Named) → Grows old new → (n : Option ℕ) (r : Option Exp) → ReadsMaybe old.nodes names n r → ReadsMaybe new.nodes names n r
 maybe_grown old new names g None r h = h
 maybe_grown old new names g (Some n) r (e, h, is) = (e, reads_grown old new names n e g h, is)
-
--- one side gives nothing
-pub join_no : (g : Graph) (test : ℕ) (no' : Option ℕ) → ReadsJoin g test None no' g no'
-join_no g test no' depth names c u v q are rt ru rv j = subst (ReadsMaybe g.nodes names no') (sym (subst (λ (u : Option Exp). Joins c u v q) ru j)) rv
-
-pub join_yes : (g : Graph) (test : ℕ) (u : ℕ) → ReadsJoin g test (Some u) None g (Some u)
-join_yes g test n depth names c u v q are rt (x, rx, xu) rv j = (x, rx, subst₂ (λ (u v : Option Exp). Joins c u v q) xu rv j)
 
 -- both sides give one node
 pub join_same : (g : Graph) (test : ℕ) (n : ℕ) → ReadsJoin g test (Some n) (Some n) g (Some n)
@@ -123,9 +103,6 @@ module _ (tree : List TreeNode) (leaf test : ℕ → ℕ → Exp) (d : Option Ex
   folds_test b t y m here (at_dead k z there is) = absurd (let s : node.Dead ≡ node.Test b t y m = cc in cc)
 
 module _ (g : Graph) (tree : List TreeNode) (given : List ℕ) (dead : Option ℕ) (made : List (Option ℕ)) (i : ℕ) where
-  pub one_leaf : (b e : ℕ) → slice_get tree i ≡ Some (node.Leaf b e) → ReadsOne g tree given dead made i g (Some (slice_index given i))
-  one_leaf b e here depth names leaf test d are ag am r fo = (leaf b e, ag.leaves i b e here, folds_leaf tree leaf test d i r b e here fo)
-
   pub one_nothing : slice_get tree i ≡ Some node.Nothing → ReadsOne g tree given dead made i g None
   one_nothing here depth names leaf test d are ag am r fo = folds_nothing tree leaf test d i r here fo
 
@@ -138,9 +115,6 @@ module _ (g : Graph) (tree : List TreeNode) (given : List ℕ) (dead : Option �
       j depth names (test b t) z.0 z.1 r are (ag.tests i b t y m here) (am y z.0 yes' ym z.2) (am m z.1 no' nm z.3) z.4
 
 -- ---- the nodes made so far
-
-pub fold_none : (old new : Graph) (tree : List TreeNode) (given : List ℕ) (dead : Option ℕ) → ReadsFold old tree given dead new []
-fold_none old new tree given dead depth names leaf test d are ag n r one here fo = absurd (cc)
 
 given_grown : (old new : Graph) (names : List Named) → Grows old new → (tree : List TreeNode) (given : List ℕ) (dead : Option ℕ) (leaf test : ℕ → ℕ → Exp) (d : Option Exp) → AreGiven old.nodes names tree given dead leaf test d → AreGiven new.nodes names tree given dead leaf test d
 given_grown old new names g tree given dead leaf test d a = record {

@@ -1,5 +1,5 @@
 use Rattle.std.proofs.Common.{◌∙◌, ℕ, ◌+◌, List, [], ◌∷◌, length, length-append, Option, ap, sym, subst}
-use Rattle.pv_terms.specs.Fold.{AreMaybeOf, ReadsOne, ReadsFold}
+use Rattle.pv_terms.proofs.Words.{AreMaybeOf, ReadsOne, ReadsFold}
 use Rattle.pv_terms.proofs.Growing.{grows_then}
 use Rattle.pv_terms.proofs.Folded.{fold_more, given_sort_grown, sorts_push}
 use Rattle.pv_terms.proofs.folding.fold.Goals as goal

@@ -1,6 +1,5 @@
 use Rattle.std.proofs.Common.{◌≡◌, length}
-use Rattle.pv_terms.specs.Terms.{Grows}
-use Rattle.pv_terms.specs.Fold.{ReadsFold, FoldKeepsSort}
+use Rattle.pv_terms.proofs.Words.{Grows, ReadsFold, FoldKeepsSort}
 use Rattle.pv_terms.proofs.folding.fold.Given as goal
 
 abbrev pub invariant-loop-i : goal.invariant-loop-i

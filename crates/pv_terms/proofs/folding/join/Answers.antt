@@ -1,6 +1,5 @@
 use Rattle.std.proofs.Common.{ℕ, Option, Some, sym, subst, subst₂}
-use Rattle.pv_terms.specs.Terms.{IsOfSort}
-use Rattle.pv_terms.specs.Fold.{IsMaybeOf, ReadsJoin}
+use Rattle.pv_terms.proofs.Words.{IsOfSort, IsMaybeOf, ReadsJoin}
 use Rattle.pv_terms.proofs.Folded.{join_one, join_phi, phi_has}
 use Rattle.pv_terms.proofs.folding.join.Goals as goal
 

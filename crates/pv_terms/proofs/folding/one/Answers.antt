@@ -1,6 +1,5 @@
 use Rattle.std.proofs.Common.{◌≡◌, ◌<◌, ◌∙◌, length, None, Some, get_or, slice_get, ap, arith}
-use Rattle.std.proofs.lemmas.Option.{slice_get-get_or}
-use Rattle.std.proofs.lemmas.Result.{IfOk-weaker}
+use Rattle.pv_terms.proofs.Words.{slice_get-get_or, IfOk-weaker}
 use Rattle.pv_decide.specs.declared.tree.TreeNode.TheVariants as node
 use Rattle.pv_terms.proofs.Folded.{one_nothing, one_dead, one_test}
 use Rattle.pv_terms.proofs.folding.one.Goals as goal

@@ -1,48 +1,24 @@
 -- The row of each action is its chain, and has its sorts.
 use Rattle.std.proofs.Common.{◌≡◌, ℕ, ℤ, suc, true, List, [], ◌∷◌, ◌++◌, length, Option, Some, None, refl, ap, sym, subst, ◌∙◌}
-use Rattle.std.specs.Prelude.{map, option_map, slice_get}
-use Rattle.std.specs.List.{AllByRecursion}
-use Rattle.pv_pool.specs.Readers.{◌>>=◌}
+use Rattle.pv_block.proofs.Words.{map, option_map, slice_get, AllByRecursion, ◌>>=◌, bind, JType, Descriptor, Sym, Sort, Action, sort_of_word, takes, test_takes, sorts_of_result, some_of, no_some, Op, OpSort, I, L, A, F, T, H, CallSorts, exactly, sort_over, Part, Parts, Of, NoPart, More, Exit, Chain, Leave, int_part, null_part, call_parts, after_call, with_result, acted_on, to, throw, ieq, aeq, is_zero, given_chain, chain_with, last_chain, ends_method, Kid, Given, Made, Zero, One, Two, op_sort, IsPlain, GivesResult, line, pick, taken, all_made, sort_made, parts_in, part_made, case_lines, case_tests, case_exits, branch, switch, unless_zero, unless_thrown, unless_null_or_thrown, row_for, chain_by, row_chain, WayFits, RowFits, cell_part, given_parts}
 use Rattle.pv_value.specs.Reading.{field_at}
-use Rattle.pv_value.specs.Spelled.{bind, params_at}
-use Rattle.pv_value.specs.declared.descriptor.JType.{JType}
+use Rattle.pv_value.specs.Spelled.{params_at}
 use Rattle.pv_value.specs.declared.descriptor.JType.TheVariants as jtype
-use Rattle.pv_value.specs.declared.descriptor.Descriptor.{Descriptor}
-use Rattle.pv_value.specs.declared.name.Sym.{Sym}
 use Rattle.pv_value.specs.declared.operation.ScalarOp.TheVariants.{Ieq}
 use Rattle.pv_value.specs.Operations as operation
 use Rattle.pv_insn.specs.declared.insn.Case.{Case}
-use Rattle.pv_frame.specs.declared.sort.Sort.{Sort}
 use Rattle.pv_frame.specs.declared.action.Comparison.TheVariants as comparison
 use Rattle.pv_frame.specs.declared.action.Test.{Test}
 use Rattle.pv_frame.specs.declared.action.Test.TheVariants as test
-use Rattle.pv_frame.specs.declared.action.Action.{Action}
 use Rattle.pv_frame.specs.declared.action.Action.TheVariants as act
-use Rattle.pv_frame.specs.Effects.{sort_of_word, takes, test_takes, sorts_of_result}
-use Rattle.pv_frame.proofs.Cited.{some_of, no_some}
-use Rattle.pv_graph.specs.declared.node.Op.{Op}
 use Rattle.pv_graph.specs.declared.node.Op.TheVariants as op
-use Rattle.pv_graph.specs.declared.node.OpSort.{OpSort}
-use Rattle.pv_graph.specs.declared.node.OpSort.TheVariants.{I, L, A, F, H}
-use Rattle.pv_graph.specs.Ops.{CallSorts, exactly, sort_over}
 use Rattle.pv_equations.specs.Flow as flow
-use Rattle.pv_equations.specs.Flow.{Part, Parts, Of, NoPart, More, Exit, Chain, Leave}
-use Rattle.pv_runs.specs.Held.{parts_of, int_part, null_part, call_parts, after_call, with_result, acted_on}
 use Rattle.pv_runs.specs.Held as parts
-use Rattle.pv_runs.specs.Chains.{to, throw, ieq, aeq, is_zero, given_chain, chain_with, last_chain, ends_method}
 use Rattle.pv_runs.specs.Chains as chains
-use Rattle.pv_block.specs.declared.line.Kid.{Kid}
-use Rattle.pv_block.specs.declared.line.Kid.TheVariants.{Given, Made}
-use Rattle.pv_block.specs.declared.line.Kids.TheVariants.{Zero, One, Two}
-use Rattle.pv_block.specs.Sorted.{op_sort}
-use Rattle.pv_block.specs.Plain.{IsPlain}
 use Rattle.pv_block.specs.Ran.{result_sort}
-use Rattle.pv_block.specs.Leaving.{GivesResult}
-use Rattle.pv_block.specs.Lines.{line, pick, taken, all_made, sort_made, parts_in, part_made}
-use Rattle.pv_block.specs.Rows.{case_lines, case_tests, case_exits, branch, switch, unless_zero, unless_thrown, unless_null_or_thrown, row_for, cell_part, given_parts, chain_by, row_chain, WayFits, RowFits}
 use Rattle.pv_block.specs.Rows as rows
-use Rattle.pv_block.proofs.Single.{exactly_same}
-use Rattle.pv_block.proofs.Called.{taken_by_call, call_sorted}
+use Rattle.pv_block.proofs.Sorts.{exactly_same, taken_by_call, call_sorted}
+use Rattle.pv_block.proofs.ByEffect.{in_cells}
 
 -- ---- branches
 
@@ -93,7 +69,7 @@ module _ {A : Type 0} (f : Op → List A → Option A) (given : List A) (p : A) 
   case_values [] = []
   case_values (c ∷ cs) = key c.key ∷ test c.key ∷ case_values cs
 
-  cases_made : slice_get given 1 ≡ Some p → ((n : ℤ) → f (op.Int n) [] ≡ Some (key n)) → ((n : ℤ) → f (op.Scalar Ieq) (p ∷ key n ∷ []) ≡ Some (test n)) → (cases : List Case) (k : ℕ) (made : List A) → length made ≡ k
+  cases_made : slice_get given 2 ≡ Some p → ((n : ℤ) → f (op.Int n) [] ≡ Some (key n)) → ((n : ℤ) → f (op.Scalar Ieq) (p ∷ key n ∷ []) ≡ Some (test n)) → (cases : List Case) (k : ℕ) (made : List A) → length made ≡ k
       → all_made f given (case_lines k cases) made ≡ Some (made ++ case_values cases)
   cases_made x y z [] k made e = ap Some (none_more made)
   cases_made x y z (c ∷ cs) k made e =
@@ -102,8 +78,8 @@ module _ {A : Type 0} (f : Op → List A → Option A) (given : List A) (p : A) 
       let one = made ++ i ∷ [] in
       let rest = λ (v : A). all_made f given (case_lines (suc (suc k)) cs) (one ++ v ∷ []) in
       let at_k : slice_get one k ≡ Some i = subst (λ (k : ℕ). slice_get one k ≡ Some i) e (at_end made i []) in
-      let two_kids : taken given one (Two (Given 1) (Made k)) ≡ Some (p ∷ i ∷ []) = ap (λ (o : Option A). o >>= λ v. slice_get one k >>= λ w. Some (v ∷ w ∷ [])) x ∙ ap (λ (o : Option A). o >>= λ w. Some (p ∷ w ∷ [])) at_k in
-      ap (λ (o : Option A). o >>= λ v. all_made f given (line (op.Scalar Ieq) (Two (Given 1) (Made k)) ∷ case_lines (suc (suc k)) cs) (made ++ v ∷ [])) (y c.key)
+      let two_kids : taken given one (Two (Given 2) (Made k)) ≡ Some (p ∷ i ∷ []) = ap (λ (o : Option A). o >>= λ v. slice_get one k >>= λ w. Some (v ∷ w ∷ [])) x ∙ ap (λ (o : Option A). o >>= λ w. Some (p ∷ w ∷ [])) at_k in
+      ap (λ (o : Option A). o >>= λ v. all_made f given (line (op.Scalar Ieq) (Two (Given 2) (Made k)) ∷ case_lines (suc (suc k)) cs) (made ++ v ∷ [])) (y c.key)
       ∙ ap (λ (o : Option (List A)). (o >>= f (op.Scalar Ieq)) >>= rest) two_kids
       ∙ ap (λ (o : Option A). o >>= rest) (z c.key)
       ∙ cases_made x y z cs (suc (suc k)) (one ++ t ∷ []) (two_more made i t ∙ ap (λ n. suc (suc n)) e)
@@ -141,10 +117,6 @@ switched default cases h g y =
     ∙ cases_leave (given_parts h (y ∷ [])) y.part h g default cases 0 [] refl
 
 -- ---- calls
-
-in_cells : (cells : List parts.Cell) → parts_in (map cell_part cells) ≡ parts_of cells
-in_cells [] = refl
-in_cells (c ∷ cells) = ap (More c.part) (in_cells cells)
 
 abbrev clear_chain : Sym → Parts → parts.Held → Exit → Chain
 clear_chain f ps g next = flow.Test (Of op.IsClear refl (More (Of (op.CallFault f) refl ps) NoPart)) next (Leave (throw (Of (op.CallFault f) refl ps) g))
@@ -220,11 +192,11 @@ module _ (result : Option JType) (next : ℕ) where
 
 -- ---- the sorts of a row
 
-divide_fits : (v : operation.Word) (next : ℕ) (s : Sort) → RowFits (H ∷ map op_sort (map sort_of_word (v ∷ v ∷ []))) s (unless_zero (sort_of_word v) next)
+divide_fits : (v : operation.Word) (next : ℕ) (s : Sort) → RowFits (T ∷ H ∷ map op_sort (map sort_of_word (v ∷ v ∷ []))) s (unless_zero (sort_of_word v) next)
 divide_fits operation.int next s = record { made = I ∷ I ∷ F ∷ []; are = refl; tests = (refl, tt); exits = (refl, (tt, tt)) }
 divide_fits operation.long next s = record { made = L ∷ I ∷ F ∷ []; are = refl; tests = (refl, tt); exits = (refl, (tt, tt)) }
 
-branch_fits : (t : Test) (target next : ℕ) (s : Sort) → RowFits (H ∷ map op_sort (test_takes t)) s (branch t target next)
+branch_fits : (t : Test) (target next : ℕ) (s : Sort) → RowFits (T ∷ H ∷ map op_sort (test_takes t)) s (branch t target next)
 branch_fits (test.Zero comparison.Eq) target next s = record { made = I ∷ I ∷ []; are = refl; tests = (refl, tt); exits = (tt, (tt, tt)) }
 branch_fits (test.Zero comparison.Ne) target next s = record { made = I ∷ I ∷ []; are = refl; tests = (refl, tt); exits = (tt, (tt, tt)) }
 branch_fits (test.Zero comparison.Lt) target next s = record { made = I ∷ I ∷ []; are = refl; tests = (refl, tt); exits = (tt, (tt, tt)) }
@@ -243,61 +215,61 @@ branch_fits test.Null target next s = record { made = A ∷ I ∷ []; are = refl
 branch_fits test.NonNull target next s = record { made = A ∷ I ∷ []; are = refl; tests = (refl, tt); exits = (tt, (tt, tt)) }
 
 abbrev case_sorts : List Case → List OpSort
-case_sorts cs = case_values sort_made (H ∷ I ∷ []) I (λ n. I) (λ n. I) cs
+case_sorts cs = case_values sort_made (T ∷ H ∷ I ∷ []) I (λ n. I) (λ n. I) cs
 
-switch_fits : (default : ℕ) (cases : List Case) (s : Sort) → RowFits (H ∷ I ∷ []) s (switch default cases)
+switch_fits : (default : ℕ) (cases : List Case) (s : Sort) → RowFits (T ∷ H ∷ I ∷ []) s (switch default cases)
 switch_fits default cases s = record {
   made = case_sorts cases;
-  are = cases_made sort_made (H ∷ I ∷ []) I (λ n. I) (λ n. I) refl (λ n. refl) (λ n. refl) cases 0 [] refl;
-  tests = tests (case_tests 0 cases) (cases_picked sort_made (H ∷ I ∷ []) I (λ n. I) (λ n. I) (λ t. t ≡ I) (λ n. refl) cases 0 [] refl);
+  are = cases_made sort_made (T ∷ H ∷ I ∷ []) I (λ n. I) (λ n. I) refl (λ n. refl) (λ n. refl) cases 0 [] refl;
+  tests = tests (case_tests 0 cases) (cases_picked sort_made (T ∷ H ∷ I ∷ []) I (λ n. I) (λ n. I) (λ t. t ≡ I) (λ n. refl) cases 0 [] refl);
   exits = exits cases;
 }
   where
-    tests : (ks : List Kid) → AllByRecursion (λ j. (v : OpSort) × (pick (H ∷ I ∷ []) (case_sorts cases) j ≡ Some v) × (v ≡ I)) ks → AllByRecursion (λ j. pick (H ∷ I ∷ []) (case_sorts cases) j ≡ Some I) ks
+    tests : (ks : List Kid) → AllByRecursion (λ j. (v : OpSort) × (pick (T ∷ H ∷ I ∷ []) (case_sorts cases) j ≡ Some v) × (v ≡ I)) ks → AllByRecursion (λ j. pick (T ∷ H ∷ I ∷ []) (case_sorts cases) j ≡ Some I) ks
     tests [] h = tt
     tests (k ∷ ks) h = (h.0.1 ∙ ap Some h.0.2, tests ks h.1)
 
-    exits : (cs : List Case) → AllByRecursion (WayFits (H ∷ I ∷ []) (case_sorts cases) s) (case_exits default cs)
+    exits : (cs : List Case) → AllByRecursion (WayFits (T ∷ H ∷ I ∷ []) (case_sorts cases) s) (case_exits default cs)
     exits [] = (tt, tt)
     exits (c ∷ cs) = (tt, exits cs)
 
-store_fits : (next : ℕ) (s : Sort) → RowFits (H ∷ A ∷ I ∷ A ∷ []) s (rows.stores_ref next)
+store_fits : (next : ℕ) (s : Sort) → RowFits (T ∷ H ∷ A ∷ I ∷ A ∷ []) s (rows.stores_ref next)
 unfolding params_at field_at
 store_fits next s = record { made = A ∷ I ∷ I ∷ I ∷ I ∷ I ∷ I ∷ I ∷ H ∷ I ∷ F ∷ F ∷ A ∷ F ∷ []; are = refl; tests = (refl, (refl, (refl, (refl, (refl, tt))))); exits = (refl, (refl, (refl, (tt, (tt, (refl, tt)))))) }
 
-cast_fits : (class : List ℕ) (next : ℕ) (s : Sort) → RowFits (H ∷ A ∷ []) s (rows.unless_other class next)
+cast_fits : (class : List ℕ) (next : ℕ) (s : Sort) → RowFits (T ∷ H ∷ A ∷ []) s (rows.unless_other class next)
 unfolding params_at field_at
 cast_fits class next s = record { made = A ∷ I ∷ H ∷ I ∷ A ∷ F ∷ []; are = refl; tests = (refl, (refl, tt)); exits = (tt, (tt, (refl, tt))) }
 
-ask_fits : (class : List ℕ) (next : ℕ) (s : Sort) → RowFits (H ∷ A ∷ []) s (rows.asks_class class next)
+ask_fits : (class : List ℕ) (next : ℕ) (s : Sort) → RowFits (T ∷ H ∷ A ∷ []) s (rows.asks_class class next)
 unfolding params_at field_at
 ask_fits class next s = record { made = I ∷ A ∷ I ∷ H ∷ I ∷ []; are = refl; tests = (refl, (refl, tt)); exits = (tt, (refl, (tt, tt))) }
 
 fault_over : (d : Descriptor) (f : Sym) → IsPlain (act.Call d f) → sort_over (op.CallFault f) (taken_by_call d) ≡ Some F
 fault_over d f p = ap (λ (o : Option CallSorts). bind o (λ c. exactly c.kids F (taken_by_call d))) (call_sorted d f p) ∙ exactly_same (taken_by_call d) F
 
-call_fits : (d : Descriptor) (f : Sym) (next : ℕ) (s : Sort) → IsPlain (act.Call d f) → RowFits (taken_by_call d) s (unless_thrown f next)
+call_fits : (d : Descriptor) (f : Sym) (next : ℕ) (s : Sort) → IsPlain (act.Call d f) → RowFits (T ∷ taken_by_call d) s (unless_thrown f next)
 call_fits d f next s p = record {
   made = F ∷ I ∷ [];
-  are = ap (λ (o : Option OpSort). o >>= λ x. all_made sort_made (taken_by_call d) (line op.IsClear (One (Made 0)) ∷ []) (x ∷ [])) (fault_over d f p);
+  are = ap (λ (o : Option OpSort). o >>= λ x. all_made sort_made (T ∷ taken_by_call d) (line op.IsClear (One (Made 0)) ∷ []) (x ∷ [])) (fault_over d f p);
   tests = (refl, tt);
   exits = (tt, (refl, tt));
 }
 
-receiver_fits : (d : Descriptor) (f : Sym) (next : ℕ) (s : Sort) → IsPlain (act.CallOn d f) → RowFits (taken_by_call d) s (unless_null_or_thrown f next)
+receiver_fits : (d : Descriptor) (f : Sym) (next : ℕ) (s : Sort) → IsPlain (act.CallOn d f) → RowFits (T ∷ taken_by_call d) s (unless_null_or_thrown f next)
 receiver_fits d f next s p =
-    let ss = taken_by_call d in
-    let object : slice_get ss 1 ≡ Some A = subst (λ (d : Descriptor). slice_get (taken_by_call d) 1 ≡ Some A) (sym p.0.1.1) refl in
+    let ss = T ∷ taken_by_call d in
+    let object : slice_get ss 2 ≡ Some A = subst (λ (d : Descriptor). slice_get (T ∷ taken_by_call d) 2 ≡ Some A) (sym p.0.1.1) refl in
     record {
       made = F ∷ A ∷ I ∷ F ∷ I ∷ [];
       are =
-          ap (λ (o : Option OpSort). o >>= λ x. all_made sort_made ss (line op.Null Zero ∷ line op.Aeq (Two (Given 1) (Made 1)) ∷ line op.FNull Zero ∷ line op.IsClear (One (Made 0)) ∷ []) (x ∷ [])) (fault_over d f (p.0.0, p.1))
+          ap (λ (o : Option OpSort). o >>= λ x. all_made sort_made ss (line op.Null Zero ∷ line op.Aeq (Two (Given 2) (Made 1)) ∷ line op.FNull Zero ∷ line op.IsClear (One (Made 0)) ∷ []) (x ∷ [])) (fault_over d f (p.0.0, p.1))
           ∙ ap (λ (o : Option OpSort). ((o >>= λ x. Some (x ∷ A ∷ [])) >>= sort_made op.Aeq) >>= λ x. all_made sort_made ss (line op.FNull Zero ∷ line op.IsClear (One (Made 0)) ∷ []) (F ∷ A ∷ x ∷ [])) object;
       tests = (refl, (refl, tt));
       exits = (refl, (tt, (refl, tt)));
     }
 
-give_fits : (r : Option JType) → RowFits (H ∷ map op_sort (sorts_of_result r)) (result_sort r) (rows.give r)
+give_fits : (r : Option JType) → RowFits (T ∷ H ∷ map op_sort (sorts_of_result r)) (result_sort r) (rows.give r)
 give_fits None = record { made = []; are = refl; tests = tt; exits = (refl, tt) }
 give_fits (Some jtype.Z) = record { made = I ∷ I ∷ []; are = refl; tests = tt; exits = (refl, tt) }
 give_fits (Some jtype.B) = record { made = I ∷ []; are = refl; tests = tt; exits = (refl, tt) }
@@ -306,10 +278,10 @@ give_fits (Some jtype.S) = record { made = I ∷ []; are = refl; tests = tt; exi
 give_fits (Some t) = record { made = []; are = refl; tests = tt; exits = (refl, tt) }
 
 -- A ROW FITS THE OPERANDS OF ITS ACTION
-pub row_fits : (r : Option JType) (next : ℕ) (a : Action) → IsPlain a → GivesResult r a → RowFits (H ∷ map op_sort (takes a)) (result_sort r) (row_for r next a)
+pub row_fits : (r : Option JType) (next : ℕ) (a : Action) → IsPlain a → GivesResult r a → RowFits (T ∷ H ∷ map op_sort (takes a)) (result_sort r) (row_for r next a)
 row_fits r next (act.Branch t target) p v = branch_fits t target next (result_sort r)
 row_fits r next (act.Switch default cases) p v = switch_fits default cases (result_sort r)
-row_fits r next (act.Divide o) p v = subst (λ (ws : List operation.Word). RowFits (H ∷ map op_sort (map sort_of_word ws)) (result_sort r) (unless_zero (sort_of_word (operation.gives o)) next)) (sym p.0) (divide_fits (operation.gives o) next (result_sort r))
+row_fits r next (act.Divide o) p v = subst (λ (ws : List operation.Word). RowFits (T ∷ H ∷ map op_sort (map sort_of_word ws)) (result_sort r) (unless_zero (sort_of_word (operation.gives o)) next)) (sym p.0) (divide_fits (operation.gives o) next (result_sort r))
 row_fits r next (act.GetField t f) p v = record { made = A ∷ I ∷ F ∷ []; are = refl; tests = (refl, tt); exits = (refl, (tt, tt)) }
 row_fits r next (act.PutField t f) p v = record { made = A ∷ I ∷ F ∷ []; are = refl; tests = (refl, tt); exits = (refl, (tt, tt)) }
 row_fits r next act.Length p v = record { made = A ∷ I ∷ F ∷ []; are = refl; tests = (refl, tt); exits = (refl, (tt, tt)) }
@@ -320,6 +292,6 @@ row_fits r next (act.Cast class) p v = cast_fits class next (result_sort r)
 row_fits r next (act.InstanceOf class) p v = ask_fits class next (result_sort r)
 row_fits r next (act.Call d f) p v = call_fits d f next (result_sort r) p
 row_fits r next (act.CallOn d f) p v = receiver_fits d f next (result_sort r) p
-row_fits r next (act.Give s) p v = subst (λ (ss : List Sort). RowFits (H ∷ map op_sort ss) (result_sort r) (rows.give r)) (sym v) (give_fits r)
+row_fits r next (act.Give s) p v = subst (λ (ss : List Sort). RowFits (T ∷ H ∷ map op_sort ss) (result_sort r) (rows.give r)) (sym v) (give_fits r)
 row_fits r next act.Throw p v = record { made = A ∷ I ∷ F ∷ F ∷ []; are = refl; tests = (refl, tt); exits = (refl, (refl, tt)) }
 row_fits r next a p v = record { made = []; are = refl; tests = tt; exits = (tt, tt) }

@@ -1,27 +1,14 @@
 -- The tests and exits of the last action of a block: what they stand for, and their sorts.
 use Rattle.std.proofs.Common.{◌≡◌, ℕ, zero, suc, List, [], ◌∷◌, Some, refl, subst}
-use Rattle.pv_frame.specs.declared.sort.Sort.{Sort}
+use Rattle.pv_block.proofs.Words.{Sort, some_of, no_some, Node, OpSort, F, T, H, Graph, Part, Grows, IsOfSort, unit_part, clear_part, end_slots, throw, give, Held, Ending, Returns, Entry, StandsFor, HoldsFor, op_sort, AreSorted, IsSorted, ending_slot, ExitStands, IsSortedEnding, state_of, ended, faulted, EndsFor, IsSortedState, IsSortedLeaving}
 use Rattle.pv_frame.specs.declared.sort.Sort.TheVariants as sort
-use Rattle.pv_frame.proofs.Cited.{some_of, no_some}
-use Rattle.pv_graph.specs.declared.node.Node.{Node}
-use Rattle.pv_graph.specs.declared.node.OpSort.TheVariants.{F, T, H}
-use Rattle.pv_graph.specs.Graphs.{Graph}
-use Rattle.pv_equations.specs.Flow.{Part}
-use Rattle.pv_terms.specs.Terms.{Grows, IsOfSort}
-use Rattle.pv_runs.specs.Held.{parts_of, unit_part, clear_part, int_part}
 use Rattle.pv_runs.specs.Held as parts
-use Rattle.pv_runs.specs.Chains.{end_slots, throw, give}
-use Rattle.pv_block.specs.declared.held.Held.{Held}
-use Rattle.pv_block.specs.declared.ran.Ending.{Ending}
-use Rattle.pv_block.specs.declared.ran.Leaving.TheVariants.{Returns}
-use Rattle.pv_block.specs.Standing.{Entry, StandsFor, HoldsFor}
-use Rattle.pv_block.specs.Sorted.{op_sort, AreSorted, IsSorted}
-use Rattle.pv_block.specs.Ran.{ending_slot, ExitStands, IsSortedEnding}
-use Rattle.pv_block.specs.Leaving.{state_of, ended, faulted, EndsFor, IsSortedState, IsSortedLeaving}
 use Rattle.pv_block.proofs.Standing.{grown, stands_on}
-use Rattle.pv_block.proofs.Nodes.{sort_on}
 
 -- ---- where a graph grows
+
+pub sort_on : (old new : Graph) (n : ℕ) (s : OpSort) → Grows old new → IsOfSort old n s → IsOfSort new n s
+sort_on old new n s g x = g.extends.sorts n s x
 
 pub ends_on : (at : Entry) (old new : Graph) (e : Ending) (h : parts.Held) → Grows old new → EndsFor at old.nodes e h → EndsFor at new.nodes e h
 ends_on at old new e h g x =
@@ -40,6 +27,18 @@ ending_on old new s e g x =
 pub cells_on : (old new : Graph) (cells : List _) → Grows old new → AreSorted old cells → AreSorted new cells
 cells_on old new [] g h = tt
 cells_on old new (c ∷ cells) g h = (sort_on old new c.node (op_sort c.sort) g h.0, cells_on old new cells g h.1)
+
+pub sorted_on : (old new : Graph) (c : Held) → Grows old new → IsSorted old c → IsSorted new c
+sorted_on old new c g s = record {
+  graph = g.graph;
+  stack = cells_on old new c.stack g s.stack;
+  locals = cells_on old new c.locals g s.locals;
+  heap = sort_on old new c.heap H g s.heap;
+  token = sort_on old new c.token T g s.token;
+  unit = sort_on old new c.unit T g s.unit;
+  clear = sort_on old new c.clear F g s.clear;
+  start = sort_on old new c.start T g s.start;
+}
 
 -- ---- exits
 

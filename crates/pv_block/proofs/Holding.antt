@@ -1,26 +1,8 @@
 -- What is held in nodes stands for what is held in parts: where a graph grows, and after actions that move values alone.
 use Rattle.std.proofs.Common.{◌≡◌, ℕ, zero, suc, Bool, true, false, List, [], ◌∷◌, length, Option, Some, None, inl, refl, ap, subst, ◌∙◌}
-use Rattle.std.specs.Prelude.{if◌then◌else◌, option_map, slice_get, nat_lt}
-use Rattle.std.specs.List.{AllZip}
-use Rattle.pv_pool.specs.Readers.{◌>>=◌}
-use Rattle.pv_frame.specs.declared.sort.Sort.{Sort}
-use Rattle.pv_frame.specs.declared.action.Move.{Move}
-use Rattle.pv_frame.specs.declared.action.Action.{Action}
+use Rattle.pv_block.proofs.Words.{if◌then◌else◌, option_map, slice_get, nat_lt, AllZip, ◌>>=◌, Sort, Move, Action, fits, is_wide, last_local, has_room, first_cleared, moved, set_local, some_of, no_some, if_some, fits_same, Node, Stand, stand_then, Slot, cell_sort, of_cell, unset, unit_part, clear_part, acted_on, moved_both, lists_found, Cell, Held, sort_in, cell_of, local_of, empty, Entry, CellStands, HoldsFor, shifted, rearranged, effect_for}
 use Rattle.pv_frame.specs.declared.action.Action.TheVariants as act
-use Rattle.pv_frame.specs.Stacks.{fits, is_wide, last_local, has_room, first_cleared, moved, set_local}
-use Rattle.pv_frame.proofs.Cited.{some_of, no_some, if_some, fits_same}
-use Rattle.pv_graph.specs.declared.node.Node.{Node}
-use Rattle.pv_terms.specs.Reads.{Stand}
-use Rattle.pv_terms.proofs.Cited.{stand_then}
-use Rattle.pv_equations.specs.Flow.{Slot}
-use Rattle.pv_runs.specs.Held.{cell_sort, of_cell, unset, unit_part, clear_part, local_cell, push, acted_on}
 use Rattle.pv_runs.specs.Held as parts
-use Rattle.pv_runs.proofs.Cited.{moved_both, lists_found}
-use Rattle.pv_block.specs.declared.held.Cell.{Cell}
-use Rattle.pv_block.specs.declared.held.Held.{Held}
-use Rattle.pv_block.specs.Cells.{sort_in, cell_of, local_of, empty}
-use Rattle.pv_block.specs.Standing.{Entry, CellStands, HoldsFor}
-use Rattle.pv_block.specs.Acting.{push_in, loaded, shifted, rearranged, computing, IsSingle}
 use Rattle.pv_block.proofs.Standing.{stands_on, cell_on}
 
 -- ---- growth
@@ -98,18 +80,6 @@ module _ (at : Entry) (nodes : List Node) where
   abbrev Becomes : Option Held → parts.Held → Type 0
   Becomes o g = (c : Held) × (o ≡ Some c) × HoldsFor at nodes c g
 
-  load_holds : (s : Sort) (k : ℕ) (c : Held) (h g : parts.Held) → HoldsFor at nodes c h → option_map (λ d. push h s d.part) (local_cell h k s) ≡ Some g → Becomes (loaded s k c) g
-  load_holds s k c h g x e = go (local_cell h k s) refl e
-    where
-      go : (o : Option parts.Cell) → local_cell h k s ≡ o → option_map (λ d. push h s d.part) o ≡ Some g → Becomes (loaded s k c) g
-      go None is e = no_some g e
-      go (Some d) is e =
-          let l = local_both k s c.locals h.locals d x.locals is in (
-            push_in l.0 c,
-            ap (option_map (λ cell. push_in cell c)) l.1,
-            subst (HoldsFor at nodes (push_in l.0 c)) (some_of _ _ e) (record { stand = x.stand; stack = ((l.3, l.2.1), x.stack); locals = x.locals; heap = x.heap; token = x.token; unit = x.unit; clear = x.clear; start = x.start }),
-          )
-
   store_one : (s : Sort) (k : ℕ) (c : Held) (h g : parts.Held) (cell : Cell) (d : parts.Cell) → HoldsFor at nodes c h → R cell d → acted_on (act.Store s k) h (d ∷ []) ≡ Some g → Becomes (rearranged (act.Store s k) c (cell ∷ [])) g
   store_one s k c h g cell d x r e =
       let after : parts.Held = record h { locals = set_local cell_sort unset k d h.locals } in
@@ -146,19 +116,13 @@ module _ (at : Entry) (nodes : List Node) where
   stays : (c : Held) (h g : parts.Held) → HoldsFor at nodes c h → Some h ≡ Some g → Becomes (Some c) g
   stays c h g x e = (c, refl, subst (HoldsFor at nodes c) (some_of _ _ e) x)
 
-  pub rearranged_holds : (a : Action) (c : Held) (h g : parts.Held) (cells : List Cell) (ds : List parts.Cell) → IsSingle a → computing a ≡ None → HoldsFor at nodes c h → AllZip R cells ds → acted_on a h ds ≡ Some g → Becomes (rearranged a c cells) g
-  rearranged_holds act.Nop c h g cells ds i n x z e = stays c h g x e
-  rearranged_holds (act.Branch t target) c h g cells ds i n x z e = stays c h g x e
-  rearranged_holds (act.Jump target) c h g cells ds i n x z e = stays c h g x e
-  rearranged_holds (act.Switch default cases) c h g cells ds i n x z e = stays c h g x e
-  rearranged_holds (act.Load s k) c h g cells ds i n x z e = load_holds s k c h g x e
-  rearranged_holds (act.Store s k) c h g cells ds i n x z e = store_holds s k c h g cells ds x z e
-  rearranged_holds (act.Move m) c h g cells ds i n x z e = move_holds m c h g x e
-  rearranged_holds (act.Give s) c h g cells ds i n x z e = no_some g e
-  rearranged_holds act.Throw c h g cells ds i n x z e = no_some g e
-  rearranged_holds (act.Increase k by) c h g cells ds i n x z e = absurd i
-  rearranged_holds (act.Cast class) c h g cells ds i n x z e = absurd i
-  rearranged_holds (act.InstanceOf class) c h g cells ds i n x z e = absurd i
-  rearranged_holds (act.Call d f) c h g cells ds i n x z e = absurd i
-  rearranged_holds (act.CallOn d f) c h g cells ds i n x z e = absurd i
-  rearranged_holds a c h g cells ds i n x z e = absurd (let y = n in cc)
+  pub rearranged_holds : (a : Action) (c : Held) (h g : parts.Held) (cells : List Cell) (ds : List parts.Cell) → effect_for a ≡ None → HoldsFor at nodes c h → AllZip R cells ds → acted_on a h ds ≡ Some g → Becomes (rearranged a c cells) g
+  rearranged_holds act.Nop c h g cells ds n x z e = stays c h g x e
+  rearranged_holds (act.Branch t target) c h g cells ds n x z e = stays c h g x e
+  rearranged_holds (act.Jump target) c h g cells ds n x z e = stays c h g x e
+  rearranged_holds (act.Switch default cases) c h g cells ds n x z e = stays c h g x e
+  rearranged_holds (act.Store s k) c h g cells ds n x z e = store_holds s k c h g cells ds x z e
+  rearranged_holds (act.Move m) c h g cells ds n x z e = move_holds m c h g x e
+  rearranged_holds (act.Give s) c h g cells ds n x z e = no_some g e
+  rearranged_holds act.Throw c h g cells ds n x z e = no_some g e
+  rearranged_holds a c h g cells ds n x z e = absurd (let y = n in cc)

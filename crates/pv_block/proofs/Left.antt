@@ -1,44 +1,15 @@
 -- The tests and exits of a row stand for the chain that it is, and have their sorts.
 use Rattle.std.proofs.Common.{◌≡◌, ℕ, List, [], ◌∷◌, Option, Some, inr, refl, ap, sym, subst}
-use Rattle.std.specs.Prelude.{map}
-use Rattle.std.specs.List.{AllZip, AllByRecursion}
-use Rattle.pv_pool.specs.Readers.{◌>>=◌}
-use Rattle.pv_frame.specs.declared.sort.Sort.{Sort}
+use Rattle.pv_block.proofs.Words.{map, AllZip, AllByRecursion, ◌>>=◌, Sort, fits, some_of, no_some, if_some, fits_same, Node, OpSort, I, F, HaveSorts, Graph, Part, Exit, Chain, Leave, Grows, IsOfSort, cell_sort, unit_part, to, throw, give, bound, Cell, Held, Kid, Row, Ending, Leaving, Ran, Entry, StandsFor, CellStands, HoldsFor, op_sort, AreSorted, IsSorted, IsSortedEnding, pick, all_made, part_made, node_at, Stands, AreMade, with_int, exit_by, chain_by, WayFits, with_int_node, leaving_by, LeavesByRow, KeepsSorts, ended, EndsFor, IsExit, LeavesAlong, IsSortedLeaving, AreTests}
 use Rattle.pv_frame.specs.declared.sort.Sort.TheVariants as sort
-use Rattle.pv_frame.specs.Stacks.{fits}
-use Rattle.pv_frame.proofs.Cited.{some_of, no_some, if_some, fits_same}
-use Rattle.pv_graph.specs.declared.node.Node.{Node}
-use Rattle.pv_graph.specs.declared.node.OpSort.{OpSort}
-use Rattle.pv_graph.specs.declared.node.OpSort.TheVariants.{I, F}
-use Rattle.pv_graph.specs.Ops.{HaveSorts}
-use Rattle.pv_graph.specs.Graphs.{Graph}
 use Rattle.pv_equations.specs.Flow as flow
-use Rattle.pv_equations.specs.Flow.{Part, Exit, Chain, Leave}
-use Rattle.pv_terms.specs.Terms.{Grows, IsOfSort}
-use Rattle.pv_runs.specs.Held.{cell_sort, unit_part}
 use Rattle.pv_runs.specs.Held as parts
-use Rattle.pv_runs.specs.Chains.{to, throw, give}
-use Rattle.pv_runs.proofs.Cited.{bound}
-use Rattle.pv_block.specs.declared.held.Cell.{Cell}
-use Rattle.pv_block.specs.declared.held.Held.{Held}
-use Rattle.pv_block.specs.declared.line.Kid.{Kid}
-use Rattle.pv_block.specs.declared.row.Row.{Row}
 use Rattle.pv_block.specs.declared.row.Way.{Way}
 use Rattle.pv_block.specs.declared.row.Way.TheVariants.{Goes, GoesWith, Throws, ThrowsAfter, Gives, Ends}
-use Rattle.pv_block.specs.declared.ran.Ending.{Ending}
-use Rattle.pv_block.specs.declared.ran.Leaving.{Leaving}
-use Rattle.pv_block.specs.declared.ran.Ran.{Ran}
-use Rattle.pv_block.specs.Standing.{Entry, StandsFor, CellStands, HoldsFor}
-use Rattle.pv_block.specs.Sorted.{op_sort, AreSorted, IsSorted}
-use Rattle.pv_block.specs.Ran.{IsSortedEnding}
-use Rattle.pv_block.specs.Lines.{pick, all_made, part_made, node_at, Stands, AreMade}
-use Rattle.pv_block.specs.Rows.{with_int, exit_by, chain_by, WayFits, with_int_node, leaving_by, LeavesByRow, KeepsSorts}
-use Rattle.pv_block.specs.Leaving.{ended, EndsFor, IsExit, LeavesAlong, IsSortedLeaving, AreTests}
-use Rattle.pv_block.proofs.Standing.{grown, stands_on}
+use Rattle.pv_block.proofs.Standing.{grown}
 use Rattle.pv_block.proofs.Holding.{holds_on}
-use Rattle.pv_block.proofs.Single.{sorted_on}
-use Rattle.pv_block.proofs.Lines.{zip_grown, picked}
-use Rattle.pv_block.proofs.Exits.{ends_on, ending_on, throw_exit, give_exit, ended_for, state_sorted, ended_sorted, faulted_sorted}
+use Rattle.pv_block.proofs.Lines.{stands_later, sorts_later, picked}
+use Rattle.pv_block.proofs.Exits.{ends_on, ending_on, sorted_on, throw_exit, give_exit, ended_for, state_sorted, ended_sorted, faulted_sorted}
 
 -- ---- another int on top of the stack
 
@@ -132,15 +103,15 @@ module _ (g : Graph) (given made : List ℕ) (ss ts : List OpSort) (s : Sort) (e
 module _ (old new : Graph) (row : Row) (given made : List ℕ) (ends : Ending) (c : Held) (ran : Ran) (grows : Grows old new) (is_made : AreMade old given row.lines new made) (tests : ran.tests.items ≡ map (node_at given made) row.tests)
     (exits : ran.exits.items ≡ map (leaving_by given made ends c) row.exits) where
   pub row_leaves : LeavesByRow row old.nodes given ends c new.nodes ran
-  row_leaves at ps h o x stand ends_for holds e =
+  row_leaves at ps h o x entered stand ends_for holds e =
       let b = bound (all_made part_made ps row.lines []) (λ qs. chain_by ps qs h o row.tests row.exits) x e in
-      let there = zip_grown (StandsFor at old.nodes) (StandsFor at new.nodes) (λ n p s. stands_on at old.nodes new.nodes n p (grown old new grows) s) given ps stand in
-      let l = chain_leaves at new.nodes given made ps b.0 ends c h o there (is_made.stand at ps b.0 stand b.1) (ends_on at old new ends h grows ends_for) (λ g is. holds_on at old.nodes new.nodes (grown old new grows) c g (holds g is)) row.tests row.exits x b.2 in
+      let there = stands_later old new grows at given ps stand in
+      let l = chain_leaves at new.nodes given made ps b.0 ends c h o there (is_made.stand at ps b.0 entered stand b.1) (ends_on at old new ends h grows ends_for) (λ g is. holds_on at old.nodes new.nodes (grown old new grows) c g (holds g is)) row.tests row.exits x b.2 in
       subst (λ (ts : List ℕ). LeavesAlong at new.nodes o ts ran.exits.items x) (sym tests) (subst (λ (es : List Leaving). LeavesAlong at new.nodes o (map (node_at given made) row.tests) es x) (sym exits) l)
 
   pub row_sorted : IsSortedEnding old sort.Unknown ends → IsSorted old c → KeepsSorts row old given new ran
   row_sorted ends_old sorted ss s have f =
-      let there = zip_grown (IsOfSort old) (IsOfSort new) (λ n t i. grows.extends.sorts n t i) given ss have in
+      let there = sorts_later old new grows given ss have in
       let made_have = is_made.sorts ss f.made have f.are in
       let ends_new = ending_on old new sort.Unknown ends grows ends_old in
       let sorted_new = sorted_on old new c grows sorted in

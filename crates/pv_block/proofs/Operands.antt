@@ -1,87 +1,14 @@
--- Operands that are popped are known, and what a block does with them is what it does.
-use Rattle.std.proofs.Common.{◌≡◌, ℕ, suc, Vec, Global, Bool, true, false, List, [], ◌∷◌, ◌++◌, Option, Some, None, refl, ap, sym, subst, ◌∙◌, reverse}
-use Rattle.std.specs.Prelude.{option_map, if◌then◌else◌, map}
-use Rattle.std.specs.List.{AllZip, AllByRecursion}
-use Rattle.std.proofs.lemmas.List.{reverse-append}
-use Rattle.pv_frame.proofs.Cited.{map_reverse, some_of, no_some}
-use Rattle.pv_pool.specs.Readers.{◌>>=◌}
-use Rattle.pv_value.specs.declared.descriptor.JType.{JType}
-use Rattle.pv_frame.specs.declared.sort.Sort.{Sort}
-use Rattle.pv_frame.specs.declared.sort.Sort.TheVariants as sort
-use Rattle.pv_frame.specs.declared.action.Action.{Action}
+-- What is left of a block whose last action takes its operands.
+use Rattle.std.proofs.Common.{◌≡◌, ℕ, suc, Bool, true, false, List, ◌∷◌, Option, Some, None, refl, ap, sym, subst, ◌∙◌}
+use Rattle.pv_block.proofs.Words.{if◌then◌else◌, map, AllZip, some_of, no_some, ◌>>=◌, JType, Sort, Action, Taken, popped, takes, Node, HaveSorts, T, H, Graph, Chain, Grows, cell_sort, acted_on, acted, to, chain_with, last_chain, ends_method, bound, Cell, Held, Row, Ending, Ran, sort_in, CellStands, HoldsFor, op_sort, AreSorted, IsSorted, IsPlain, popped_in, ActsOn, given_nodes, given_parts, Fit, row_for, LeavesByRow, RowFits, KeepsSorts, AreKnown, ended, LeavesBy, AreSortedExits, chain_from, LeavesFrom, LeavesAs, GivesResult}
 use Rattle.pv_frame.specs.declared.action.Action.TheVariants as act
-use Rattle.pv_frame.specs.Stacks.{Taken, fits, with_first, taken, turned, popped}
-use Rattle.pv_frame.specs.Effects.{takes}
-use Rattle.pv_graph.specs.declared.node.Node.{Node}
-use Rattle.pv_graph.specs.Ops.{HaveSorts}
-use Rattle.pv_graph.specs.declared.node.OpSort.TheVariants.{H}
-use Rattle.pv_graph.specs.Graphs.{Graph}
-use Rattle.pv_equations.specs.Flow.{Chain}
-use Rattle.pv_terms.specs.Terms.{Grows, IsOfSort}
-use Rattle.pv_runs.specs.Held.{parts_of, cell_sort, acted_on, acted}
 use Rattle.pv_runs.specs.Held as parts
-use Rattle.pv_runs.specs.Chains.{to, chain_with, last_chain, ends_method}
-use Rattle.pv_runs.proofs.Cited.{bound}
-use Rattle.pv_block.specs.declared.held.Cell.{Cell}
-use Rattle.pv_block.specs.declared.held.Held.{Held}
-use Rattle.pv_block.specs.declared.row.Row.{Row}
-use Rattle.pv_block.specs.declared.ran.Ending.{Ending}
-use Rattle.pv_block.specs.declared.ran.Ran.{Ran}
 use Rattle.pv_block.specs.Ran.{result_sort}
-use Rattle.pv_block.specs.Cells.{sort_in}
-use Rattle.pv_block.specs.Standing.{Entry, StandsFor, CellStands, HoldsFor}
-use Rattle.pv_block.specs.Sorted.{op_sort, AreSorted, IsSorted}
-use Rattle.pv_block.specs.Plain.{IsPlain}
-use Rattle.pv_block.specs.Acting.{popped_in, node_in, kids_of, ActsOn}
-use Rattle.pv_block.specs.Lines.{Stands, Fit}
-use Rattle.pv_block.specs.Rows.{row_for, cell_part, given_parts, LeavesByRow, RowFits, KeepsSorts}
-use Rattle.pv_block.specs.Leaving.{AreKnown, ended, LeavesBy, AreSortedExits, chain_from, LeavesFrom, LeavesAs, GivesResult}
-use Rattle.pv_block.proofs.Standing.{grown, stands_on, known_stands}
-use Rattle.pv_block.proofs.Single.{IsKnown, sorted_kids}
 use Rattle.pv_block.proofs.Exits.{ends_on, ended_for}
-use Rattle.pv_block.proofs.Lines.{zip_grown}
+use Rattle.pv_block.proofs.Lines.{stands_later, sorts_later}
 use Rattle.pv_block.proofs.Popped.{pops}
+use Rattle.pv_block.proofs.Changed.{given_stand, given_have}
 use Rattle.pv_block.proofs.ByRow.{goes_by_row, ends_by_row, row_fits}
-
--- ---- known sorts
-
-fits_known : (s t : Sort) → fits s t ≡ true → IsKnown s
-fits_known sort.Unknown t e is = absurd (cc)
-fits_known sort.Int t e is = absurd (cc)
-fits_known sort.Long t e is = absurd (cc)
-fits_known sort.Ref t e is = absurd (cc)
-
-taken_known : (sorts : List Sort) (stack : List Cell) (q : List Cell × List Cell) → taken sort_in sorts stack ≡ Some q → AllByRecursion IsKnown (map sort_in q.0)
-taken_known [] stack q e = subst (λ (p : List Cell × List Cell). AllByRecursion IsKnown (map sort_in p.0)) (some_of _ _ e) tt
-taken_known (s ∷ sorts) [] q e = no_some q e
-taken_known (s ∷ sorts) (x ∷ stack) q e = elim (fits x.sort s) as (λ b. fits x.sort s ≡ b → (if b then with_first x (taken sort_in sorts stack) else None) ≡ Some q → AllByRecursion IsKnown (map sort_in q.0)) [
-  | true ↦ λ b e. elim (taken sort_in sorts stack) as (λ t. taken sort_in sorts stack ≡ t → with_first x t ≡ Some q → AllByRecursion IsKnown (map sort_in q.0)) [
-    | None ↦ λ _ e. no_some q e
-    | Some r ↦ λ is e. subst (λ (p : List Cell × List Cell). AllByRecursion IsKnown (map sort_in p.0)) (some_of _ _ e) (fits_known x.sort s b, taken_known sorts stack r is)
-  ] refl e
-  | false ↦ λ _ e. no_some q e
-] refl e
-
-all_more : (xs : List Sort) (x : Sort) → AllByRecursion IsKnown xs → IsKnown x → AllByRecursion IsKnown (xs ++ x ∷ [])
-all_more [] x h i = (i, tt)
-all_more (y ∷ xs) x h i = (h.0, all_more xs x h.1 i)
-
-all_reverse : (xs : List Sort) → AllByRecursion IsKnown xs → AllByRecursion IsKnown (reverse xs)
-all_reverse [] h = tt
-all_reverse (x ∷ xs) h = subst (AllByRecursion IsKnown) (sym (reverse-append (x ∷ []) xs)) (all_more (reverse xs) x (all_reverse xs h.1) h.0)
-
-popped_known : (sorts : List Sort) (stack : List Cell) (q : List Cell × List Cell) → popped sort_in sorts stack ≡ Some q → AreKnown q.0
-popped_known sorts stack q e = elim (taken sort_in (reverse sorts) stack) as (λ t. taken sort_in (reverse sorts) stack ≡ t → turned t ≡ Some q → AreKnown q.0) [
-  | None ↦ λ _ e. no_some q e
-  | Some r ↦ λ is e. subst (λ (p : List Cell × List Cell). AreKnown p.0) (some_of _ _ e) (subst (AllByRecursion IsKnown) (sym (map_reverse sort_in r.0)) (all_reverse (map sort_in r.0) (taken_known (reverse sorts) stack r is)))
-] refl e
-
-pub pops_known : (a : Action) (c rest : Held) (cells : List Cell) → popped_in a c ≡ Some (cells, rest) → AreKnown cells
-pops_known a c rest cells e = go (popped sort_in (takes a) c.stack) refl e
-  where
-    go : (t : Taken Cell) → popped sort_in (takes a) c.stack ≡ t → option_map {U = List Cell × Held} (λ (q : List Cell × List Cell). (q.0, record c { stack = q.1 })) t ≡ Some (cells, rest) → AreKnown cells
-    go None i e = no_some _ e
-    go (Some q) i e = subst (λ (z : List Cell × Held). AreKnown z.0) (some_of _ _ e) (popped_known (takes a) c.stack q i)
 
 -- ---- what is left of a block
 
@@ -101,31 +28,17 @@ module _ (r : Option JType) (k : ℕ) (a : Action) (old new : List Node) (c : He
       let p = pops at old a c h b.0 hold b.1 in
       no_some _ (sym is ∙ p.popped_)
 
--- ---- operands as nodes
-
-pub given_stand : (at : Entry) (nodes : List Node) (held : Held) (h : parts.Held) (cells : List Cell) (ds : List parts.Cell) → AreKnown cells → HoldsFor at nodes held h → AllZip (CellStands at nodes) cells ds → Stands at nodes (kids_of true held.heap cells) (given_parts h ds)
-given_stand at nodes held h cells ds k x z = (x.heap, nodes_stand cells ds k z)
-  where
-    nodes_stand : (cells : List Cell) (ds : List parts.Cell) → AreKnown cells → AllZip (CellStands at nodes) cells ds → Stands at nodes (map node_in cells) (map cell_part ds)
-    nodes_stand [] [] k z = tt
-    nodes_stand [] (d ∷ ds) k z = absurd z
-    nodes_stand (c ∷ cells) [] k z = absurd z
-    nodes_stand (c ∷ cells) (d ∷ ds) k z = (known_stands at nodes c d k.0 z.0, nodes_stand cells ds k.1 z.1)
-
-pub given_sorted : (old new : Graph) (a : Action) (held : Held) (cells : List Cell) → Grows old new → IsSorted old held → AreSorted old cells → map sort_in cells ≡ takes a → HaveSorts new.sorts (kids_of true held.heap cells) (H ∷ map op_sort (takes a))
-given_sorted old new a held cells g s t m = zip_grown (IsOfSort old) (IsOfSort new) (λ n x i. g.extends.sorts n x i) (kids_of true held.heap cells) (H ∷ map op_sort (takes a)) (sorted_kids old true held.heap cells (takes a) s.heap t m)
-
 -- ---- an action with its operands
 
 module _ (r : Option JType) (next : ℕ) (a : Action) (old new : Graph) (rest : Held) (cells : List Cell) (known : AreKnown cells) (ran : Ran) where
   abbrev Left : Graph → Held → Type 0
-  Left mid after = LeavesByRow (row_for r next a) mid.nodes (kids_of true rest.heap cells) (ended rest) after new.nodes ran
+  Left mid after = LeavesByRow (row_for r next a) mid.nodes (given_nodes rest cells) (ended rest) after new.nodes ran
 
   -- one that ends the method
   pub ends_from : ends_method a ≡ true → Left old rest → LeavesFrom r next a old.nodes rest cells new.nodes (Some ran)
   ends_from ends left at h ds x hold z e =
       let last = ap (λ (b : Bool). if b then last_chain r a h ds else acted_on a h ds >>= λ after. chain_with r a h ds (to next after)) (sym ends) ∙ e in
-      (ran, refl, left at (given_parts h ds) h (acted_on a h ds) x (given_stand at old.nodes rest h cells ds known hold z) (ended_for at old.nodes rest h hold) (λ g acts. no_after a h g ds (HoldsFor at old.nodes rest g) ends acts) (ends_by_row r next a h (acted_on a h ds) ds x ends last))
+      (ran, refl, left at (given_parts h ds) h (acted_on a h ds) x hold.stand (given_stand at old.nodes rest h hold cells ds known z) (ended_for at old.nodes rest h hold) (λ g acts. no_after a h g ds (HoldsFor at old.nodes rest g) ends acts) (ends_by_row r next a h (acted_on a h ds) ds x ends last))
     where
       no_after : (a : Action) (h g : parts.Held) (ds : List parts.Cell) (G : Type 0) → ends_method a ≡ true → acted_on a h ds ≡ Some g → G
       no_after (act.Give s) h g ds G ends e = no_some g e
@@ -142,11 +55,11 @@ module _ (r : Option JType) (next : ℕ) (a : Action) (old new : Graph) (rest : 
         let b = bound (acted_on a h ds) (λ after. chain_with r a h ds (to next after)) x (next_chain h ds x e) in
         let d = acts at h b.0 ds hold z b.1 in
         let there : HoldsFor at mid.nodes after b.0 = subst (λ (c : Held). HoldsFor at mid.nodes c b.0) (sym (some_of _ _ d.1)) d.2 in
-        let given = zip_grown (StandsFor at old.nodes) (StandsFor at mid.nodes) (λ n p s. stands_on at old.nodes mid.nodes n p (grown old mid grows) s) (kids_of true rest.heap cells) (given_parts h ds) (given_stand at old.nodes rest h cells ds known hold z) in (
+        let given = stands_later old mid grows at (given_nodes rest cells) (given_parts h ds) (given_stand at old.nodes rest h hold cells ds known z) in (
           ran,
           refl,
           subst (λ (o : Option parts.Held). LeavesBy at new.nodes o ran x) (sym b.1)
-              (left at (given_parts h ds) h (Some b.0) x given (ends_on at old mid (ended rest) h grows (ended_for at old.nodes rest h hold)) (λ g same. subst (HoldsFor at mid.nodes after) (some_of _ _ same) there)
+              (left at (given_parts h ds) h (Some b.0) x there.stand given (ends_on at old mid (ended rest) h grows (ended_for at old.nodes rest h hold)) (λ g same. subst (HoldsFor at mid.nodes after) (some_of _ _ same) there)
               (goes_by_row r next a h b.0 ds x b.1 b.2)),
         )
 
@@ -159,10 +72,13 @@ goes_none r next a old mid new rest cells goes acts at h ds x hold z e =
 
 -- ---- sorts
 
-pub row_fit : (old new : Graph) (r : Option JType) (next : ℕ) (a : Action) (held : Held) (cells : List Cell) (row : Row) (given : List ℕ) → row ≡ row_for r next a → given ≡ kids_of true held.heap cells → Grows old new → IsPlain a → GivesResult r a → IsSorted old held → AreSorted old cells → map sort_in cells ≡ takes a → Fit new given row.lines
+given_sorted : (old new : Graph) (a : Action) (held : Held) (cells : List Cell) → Grows old new → IsSorted old held → AreSorted old cells → map sort_in cells ≡ takes a → HaveSorts new.sorts (given_nodes held cells) (T ∷ H ∷ map op_sort (takes a))
+given_sorted old new a held cells g s t m = sorts_later old new g (given_nodes held cells) (T ∷ H ∷ map op_sort (takes a)) (subst (λ (l : List Sort). HaveSorts old.sorts (given_nodes held cells) (T ∷ H ∷ map op_sort l)) m (given_have old held s cells t))
+
+pub row_fit : (old new : Graph) (r : Option JType) (next : ℕ) (a : Action) (held : Held) (cells : List Cell) (row : Row) (given : List ℕ) → row ≡ row_for r next a → given ≡ given_nodes held cells → Grows old new → IsPlain a → GivesResult r a → IsSorted old held → AreSorted old cells → map sort_in cells ≡ takes a → Fit new given row.lines
 row_fit old new r next a held cells row given e f g p v s t m =
     let fits = row_fits r next a p v in
-    let fit : Fit new (kids_of true held.heap cells) (row_for r next a).lines = record { sorts = H ∷ map op_sort (takes a); given_have = given_sorted old new a held cells g s t m; made = fits.made; are = fits.are } in
+    let fit : Fit new (given_nodes held cells) (row_for r next a).lines = record { sorts = T ∷ H ∷ map op_sort (takes a); given_have = given_sorted old new a held cells g s t m; made = fits.made; are = fits.are } in
     subst (λ (r : Row). Fit new given r.lines) (sym e) (subst (λ (ks : List ℕ). Fit new ks (row_for r next a).lines) (sym f) fit)
 
 pub same_left : (row row' : Row) (given given' : List ℕ) (ends ends' : Ending) (old new : List Node) (c : Held) (ran : Ran) → row ≡ row' → given ≡ given' → ends ≡ ends' → LeavesByRow row old given ends c new ran → LeavesByRow row' old given' ends' c new ran
@@ -170,14 +86,7 @@ same_left row row' given given' ends ends' old new c ran e f g left =
     subst (λ (r : Row). LeavesByRow r old given' ends' c new ran) e (subst (λ (ks : List ℕ). LeavesByRow row old ks ends' c new ran) f (subst (λ (e : Ending). LeavesByRow row old given e c new ran) g left))
 
 pub left_sorted : (old new mid : Graph) (r : Option JType) (next : ℕ) (a : Action) (held : Held) (cells : List Cell) (row : Row) (given : List ℕ) (ran : Ran) → Grows old mid → IsPlain a → GivesResult r a → IsSorted old held → AreSorted old cells → map sort_in cells ≡ takes a
-    → row ≡ row_for r next a → given ≡ kids_of true held.heap cells → KeepsSorts row mid given new ran → AreSortedExits new (result_sort r) ran
+    → row ≡ row_for r next a → given ≡ given_nodes held cells → KeepsSorts row mid given new ran → AreSortedExits new (result_sort r) ran
 left_sorted old new mid r next a held cells row given ran g p v s t m e f keeps =
-    let ss = H ∷ map op_sort (takes a) in
+    let ss = T ∷ H ∷ map op_sort (takes a) in
     keeps ss (result_sort r) (subst (λ (ks : List ℕ). HaveSorts mid.sorts ks ss) (sym f) (given_sorted old mid a held cells g s t m)) (subst (RowFits ss (result_sort r)) (sym e) (row_fits r next a p v))
-
--- what is popped, as pairs
-pub popped_none : (a : Action) (c : Held) (o : Option (Vec Cell Global × Held)) → option_map (λ q. (q.0.items, q.1)) o ≡ popped_in a c → o ≡ None → popped_in a c ≡ None
-popped_none a c o e is = sym e ∙ ap (option_map (λ q. (q.0.items, q.1))) is
-
-pub popped_some : (a : Action) (c : Held) (o : Option (Vec Cell Global × Held)) (v : Vec Cell Global) (rest : Held) → option_map (λ q. (q.0.items, q.1)) o ≡ popped_in a c → o ≡ Some (v, rest) → popped_in a c ≡ Some (v.items, rest)
-popped_some a c o v rest e is = sym e ∙ ap (option_map (λ q. (q.0.items, q.1))) is

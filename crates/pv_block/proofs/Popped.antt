@@ -1,23 +1,10 @@
--- Operands that are popped: they stand for those that are popped in parts, and have the sorts that the action takes.
-use Rattle.std.proofs.Common.{◌≡◌, List, Option, Some, None, refl, ap, sym, subst, ◌∙◌}
-use Rattle.std.specs.Prelude.{map, option_map}
-use Rattle.std.specs.List.{AllZip}
-use Rattle.pv_pool.specs.Readers.{◌>>=◌}
-use Rattle.pv_frame.specs.declared.action.Action.{Action}
-use Rattle.pv_frame.specs.Stacks.{Taken, popped}
-use Rattle.pv_frame.specs.Effects.{takes}
-use Rattle.pv_frame.proofs.Cited.{some_of, no_some, popped_sorts}
-use Rattle.pv_graph.specs.declared.node.Node.{Node}
-use Rattle.pv_graph.specs.Graphs.{Graph}
-use Rattle.pv_runs.specs.Held.{cell_sort, acted_on}
+-- Operands that are popped: they stand for those that are popped in parts, and have the sorts that the action takes, which are known.
+use Rattle.std.proofs.Common.{◌≡◌, ◌≢◌, true, false, Vec, Global, List, [], ◌∷◌, ◌++◌, reverse, Option, Some, None, refl, ap, sym, subst, ◌∙◌}
+use Rattle.pv_block.proofs.Words.{map, option_map, if◌then◌else◌, AllZip, AllByRecursion, reverse-append, ◌>>=◌, Sort, Action, Taken, fits, with_first, turned, popped, takes, map_reverse, some_of, no_some, popped_sorts, Node, Graph, cell_sort, acted_on, popped_both, taken_found, Cell, Held, sort_in, Entry, CellStands, HoldsFor, AreSorted, IsSorted, popped_in, ActsOn, Acts, AreKnown}
+use Rattle.pv_frame.specs.declared.sort.Sort.TheVariants as sort
+use Rattle.pv_frame.specs.Stacks.{taken}
 use Rattle.pv_runs.specs.Held as parts
-use Rattle.pv_runs.proofs.Cited.{popped_both, taken_found}
-use Rattle.pv_block.specs.declared.held.Cell.{Cell}
-use Rattle.pv_block.specs.declared.held.Held.{Held}
-use Rattle.pv_block.specs.Cells.{sort_in}
-use Rattle.pv_block.specs.Standing.{Entry, CellStands, HoldsFor}
-use Rattle.pv_block.specs.Sorted.{AreSorted, IsSorted}
-use Rattle.pv_block.specs.Acting.{popped_in, ActsOn, Acts}
+use Rattle.pv_block.proofs.Sorts.{fits_known}
 use Rattle.pv_block.proofs.Rearranged.{Same, to_zip, of_zip}
 
 -- the operands and what is held without them, where there are operands in parts
@@ -81,3 +68,47 @@ pops_sorted g a c rest cells x e = go (popped sort_in (takes a) c.stack) refl e
           takes_ = popped_sorts sort_in (takes a) c.stack q i;
         } in
         subst (λ (z : List Cell × Held). PopsSorted g a z.0 z.1) is done
+
+-- ---- they have sorts
+
+abbrev IsKnown : Sort → Type 0
+IsKnown s = s ≢ sort.Unknown
+
+taken_known : (sorts : List Sort) (stack : List Cell) (q : List Cell × List Cell) → taken sort_in sorts stack ≡ Some q → AllByRecursion IsKnown (map sort_in q.0)
+taken_known [] stack q e = subst (λ (p : List Cell × List Cell). AllByRecursion IsKnown (map sort_in p.0)) (some_of _ _ e) tt
+taken_known (s ∷ sorts) [] q e = no_some q e
+taken_known (s ∷ sorts) (x ∷ stack) q e = elim (fits x.sort s) as (λ b. fits x.sort s ≡ b → (if b then with_first x (taken sort_in sorts stack) else None) ≡ Some q → AllByRecursion IsKnown (map sort_in q.0)) [
+  | true ↦ λ b e. elim (taken sort_in sorts stack) as (λ t. taken sort_in sorts stack ≡ t → with_first x t ≡ Some q → AllByRecursion IsKnown (map sort_in q.0)) [
+    | None ↦ λ _ e. no_some q e
+    | Some r ↦ λ is e. subst (λ (p : List Cell × List Cell). AllByRecursion IsKnown (map sort_in p.0)) (some_of _ _ e) (fits_known x.sort s b, taken_known sorts stack r is)
+  ] refl e
+  | false ↦ λ _ e. no_some q e
+] refl e
+
+all_more : (xs : List Sort) (x : Sort) → AllByRecursion IsKnown xs → IsKnown x → AllByRecursion IsKnown (xs ++ x ∷ [])
+all_more [] x h i = (i, tt)
+all_more (y ∷ xs) x h i = (h.0, all_more xs x h.1 i)
+
+all_reverse : (xs : List Sort) → AllByRecursion IsKnown xs → AllByRecursion IsKnown (reverse xs)
+all_reverse [] h = tt
+all_reverse (x ∷ xs) h = subst (AllByRecursion IsKnown) (sym (reverse-append (x ∷ []) xs)) (all_more (reverse xs) x (all_reverse xs h.1) h.0)
+
+popped_known : (sorts : List Sort) (stack : List Cell) (q : List Cell × List Cell) → popped sort_in sorts stack ≡ Some q → AreKnown q.0
+popped_known sorts stack q e = elim (taken sort_in (reverse sorts) stack) as (λ t. taken sort_in (reverse sorts) stack ≡ t → turned t ≡ Some q → AreKnown q.0) [
+  | None ↦ λ _ e. no_some q e
+  | Some r ↦ λ is e. subst (λ (p : List Cell × List Cell). AreKnown p.0) (some_of _ _ e) (subst (AllByRecursion IsKnown) (sym (map_reverse sort_in r.0)) (all_reverse (map sort_in r.0) (taken_known (reverse sorts) stack r is)))
+] refl e
+
+pub pops_known : (a : Action) (c rest : Held) (cells : List Cell) → popped_in a c ≡ Some (cells, rest) → AreKnown cells
+pops_known a c rest cells e = go (popped sort_in (takes a) c.stack) refl e
+  where
+    go : (t : Taken Cell) → popped sort_in (takes a) c.stack ≡ t → option_map {U = List Cell × Held} (λ (q : List Cell × List Cell). (q.0, record c { stack = q.1 })) t ≡ Some (cells, rest) → AreKnown cells
+    go None i e = no_some _ e
+    go (Some q) i e = subst (λ (z : List Cell × Held). AreKnown z.0) (some_of _ _ e) (popped_known (takes a) c.stack q i)
+
+-- what is popped, as pairs
+pub popped_none : (a : Action) (c : Held) (o : Option (Vec Cell Global × Held)) → option_map (λ q. (q.0.items, q.1)) o ≡ popped_in a c → o ≡ None → popped_in a c ≡ None
+popped_none a c o e is = sym e ∙ ap (option_map (λ q. (q.0.items, q.1))) is
+
+pub popped_some : (a : Action) (c : Held) (o : Option (Vec Cell Global × Held)) (v : Vec Cell Global) (rest : Held) → option_map (λ q. (q.0.items, q.1)) o ≡ popped_in a c → o ≡ Some (v, rest) → popped_in a c ≡ Some (v.items, rest)
+popped_some a c o v rest e is = sym e ∙ ap (option_map (λ q. (q.0.items, q.1))) is

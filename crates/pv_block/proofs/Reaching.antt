@@ -1,25 +1,11 @@
 -- One action after the other: what is left to do after some of them.
 use Rattle.std.proofs.Common.{◌≡◌, ℕ, zero, suc, List, Option, Some, None, refl, ap, sym, subst, ◌∙◌}
-use Rattle.std.specs.Prelude.{slice_get}
-use Rattle.pv_pool.specs.Readers.{◌>>=◌}
-use Rattle.pv_frame.specs.declared.action.Action.{Action}
-use Rattle.pv_frame.specs.declared.program.Program.{Program}
-use Rattle.pv_frame.specs.Programs.{IsAt}
-use Rattle.pv_frame.proofs.Cited.{some_of, no_some}
-use Rattle.pv_graph.specs.declared.node.Node.{Node}
-use Rattle.pv_runs.specs.Held.{acted}
+use Rattle.pv_block.proofs.Words.{slice_get, ◌>>=◌, Action, Program, IsAt, some_of, no_some, Node, acted, acted_along, Held, Entry, HoldsFor, Acts, ActsAlong}
 use Rattle.pv_runs.specs.Held as parts
-use Rattle.pv_runs.specs.Blocks.{acted_along}
-use Rattle.pv_block.specs.declared.held.Held.{Held}
-use Rattle.pv_block.specs.Standing.{Entry, HoldsFor}
-use Rattle.pv_block.specs.Acting.{Acts, ActsAlong}
 
 -- in parts, m actions are left from place j on, of the n from place k on: what is held in nodes after them stands for what is held there
 abbrev pub Reaches : Program → ℕ → ℕ → ℕ → ℕ → List Node → Held → List Node → Held → Type 0
 Reaches p n k m j old before new now = (at : Entry) (h g : parts.Held) → HoldsFor at old before h → acted_along p n k h ≡ Some g → (i : parts.Held) × HoldsFor at new now i × (acted_along p m j i ≡ Some g)
-
-pub reaches_first : (p : Program) (n k : ℕ) (nodes : List Node) (c : Held) → Reaches p n k n k nodes c nodes c
-reaches_first p n k nodes c at h g x e = (h, x, e)
 
 -- from what is held in parts the action goes on, and so do the others
 record Goes (p : Program) (m j : ℕ) (a : Action) (i g : parts.Held) : Type 0 where

@@ -1,22 +1,7 @@
 -- After actions that move values alone all that is held still has its sort.
 use Rattle.std.proofs.Common.{◌≡◌, ℕ, zero, suc, true, false, List, [], ◌∷◌, Option, Some, None, refl, ap, sym, subst, ◌∙◌}
-use Rattle.std.specs.Prelude.{if◌then◌else◌, option_map, IfSome}
-use Rattle.std.specs.List.{AllZip}
-use Rattle.pv_frame.specs.declared.sort.Sort.{Sort}
-use Rattle.pv_frame.specs.declared.action.Move.{Move}
-use Rattle.pv_frame.specs.declared.action.Action.{Action}
+use Rattle.pv_block.proofs.Words.{if◌then◌else◌, option_map, IfSome, AllZip, Sort, Move, Action, is_wide, has_room, first_cleared, moved, set_local, some_of, no_some, if_some, T, Graph, IsOfSort, moved_both, lists_found, Cell, Held, sort_in, empty, IsSortedCell, AreSorted, IsSorted, shifted, rearranged}
 use Rattle.pv_frame.specs.declared.action.Action.TheVariants as act
-use Rattle.pv_frame.specs.Stacks.{fits, is_wide, has_room, first_cleared, moved, set_local}
-use Rattle.pv_frame.proofs.Cited.{some_of, no_some, if_some}
-use Rattle.pv_graph.specs.declared.node.OpSort.TheVariants.{T}
-use Rattle.pv_graph.specs.Graphs.{Graph}
-use Rattle.pv_terms.specs.Terms.{IsOfSort}
-use Rattle.pv_runs.proofs.Cited.{moved_both, lists_found}
-use Rattle.pv_block.specs.declared.held.Cell.{Cell}
-use Rattle.pv_block.specs.declared.held.Held.{Held}
-use Rattle.pv_block.specs.Cells.{sort_in, local_of, empty}
-use Rattle.pv_block.specs.Sorted.{IsSortedCell, AreSorted, IsSorted}
-use Rattle.pv_block.specs.Acting.{push_in, loaded, shifted, rearranged}
 
 module _ (g : Graph) where
   -- one cell, which has its sort
@@ -38,11 +23,6 @@ module _ (g : Graph) where
       let f = lists_found Same (moved sort_in m stack) (moved sort_in m stack) after (moved_both Same sort_in sort_in (λ a b r. ap sort_in r.0) m stack stack (to_zip stack h)) e in
       subst (AreSorted g) (some_of _ _ (sym f.1 ∙ e)) (of_zip f.0 after f.2)
 
-  local_sorted : (s : Sort) (k : ℕ) (cells : List Cell) (c : Cell) → local_of s k cells ≡ Some c → AreSorted g cells → IsSortedCell g c
-  local_sorted s k [] c e h = absurd (let y = e in cc)
-  local_sorted s zero (d ∷ cells) c e h = subst (IsSortedCell g) (if_some (fits d.sort s) d c e).1 h.0
-  local_sorted s (suc k) (d ∷ cells) c e h = local_sorted s k cells c e h.1
-
   module _ (u : ℕ) (unit : IsOfSort g u T) where
     cleared_sorted : (cells : List Cell) → AreSorted g cells → AreSorted g (first_cleared (empty u) cells)
     cleared_sorted [] h = tt
@@ -53,14 +33,6 @@ module _ (g : Graph) where
     set_sorted zero c (d ∷ cells) x h = (x, elim (is_wide c.sort) as (λ b. AreSorted g (if b then first_cleared (empty u) cells else cells)) [ true ↦ cleared_sorted cells h.1 | false ↦ h.1 ])
     set_sorted (suc zero) c (d ∷ cells) x h = (elim (is_wide d.sort) as (λ b. IsSortedCell g (if b then empty u else d)) [ true ↦ unit | false ↦ h.0 ], set_sorted zero c cells x h.1)
     set_sorted (suc (suc k)) c (d ∷ cells) x h = (h.0, set_sorted (suc k) c cells x h.1)
-
-  load_sorted : (s : Sort) (k : ℕ) (c d : Held) → IsSorted g c → loaded s k c ≡ Some d → IsSorted g d
-  load_sorted s k c d x e = go (local_of s k c.locals) refl e
-    where
-      go : (o : Option Cell) → local_of s k c.locals ≡ o → option_map (λ cell. push_in cell c) o ≡ Some d → IsSorted g d
-      go None is e = no_some d e
-      go (Some cell) is e =
-          subst (IsSorted g) (some_of _ _ e) (record { graph = x.graph; stack = (local_sorted s k c.locals cell is x.locals, x.stack); locals = x.locals; heap = x.heap; token = x.token; unit = x.unit; clear = x.clear; start = x.start })
 
   store_sorted : (s : Sort) (k : ℕ) (c d : Held) (cells : List Cell) → IsSorted g c → AreSorted g cells → rearranged (act.Store s k) c cells ≡ Some d → IsSorted g d
   store_sorted s k c d [] x h e = no_some d e
@@ -85,7 +57,6 @@ module _ (g : Graph) where
   rearranged_sorted (act.Branch t target) c d cells x h e = stays_sorted c d x e
   rearranged_sorted (act.Jump target) c d cells x h e = stays_sorted c d x e
   rearranged_sorted (act.Switch default cases) c d cells x h e = stays_sorted c d x e
-  rearranged_sorted (act.Load s k) c d cells x h e = load_sorted s k c d x e
   rearranged_sorted (act.Store s k) c d cells x h e = store_sorted s k c d cells x h e
   rearranged_sorted (act.Move m) c d cells x h e = shift_sorted m c d x e
   rearranged_sorted a c d cells x h e = no_some d e

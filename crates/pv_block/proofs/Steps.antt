@@ -1,15 +1,10 @@
 -- Operands and locals of cells, step by step as the functions find them.
 use Rattle.std.proofs.Common.{◌≡◌, ℕ, zero, suc, ◌+◌, ◌≤◌, ◌<◌, Bool, true, false, List, [], ◌∷◌, ◌++◌, length, take, get_or, set, Option, Some, None, refl, sym, ap, subst, ◌∙◌, arith}
-use Rattle.std.specs.Prelude.{reverse, if◌then◌else◌}
+use Rattle.pv_block.proofs.Words.{reverse, if◌then◌else◌, reverse-append, length-reverse, some_of, no_some, Sort, fits, is_wide, Taken, with_first, turned, popped, first_cleared, has_room, set_local, Cell, sort_in, lost_before, stored}
 use Rattle.std.specs.Option.{option_map}
-use Rattle.std.proofs.lemmas.List.{reverse-append, length-reverse}
 use Rattle.std.proofs.lemmas.Bool.Decides.{nat_tests}
-use Rattle.pv_frame.proofs.Cited.{some_of, no_some}
-use Rattle.pv_frame.specs.declared.sort.Sort.{Sort}
 use Rattle.pv_frame.specs.declared.sort.Sort.TheVariants as sort
-use Rattle.pv_frame.specs.Stacks.{fits, is_wide, Taken, with_first, taken, turned, popped, first_cleared, has_room, set_local}
-use Rattle.pv_block.specs.declared.held.Cell.{Cell}
-use Rattle.pv_block.specs.Cells.{sort_in, lost_before, stored}
+use Rattle.pv_frame.specs.Stacks.{taken}
 
 -- ---- operands
 

@@ -1,50 +1,21 @@
 -- A whole block: from the state where it begins to the states at its exits.
 use Rattle.std.proofs.Common.{◌≡◌, ℕ, zero, suc, ◌+◌, ◌-◌, ◌<◌, Bool, true, false, List, [], ◌∷◌, length, Option, Some, None, refl, ap, sym, subst, ◌∙◌, inl, inr, arith, eq-eqb, ne_eqb}
-use Rattle.std.specs.Prelude.{◌==◌, ◌⊎◌, if◌then◌else◌, map, slice_get, Contains}
-use Rattle.std.specs.List.{AllZip, AllByRecursion}
-use Rattle.std.proofs.lemmas.Option.{slice_get_within}
+use Rattle.pv_block.proofs.Words.{◌==◌, ◌⊎◌, if◌then◌else◌, map, slice_get, Contains, AllZip, AllByRecursion, JType, Sort, Action, Program, IsAt, popped, takes, successors, some_of, no_some, Node, Graph, Part, Slot, To, End, Exit, Chain, Leave, InChain, Stand, standing_reads, cell_sort, clear_part, unit_part, local_slot, stack_slot, local_part, stack_part, slots_of, local_cells, stack_cells, held_at, acted, chain_of, turns_both, turns_local, turns_stack, Departs, has_exits, exit_departs, bound, sorts_held, HeldAt, Chained, chained_at, leads_typed, place_chain, Cell, Held, Ran, Leaving, Goes, Returns, Throws, Entry, StandsFor, CellStands, HoldsFor, AreSorted, known_by, node_of_cell, local_node, stack_node, slot_of, entry_of, ExitStands, RunsAlong, IsCellOf, IsStateOf, FitsSort, FitsFrame, RanFor, BeginsAt, IsSortedExit, IsSortedRan, StateStands, IsExit, LeavesAlong, LeavesBy, LeavesAs, GivesResult, IsSortedState, IsSortedLeaving, AreSortedExits, HoldsFirst, ArePlain, ActsAlong}
 use Rattle.std.proofs.lemmas.Slice.Zip.{AllZip-long}
-use Rattle.pv_value.specs.declared.descriptor.JType.{JType}
-use Rattle.pv_frame.specs.declared.sort.Sort.{Sort}
 use Rattle.pv_frame.specs.declared.sort.Sort.TheVariants as sort
-use Rattle.pv_frame.specs.declared.action.Action.{Action}
 use Rattle.pv_frame.specs.declared.action.Action.TheVariants as act
-use Rattle.pv_frame.specs.declared.program.Program.{Program}
 use Rattle.pv_frame.specs.declared.frame.Frame.{Frame}
-use Rattle.pv_frame.specs.Programs.{IsAt}
-use Rattle.pv_frame.specs.Stacks.{popped}
-use Rattle.pv_frame.specs.Effects.{takes, successors}
 use Rattle.pv_frame.specs.Frames.{same, frame_done, frame_after, Flows, IsEnd, Reached, AreFrames}
-use Rattle.pv_frame.proofs.Cited.{some_of, no_some}
 use Rattle.pv_flow.specs.declared.block.Block.{Block}
 use Rattle.pv_flow.specs.Blocks.{IsSpan}
 use Rattle.pv_flow.specs.Exits.{Departure, departures}
 use Rattle.pv_flow.specs.Exits as leaves
 use Rattle.pv_flow.proofs.Cited.{goes_to_successors}
-use Rattle.pv_graph.specs.declared.node.Node.{Node}
-use Rattle.pv_graph.specs.Graphs.{Graph}
 use Rattle.pv_equations.specs.Flow as flow
-use Rattle.pv_equations.specs.Flow.{Part, Slot, Dest, To, End, Kind, Exit, Chain, Leave, InChain}
-use Rattle.pv_terms.specs.Reads.{Stand}
-use Rattle.pv_terms.proofs.Cited.{standing_reads}
-use Rattle.pv_runs.specs.Held.{slots, by_turns, cell_sort, clear_part, unit_part, local_place, stack_place, local_slot, stack_slot, local_part, stack_part, slots_of, local_cells, stack_cells, held_at, acted}
 use Rattle.pv_runs.specs.Held as parts
-use Rattle.pv_runs.specs.Chains.{chain_of}
-use Rattle.pv_runs.proofs.Cited.{turns_both, turns_local, turns_stack, Departs, has_exits, exit_departs, bound, sorts_held, HeldAt, Chained, chained_at, leads_typed}
-use Rattle.pv_runs.specs.Blocks.{place_chain}
 use Rattle.pv_runs.specs.Clean.{IsClean}
-use Rattle.pv_block.specs.declared.held.Cell.{Cell}
-use Rattle.pv_block.specs.declared.held.Held.{Held}
 use Rattle.pv_block.specs.declared.ran.State.{State}
-use Rattle.pv_block.specs.declared.ran.Ran.{Ran}
-use Rattle.pv_block.specs.declared.ran.Leaving.{Leaving}
-use Rattle.pv_block.specs.declared.ran.Leaving.TheVariants.{Goes, Returns, Throws}
-use Rattle.pv_block.specs.Standing.{Entry, StandsFor, CellStands, HoldsFor}
-use Rattle.pv_block.specs.Sorted.{AreSorted}
-use Rattle.pv_block.specs.Ran.{known_by, node_of_cell, local_node, stack_node, slot_of, entry_of, ExitStands, RunsAlong, IsCellOf, IsStateOf, FitsSort, FitsFrame, result_sort, RanFor, BeginsAt, IsSortedExit, IsSortedRan}
-use Rattle.pv_block.specs.Leaving.{StateStands, IsExit, LeavesAlong, LeavesBy, LeavesAs, GivesResult, IsSortedState, IsSortedLeaving, AreSortedExits, HoldsFirst}
-use Rattle.pv_block.specs.Plain.{ArePlain}
-use Rattle.pv_block.specs.Acting.{ActsAlong}
+use Rattle.pv_block.specs.Ran.{result_sort}
 
 -- ---- slots where the block is left
 
@@ -228,39 +199,42 @@ module _ (p : Program) (frames : List (Option Frame)) (well_typed : AreFrames p 
   abbrev clean : (k : ℕ) (a : Action) → IsAt p k a → IsClean a
   clean k a at = (plain_ k a at).0
 
-  abbrev pub Whole : Type 0
-  Whole = Chained p frames well_typed clean b
-
-  pub whole : Whole
+  pub whole : Chained p frames well_typed clean b
   whole = chained_at p frames well_typed clean b span reached
 
-  -- what is held first, in the frame where the block begins
-  pub first_held : (g : Graph) (c : State) (new : List Node) (held : Held) (w : Whole) → BeginsAt g frames b.first c → HoldsFirst g c new held → HoldsFor (entry_of g c) new held (held_at w.frame)
-  first_held g c new held w (f, there, is) holds = subst (λ (f : Frame). HoldsFor (entry_of g c) new held (held_at f)) (some_of _ _ (some_of _ _ (sym there ∙ w.there))) (holds f is)
+  module _ (g : Graph) (c : State) (first mid : List Node) (held : Held) (o : Option Held) (begins : BeginsAt g frames b.first c) (holds : HoldsFirst g c first held) (acts : ActsAlong p (b.last - b.first) b.first first held mid o) where
+    -- what is held before the last action
+    pub last_held : (d : Held) × (o ≡ Some d) × HoldsFor (entry_of g c) mid d whole.held
+    last_held =
+        let in_frame = subst (λ (f : Frame). HoldsFor (entry_of g c) first held (held_at f)) (some_of _ _ (some_of _ _ (sym begins.1 ∙ whole.there))) (holds begins.0 begins.2) in
+        acts (entry_of g c) (held_at whole.frame) whole.held in_frame whole.along_
 
-  -- what is held before the last action
-  pub last_held : (g : Graph) (c : State) (old new : List Node) (held : Held) (o : Option Held) (w : Whole) → HoldsFor (entry_of g c) old held (held_at w.frame) → ActsAlong p (b.last - b.first) b.first old held new o → (d : Held) × (o ≡ Some d) × HoldsFor (entry_of g c) new d w.held
-  last_held g c old new held o w hold acts = acts (entry_of g c) (held_at w.frame) w.held hold w.along_
+    module _ (d : Held) (a : Action) (is : o ≡ Some d) (at : IsAt p b.last a) where
+      ends : chain_of p.desc.result b.last a whole.held ≡ Some whole.chain
+      ends = subst (λ (a : Action). chain_of p.desc.result b.last a whole.held ≡ Some whole.chain) (some_of _ _ (sym whole.at ∙ at)) whole.ends
 
-  -- how the block is left
-  pub left : (g : Graph) (c : State) (old new : List Node) (d : Held) (a : Action) (o : Option Ran) (w : Whole) → IsAt p b.last a → HoldsFor (entry_of g c) old d w.held → LeavesAs p.desc.result b.last a old d new o → (ran : Ran) × (o ≡ Some ran) × LeavesBy (entry_of g c) new (acted a w.held) ran w.chain
-  left g c old new d a o w at hold leaves = leaves (entry_of g c) w.held w.chain hold (subst (λ (a : Action). chain_of p.desc.result b.last a w.held ≡ Some w.chain) (some_of _ _ (sym w.at ∙ at)) w.ends)
+      -- how the block is left
+      pub left : (new : List Node) (r : Option Ran) → LeavesAs p.desc.result b.last a mid d new r → (ran : Ran) × (r ≡ Some ran) × LeavesBy (entry_of g c) new (acted a whole.held) ran whole.chain
+      left new r leaves = leaves (entry_of g c) whole.held whole.chain (subst (λ (d : Held). HoldsFor (entry_of g c) mid d whole.held) (some_of _ _ (sym last_held.1 ∙ is)) last_held.2) ends
 
-  pub runs_for : (g : Graph) (c : State) (new : List Node) (a : Action) (ran : Ran) (w : Whole) → LeavesBy (entry_of g c) new (acted a w.held) ran w.chain → (x : Chain) → place_chain p frames b ≡ Some x → RanFor (entry_of g c) new ran x
-  runs_for g c new a ran w leaves x is = subst (RanFor (entry_of g c) new ran) (some_of _ _ (sym w.is ∙ is)) (runs_along (entry_of g c) new (acted a w.held) ran.tests.items ran.exits.items w.chain leaves)
+      left_by : (new : List Node) (ran : Ran) → LeavesAs p.desc.result b.last a mid d new (Some ran) → LeavesBy (entry_of g c) new (acted a whole.held) ran whole.chain
+      left_by new ran leaves = let l = left new (Some ran) leaves in subst (λ (ran : Ran). LeavesBy (entry_of g c) new (acted a whole.held) ran whole.chain) (some_of _ _ (sym l.1)) l.2
 
-  pub runs_sorted : (g : Graph) (c : State) (new : Graph) (a : Action) (ran : Ran) (w : Whole) → IsAt p b.last a → LeavesBy (entry_of g c) new.nodes (acted a w.held) ran w.chain → AreSortedExits new (result_sort p.desc.result) ran → IsSortedRan new p frames ran
-  runs_sorted g c new a ran w at leaves s = record {
-    tests = s.tests;
-    exits = exits_sorted p frames well_typed clean new (entry_of g c) b.last a w.held at w.typed ran.tests.items ran.exits.items w.chain leaves s.exits
-        (leads_on p.desc.result b.last a w.held w.chain (subst (λ (a : Action). chain_of p.desc.result b.last a w.held ≡ Some w.chain) (some_of _ _ (sym w.at ∙ at)) w.ends));
-  }
+      pub runs_for : (new : List Node) (ran : Ran) → LeavesAs p.desc.result b.last a mid d new (Some ran) → (x : Chain) → place_chain p frames b ≡ Some x → RanFor (entry_of g c) new ran x
+      runs_for new ran leaves x x_is =
+          subst (RanFor (entry_of g c) new ran) (some_of _ _ (sym whole.is ∙ x_is)) (runs_along (entry_of g c) new (acted a whole.held) ran.tests.items ran.exits.items whole.chain (left_by new ran leaves))
+
+      pub runs_sorted : (new : Graph) (ran : Ran) → LeavesAs p.desc.result b.last a mid d new.nodes (Some ran) → AreSortedExits new (result_sort p.desc.result) ran → IsSortedRan new p frames ran
+      runs_sorted new ran leaves s = record {
+        tests = s.tests;
+        exits = exits_sorted p frames well_typed clean new (entry_of g c) b.last a whole.held at whole.typed ran.tests.items ran.exits.items whole.chain (left_by new.nodes ran leaves) s.exits (leads_on p.desc.result b.last a whole.held whole.chain ends);
+      }
 
   -- a return gives a value of the sort of the result
-  pub gives_result : (a : Action) (w : Whole) → IsAt p b.last a → GivesResult p.desc.result a
-  gives_result a w at =
-      let y = well_typed.agrees.each b.last w.typed.frame w.typed.there in
-      subst (GivesResult p.desc.result) (some_of _ _ (sym y.at ∙ at)) (elim y.goes [ inl l ↦ given y.action l.0 | inr on ↦ going y.action w.typed.frame on.after on.is ])
+  pub gives_result : (a : Action) → IsAt p b.last a → GivesResult p.desc.result a
+  gives_result a at =
+      let y = well_typed.agrees.each b.last whole.typed.frame whole.typed.there in
+      subst (GivesResult p.desc.result) (some_of _ _ (sym y.at ∙ at)) (elim y.goes [ inl l ↦ given y.action l.0 | inr on ↦ going y.action whole.typed.frame on.after on.is ])
     where
       given : (a : Action) → IsEnd p a → GivesResult p.desc.result a
       given (act.Give s) e = e
@@ -270,8 +244,5 @@ module _ (p : Program) (frames : List (Option Frame)) (well_typed : AreFrames p 
       going (act.Give s) f h e = let q = bound (popped same (takes (act.Give s)) f.stack) (λ x. frame_done (act.Give s) (record f { stack = x.1 })) h e in no_some h q.2
       going a f h e = tt
 
-  pub last_there : (w : Whole) → b.last < length p.actions
-  last_there w = slice_get_within p.actions b.last w.action w.at
-
   pub last_some : slice_get p.actions b.last ≡ None → ⊥
-  last_some e = let w = whole in no_some w.action (sym e ∙ w.at)
+  last_some e = no_some whole.action (sym e ∙ whole.at)

@@ -8,4 +8,5 @@ pub mod Cells
 pub mod Acting
 pub mod Leaving
 pub mod Lines
+pub mod Effects
 pub mod Rows

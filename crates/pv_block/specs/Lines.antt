@@ -8,12 +8,14 @@ use Rattle.pv_graph.specs.declared.node.OpSort.{OpSort}
 use Rattle.pv_graph.specs.Ops.{Shape, plain, shape, sort_over, HaveSorts}
 use Rattle.pv_graph.specs.Graphs.{Graph}
 use Rattle.pv_equations.specs.Flow.{Part, Parts, Of, NoPart, More}
+use Rattle.pv_terms.specs.Reads.{Stand}
+use Rattle.pv_terms.specs.Terms.{has_depth}
 use Rattle.pv_block.specs.declared.line.Kid.{Kid}
 use Rattle.pv_block.specs.declared.line.Kid.TheVariants.{Given, Made}
 use Rattle.pv_block.specs.declared.line.Kids.{Kids}
-use Rattle.pv_block.specs.declared.line.Kids.TheVariants.{All, Zero, One, Two, Three}
+use Rattle.pv_block.specs.declared.line.Kids.TheVariants.{WithHeap, Operands, Zero, One, Two, Three}
 use Rattle.pv_block.specs.declared.line.Line.{Line}
-use Rattle.pv_block.specs.Standing.{Entry, StandsFor, is_simple}
+use Rattle.pv_block.specs.Standing.{Entry, StandsFor}
 
 abbrev pub line : Op → Kids → Line
 line o ks = record { op = o; kids = ks }
@@ -24,9 +26,14 @@ abbrev pub pick : {A : Type 0} → List A → List A → Kid → Option A
 pick given made (Given k) = slice_get given k
 pick given made (Made k) = slice_get made k
 
--- what an operation takes
+abbrev pub but_first : {A : Type 0} → List A → Option (List A)
+but_first [] = None
+but_first (x ∷ xs) = Some xs
+
+-- what an operation takes; the token where the block begins is given first, then the heap, then the operands
 abbrev pub taken : {A : Type 0} → List A → List A → Kids → Option (List A)
-taken given made All = Some given
+taken given made WithHeap = but_first given
+taken given made Operands = but_first given >>= but_first
 taken given made Zero = Some []
 taken given made (One a) = pick given made a >>= λ x. Some (x ∷ [])
 taken given made (Two a b) = pick given made a >>= λ x. pick given made b >>= λ y. Some (x ∷ y ∷ [])
@@ -40,7 +47,7 @@ all_made f given (l ∷ ls) made = (taken given made l.kids >>= f l.op) >>= λ x
 -- ---- their sorts
 
 abbrev pub sort_made : Op → List OpSort → Option OpSort
-sort_made o sorts = if is_simple o then sort_over o sorts else None
+sort_made o sorts = if has_depth o then None else sort_over o sorts
 
 -- ---- their parts
 
@@ -61,8 +68,13 @@ abbrev pub node_at : List ℕ → List ℕ → Kid → ℕ
 node_at given made (Given k) = slice_index_or given k 0
 node_at given made (Made k) = slice_index_or made k 0
 
+abbrev pub after_first : List ℕ → List ℕ
+after_first [] = []
+after_first (n ∷ ns) = ns
+
 abbrev pub nodes_for : List ℕ → List ℕ → Kids → List ℕ
-nodes_for given made All = given
+nodes_for given made WithHeap = after_first given
+nodes_for given made Operands = after_first (after_first given)
 nodes_for given made Zero = []
 nodes_for given made (One a) = node_at given made a ∷ []
 nodes_for given made (Two a b) = node_at given made a ∷ node_at given made b ∷ []
@@ -82,4 +94,4 @@ pub record Fit (g : Graph) (given : List ℕ) (lines : List Line) : Type 0 where
 -- these nodes are what the lines make of the given ones: in sorts, and in parts
 pub record AreMade (old : Graph) (given : List ℕ) (lines : List Line) (new : Graph) (nodes : List ℕ) : Type 0 where
   pub sorts : (ss ts : List OpSort) → HaveSorts old.sorts given ss → all_made sort_made ss lines [] ≡ Some ts → HaveSorts new.sorts nodes ts
-  pub stand : (at : Entry) (ps qs : List Part) → Stands at old.nodes given ps → all_made part_made ps lines [] ≡ Some qs → Stands at new.nodes nodes qs
+  pub stand : (at : Entry) (ps qs : List Part) → Stand at.nodes old.nodes → Stands at old.nodes given ps → all_made part_made ps lines [] ≡ Some qs → Stands at new.nodes nodes qs

@@ -1,5 +1,5 @@
 -- The tests and exits of each instruction as data, over the heap and its operands, and the chain that they are.
-use Rattle.std.specs.Prelude.{◌≡◌, ℕ, suc, pos, Bool, true, false, List, [], ◌∷◌, map, Option, Some, None, if◌then◌else◌}
+use Rattle.std.specs.Prelude.{◌≡◌, ℕ, suc, pos, Bool, true, false, List, [], ◌∷◌, Option, Some, None, if◌then◌else◌}
 use Rattle.std.specs.List.{AllByRecursion}
 use Rattle.pv_pool.specs.Readers.{◌>>=◌}
 use Rattle.pv_value.specs.declared.descriptor.JType.{JType}
@@ -28,6 +28,7 @@ use Rattle.pv_graph.specs.Ops.{HaveSorts}
 use Rattle.pv_graph.specs.Graphs.{Graph}
 use Rattle.pv_equations.specs.Flow as flow
 use Rattle.pv_equations.specs.Flow.{Part, Exit, Chain, Leave}
+use Rattle.pv_terms.specs.Reads.{Stand}
 use Rattle.pv_runs.specs.Held.{unit_part}
 use Rattle.pv_runs.specs.Held as parts
 use Rattle.pv_runs.specs.Chains.{to, throw}
@@ -37,7 +38,7 @@ use Rattle.pv_block.specs.declared.held.Held.{Held}
 use Rattle.pv_block.specs.declared.line.Line.{Line}
 use Rattle.pv_block.specs.declared.line.Kid.{Kid}
 use Rattle.pv_block.specs.declared.line.Kid.TheVariants.{Given, Made}
-use Rattle.pv_block.specs.declared.line.Kids.TheVariants.{All, Zero, One, Two, Three}
+use Rattle.pv_block.specs.declared.line.Kids.TheVariants.{WithHeap, Zero, One, Two, Three}
 use Rattle.pv_block.specs.declared.row.Row.{Row}
 use Rattle.pv_block.specs.declared.row.Way.{Way}
 use Rattle.pv_block.specs.declared.row.Way.TheVariants.{Goes, GoesWith, Throws, ThrowsAfter, Gives, Ends}
@@ -75,16 +76,16 @@ ways true target next = Goes target ∷ Goes next ∷ []
 ways false target next = Goes next ∷ Goes target ∷ []
 
 abbrev pub zero_branch : Comparison → ℕ → ℕ → Row
-zero_branch c target next = record { lines = line (op.Int (pos 0)) Zero ∷ compares c (Given 1) (Made 0) ∷ []; tests = Made 1 ∷ []; exits = ways (on_true c) target next }
+zero_branch c target next = record { lines = line (op.Int (pos 0)) Zero ∷ compares c (Given 2) (Made 0) ∷ []; tests = Made 1 ∷ []; exits = ways (on_true c) target next }
 
 abbrev pub ints_branch : Comparison → ℕ → ℕ → Row
-ints_branch c target next = record { lines = compares c (Given 1) (Given 2) ∷ []; tests = Made 0 ∷ []; exits = ways (on_true c) target next }
+ints_branch c target next = record { lines = compares c (Given 2) (Given 3) ∷ []; tests = Made 0 ∷ []; exits = ways (on_true c) target next }
 
 abbrev pub same_branch : Bool → ℕ → ℕ → Row
-same_branch b target next = record { lines = line op.Aeq (Two (Given 1) (Given 2)) ∷ []; tests = Made 0 ∷ []; exits = ways b target next }
+same_branch b target next = record { lines = line op.Aeq (Two (Given 2) (Given 3)) ∷ []; tests = Made 0 ∷ []; exits = ways b target next }
 
 abbrev pub null_branch : Bool → ℕ → ℕ → Row
-null_branch b target next = record { lines = line op.Null Zero ∷ line op.Aeq (Two (Given 1) (Made 0)) ∷ []; tests = Made 1 ∷ []; exits = ways b target next }
+null_branch b target next = record { lines = line op.Null Zero ∷ line op.Aeq (Two (Given 2) (Made 0)) ∷ []; tests = Made 1 ∷ []; exits = ways b target next }
 
 abbrev pub branch : Test → ℕ → ℕ → Row
 branch (test.Zero c) target next = zero_branch c target next
@@ -97,7 +98,7 @@ branch test.NonNull target next = null_branch false target next
 -- two lines for each case, after k others, and the test that the second makes
 abbrev pub case_lines : ℕ → List Case → List Line
 case_lines k [] = []
-case_lines k (c ∷ cs) = line (op.Int c.key) Zero ∷ line (op.Scalar Ieq) (Two (Given 1) (Made k)) ∷ case_lines (suc (suc k)) cs
+case_lines k (c ∷ cs) = line (op.Int c.key) Zero ∷ line (op.Scalar Ieq) (Two (Given 2) (Made k)) ∷ case_lines (suc (suc k)) cs
 
 abbrev pub case_tests : ℕ → List Case → List Kid
 case_tests k [] = []
@@ -111,21 +112,21 @@ abbrev pub switch : ℕ → List Case → Row
 switch default cases = record { lines = case_lines 0 cases; tests = case_tests 0 cases; exits = case_exits default cases }
 
 abbrev pub unless_zero : Sort → ℕ → Row
-unless_zero sort.Long next = record { lines = line (op.Long (pos 0)) Zero ∷ line (op.Scalar Leq) (Two (Given 2) (Made 0)) ∷ line op.FArith Zero ∷ []; tests = Made 1 ∷ []; exits = Throws (Made 2) ∷ Goes next ∷ [] }
-unless_zero s next = record { lines = line (op.Int (pos 0)) Zero ∷ line (op.Scalar Ieq) (Two (Given 2) (Made 0)) ∷ line op.FArith Zero ∷ []; tests = Made 1 ∷ []; exits = Throws (Made 2) ∷ Goes next ∷ [] }
+unless_zero sort.Long next = record { lines = line (op.Long (pos 0)) Zero ∷ line (op.Scalar Leq) (Two (Given 3) (Made 0)) ∷ line op.FArith Zero ∷ []; tests = Made 1 ∷ []; exits = Throws (Made 2) ∷ Goes next ∷ [] }
+unless_zero s next = record { lines = line (op.Int (pos 0)) Zero ∷ line (op.Scalar Ieq) (Two (Given 3) (Made 0)) ∷ line op.FArith Zero ∷ []; tests = Made 1 ∷ []; exits = Throws (Made 2) ∷ Goes next ∷ [] }
 
 abbrev pub unless_null : ℕ → Row
-unless_null next = record { lines = line op.Null Zero ∷ line op.Aeq (Two (Given 1) (Made 0)) ∷ line op.FNull Zero ∷ []; tests = Made 1 ∷ []; exits = Throws (Made 2) ∷ Goes next ∷ [] }
+unless_null next = record { lines = line op.Null Zero ∷ line op.Aeq (Two (Given 2) (Made 0)) ∷ line op.FNull Zero ∷ []; tests = Made 1 ∷ []; exits = Throws (Made 2) ∷ Goes next ∷ [] }
 
 abbrev pub within : ℕ → Row
 within next = record {
   lines =
       line op.Null Zero
-      ∷ line op.Aeq (Two (Given 1) (Made 0))
+      ∷ line op.Aeq (Two (Given 2) (Made 0))
       ∷ line (op.Int (pos 0)) Zero
-      ∷ line (op.Scalar Ilt) (Two (Given 2) (Made 2))
-      ∷ line op.Length (One (Given 1))
-      ∷ line (op.Scalar Ilt) (Two (Given 2) (Made 4))
+      ∷ line (op.Scalar Ilt) (Two (Given 3) (Made 2))
+      ∷ line op.Length (One (Given 2))
+      ∷ line (op.Scalar Ilt) (Two (Given 3) (Made 4))
       ∷ line op.FNull Zero
       ∷ line op.FIndex Zero
       ∷ [];
@@ -137,15 +138,15 @@ abbrev pub stores_ref : ℕ → Row
 stores_ref next = record {
   lines =
       line op.Null Zero
-      ∷ line op.Aeq (Two (Given 1) (Made 0))
+      ∷ line op.Aeq (Two (Given 2) (Made 0))
       ∷ line (op.Int (pos 0)) Zero
-      ∷ line (op.Scalar Ilt) (Two (Given 2) (Made 2))
-      ∷ line op.Length (One (Given 1))
-      ∷ line (op.Scalar Ilt) (Two (Given 2) (Made 4))
+      ∷ line (op.Scalar Ilt) (Two (Given 3) (Made 2))
+      ∷ line op.Length (One (Given 2))
+      ∷ line (op.Scalar Ilt) (Two (Given 3) (Made 4))
       ∷ line (op.Scalar Ieq) (Two (Made 5) (Made 2))
-      ∷ line op.Aeq (Two (Given 3) (Made 0))
+      ∷ line op.Aeq (Two (Given 4) (Made 0))
       ∷ line op.Heap0 Zero
-      ∷ line (op.CallRes types.fits_sym) (Three (Made 8) (Given 1) (Given 3))
+      ∷ line (op.CallRes types.fits_sym) (Three (Made 8) (Given 2) (Given 4))
       ∷ line op.FNull Zero
       ∷ line op.FIndex Zero
       ∷ line (op.Literal types.store_text) Zero
@@ -157,7 +158,7 @@ stores_ref next = record {
 
 -- whether the first operand, an object, is of a class; what the world tells stands at this heap
 abbrev pub is_of : List ℕ → Kid → Line
-is_of class start = line (op.CallRes (types.is_sym class)) (Two start (Given 1))
+is_of class start = line (op.CallRes (types.is_sym class)) (Two start (Given 2))
 
 -- the object of a literal that is thrown by a cast
 abbrev pub cast_literal : Line
@@ -167,7 +168,7 @@ abbrev pub unless_other : List ℕ → ℕ → Row
 unless_other class next = record {
   lines =
       line op.Null Zero
-      ∷ line op.Aeq (Two (Given 1) (Made 0))
+      ∷ line op.Aeq (Two (Given 2) (Made 0))
       ∷ line op.Heap0 Zero
       ∷ is_of class (Made 2)
       ∷ cast_literal
@@ -182,7 +183,7 @@ asks_class class next = record {
   lines =
       line (op.Int (pos 1)) Zero
       ∷ line op.Null Zero
-      ∷ line op.Aeq (Two (Given 1) (Made 1))
+      ∷ line op.Aeq (Two (Given 2) (Made 1))
       ∷ line op.Heap0 Zero
       ∷ is_of class (Made 3)
       ∷ [];
@@ -191,11 +192,11 @@ asks_class class next = record {
 }
 
 abbrev pub unless_thrown : Sym → ℕ → Row
-unless_thrown f next = record { lines = line (op.CallFault f) All ∷ line op.IsClear (One (Made 0)) ∷ []; tests = Made 1 ∷ []; exits = Goes next ∷ ThrowsAfter (Made 0) ∷ [] }
+unless_thrown f next = record { lines = line (op.CallFault f) WithHeap ∷ line op.IsClear (One (Made 0)) ∷ []; tests = Made 1 ∷ []; exits = Goes next ∷ ThrowsAfter (Made 0) ∷ [] }
 
 abbrev pub unless_null_or_thrown : Sym → ℕ → Row
 unless_null_or_thrown f next = record {
-  lines = line (op.CallFault f) All ∷ line op.Null Zero ∷ line op.Aeq (Two (Given 1) (Made 1)) ∷ line op.FNull Zero ∷ line op.IsClear (One (Made 0)) ∷ [];
+  lines = line (op.CallFault f) WithHeap ∷ line op.Null Zero ∷ line op.Aeq (Two (Given 2) (Made 1)) ∷ line op.FNull Zero ∷ line op.IsClear (One (Made 0)) ∷ [];
   tests = Made 2 ∷ Made 4 ∷ [];
   exits = Throws (Made 3) ∷ Goes next ∷ ThrowsAfter (Made 0) ∷ [];
 }
@@ -203,19 +204,19 @@ unless_null_or_thrown f next = record {
 -- ---- actions that end the method
 
 abbrev pub narrowed : ScalarOp → Row
-narrowed o = record { lines = line (op.Scalar o) (One (Given 1)) ∷ []; tests = []; exits = Gives (Made 0) ∷ [] }
+narrowed o = record { lines = line (op.Scalar o) (One (Given 2)) ∷ []; tests = []; exits = Gives (Made 0) ∷ [] }
 
 abbrev pub give : Option JType → Row
 give None = only Ends
-give (Some jtype.Z) = record { lines = line (op.Int (pos 1)) Zero ∷ line (op.Scalar Iand) (Two (Given 1) (Made 0)) ∷ []; tests = []; exits = Gives (Made 1) ∷ [] }
+give (Some jtype.Z) = record { lines = line (op.Int (pos 1)) Zero ∷ line (op.Scalar Iand) (Two (Given 2) (Made 0)) ∷ []; tests = []; exits = Gives (Made 1) ∷ [] }
 give (Some jtype.B) = narrowed I2b
 give (Some jtype.C) = narrowed I2c
 give (Some jtype.S) = narrowed I2s
-give (Some t) = only (Gives (Given 1))
+give (Some t) = only (Gives (Given 2))
 
 abbrev pub throw_row : Row
 throw_row = record {
-  lines = line op.Null Zero ∷ line op.Aeq (Two (Given 1) (Made 0)) ∷ line op.FNull Zero ∷ line op.Thrown (One (Given 1)) ∷ [];
+  lines = line op.Null Zero ∷ line op.Aeq (Two (Given 2) (Made 0)) ∷ line op.FNull Zero ∷ line op.Thrown (One (Given 2)) ∷ [];
   tests = Made 1 ∷ [];
   exits = Throws (Made 2) ∷ Throws (Made 3) ∷ [];
 }
@@ -242,13 +243,6 @@ row_for result next act.Throw = throw_row
 row_for result next a = only (Goes next)
 
 -- ---- a row in parts
-
--- the heap, then the operands
-abbrev pub cell_part : parts.Cell → Part
-cell_part c = c.part
-
-abbrev pub given_parts : parts.Held → List parts.Cell → List Part
-given_parts h cells = h.heap ∷ map cell_part cells
 
 -- another int in place of the one on top of the stack
 abbrev pub with_int : Part → List parts.Cell → Option (List parts.Cell)
@@ -305,7 +299,7 @@ leaving_by given made ends c Ends = leaving.Returns ends
 -- ---- what the tests and exits of a row stand for, and their sorts
 
 abbrev pub LeavesByRow : Row → List Node → List ℕ → Ending → Held → List Node → Ran → Type 0
-LeavesByRow row old given ends c new ran = (at : Entry) (ps : List Part) (h : parts.Held) (o : Option parts.Held) (x : Chain) → Stands at old given ps → EndsFor at old ends h
+LeavesByRow row old given ends c new ran = (at : Entry) (ps : List Part) (h : parts.Held) (o : Option parts.Held) (x : Chain) → Stand at.nodes old → Stands at old given ps → EndsFor at old ends h
     → ((g : parts.Held) → o ≡ Some g → HoldsFor at old c g) → row_chain row ps h o ≡ Some x → LeavesBy at new o ran x
 
 abbrev pub KeepsSorts : Row → Graph → List ℕ → Graph → Ran → Type 0

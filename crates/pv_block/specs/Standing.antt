@@ -1,9 +1,8 @@
 -- What nodes stand for in a block: the parts of the slots where the block begins.
-use Rattle.std.specs.Prelude.{◌≡◌, ◌⊎◌, ℕ, Bool, true, false, List, [], ◌∷◌, Option, Some, ⊤}
+use Rattle.std.specs.Prelude.{◌≡◌, ◌⊎◌, ℕ, List, [], ◌∷◌, Option, Some, ⊤}
 use Rattle.std.specs.List.{AllZip}
 use Rattle.pv_frame.specs.declared.sort.Sort.TheVariants as sort
 use Rattle.pv_graph.specs.declared.node.Op.{Op}
-use Rattle.pv_graph.specs.declared.node.Op.TheVariants as op
 use Rattle.pv_graph.specs.declared.node.Node.{Node}
 use Rattle.pv_graph.specs.Ops.{plain, shape}
 use Rattle.pv_equations.specs.Exp.{Exp}
@@ -53,15 +52,6 @@ pub record HoldsFor (at : Entry) (nodes : List Node) (c : Held) (h : parts.Held)
   pub clear : StandsFor at nodes c.clear clear_part
   pub start : StandsFor at nodes c.start (Slot 0)
 
--- the operation has no depth, and is made as it is written: it isn't `both`
-abbrev pub is_simple : Op → Bool
-is_simple (op.Theta d) = false
-is_simple (op.Eval d) = false
-is_simple (op.Pass d) = false
-is_simple (op.Shift d) = false
-is_simple op.Both = false
-is_simple o = true
-
 -- whatever the kids stand for, the node stands for the operation over that
 abbrev pub StandsOver : List Node → Op → List ℕ → List Node → ℕ → Type 0
-StandsOver old o kids new n = (at : Entry) (ps : Parts) (p : shape o ≡ plain) → AllStand at old kids ps → StandsFor at new n (Of o p ps)
+StandsOver old o kids new n = (at : Entry) (ps : Parts) (p : shape o ≡ plain) → Stand at.nodes old → AllStand at old kids ps → StandsFor at new n (Of o p ps)

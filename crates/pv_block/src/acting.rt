@@ -1,29 +1,24 @@
 //! What the actions of a block do to what is held.
 
-ghost use Rattle.std.specs.Prelude.{◌≡◌, true, map, IfOk, IfSome};
+ghost use Rattle.std.specs.Prelude.{◌≡◌, ◌∷◌, [], map, IfOk, IfSome};
 ghost use Rattle.std.specs.Option.{option_map};
 ghost use Rattle.pv_frame.specs.Effects.{takes};
-ghost use Rattle.pv_graph.specs.Graphs.{IsGraph};
-ghost use Rattle.pv_graph.specs.Calls.{FitsOver};
 ghost use Rattle.pv_terms.specs.Terms.{Grows};
-ghost use Rattle.pv_block.specs.Cells.{sort_in, empty};
-ghost use Rattle.pv_block.specs.Standing.{is_simple};
+ghost use Rattle.pv_block.specs.Cells.{sort_in, empty, local_of};
 ghost use Rattle.pv_block.specs.Sorted.{IsSorted, AreSorted};
 ghost use Rattle.pv_block.specs.Plain.{IsPlain};
-ghost use Rattle.pv_block.specs.Acting.{popped_in, loaded, shifted, rearranged, kids_of, IsSingle, Computes, ActsOn, Acts};
+ghost use Rattle.pv_block.specs.Effects.{read_in};
+ghost use Rattle.pv_block.specs.Leaving.{AreKnown};
+ghost use Rattle.pv_block.specs.Acting.{popped_in, shifted, rearranged, ActsOn, Acts};
 
-use crate::calling::called;
-use crate::casting::{cast, with_int};
-use crate::computing::{Operation, computing};
+use crate::effect::{affected, given_nodes};
+use crate::effects::effect_for;
 use crate::held::{Cell, Held};
-use crate::increasing::increased;
-use crate::kids::kids_of;
 use crate::locals::{has_room, local, set_local};
-use crate::stack::{moved, operands, pushed};
+use crate::stack::{moved, operands};
 use crate::takes::takes;
 use pv_frame::{Action, Move, Sort};
 use pv_graph::{Graph, NodeId};
-use pv_terms::over;
 use pv_value::Memory;
 use std::alloc::Global;
 
@@ -57,20 +52,6 @@ fn empty(unit: NodeId) -> Cell
         sort: Sort::Unknown,
         node: unit,
     }
-}
-
-// What is held after a value of a local is pushed.
-fn loaded(alloc: Global, held: Held, sort: Sort, place: u16) -> Result<Option<Held>, Memory>
-    ensures { IfOk result (λ o. o ≡ loaded sort place held) }
-{
-    let Some(cell) = local(held.locals.as_slice(), place, sort) else {
-        return Ok(None);
-    };
-    let stack = pushed(alloc, cell, held.stack.as_slice())?;
-    Ok(Some(Held {
-        stack: stack.into(),
-        ..held
-    }))
 }
 
 // What is held after a value is stored into a local.
@@ -123,59 +104,41 @@ fn rearranged(
         Action::Nop | Action::Branch(_, _) | Action::Jump(_) | Action::Switch(_, _) => Ok(Some(
             held,
         )),
-        Action::Load(sort, place) => loaded(alloc, held, *sort, *place),
         Action::Store(sort, place) => stored(alloc, held, *sort, *place, operands),
         Action::Move(step) => shifted(alloc, held, *step),
         _ => Ok(None),
     }
 }
 
-// What is held after an operation.
-fn compute(
+// The local in a place, if it has this sort.
+fn one_local(
     alloc: Global,
-    g: &mut Graph,
-    held: Held,
-    c: Operation,
-    operands: &[Cell],
-) -> Result<Held, Memory>
-    requires graph { IsGraph g.old }
-    requires simple { is_simple c.op ≡ true }
-    requires fits { FitsOver g.old c.op (kids_of c.with_heap held.heap operands.now) }
-    ensures computes { IfOk result (λ after. Computes g.old held c.op (kids_of c.with_heap held.heap operands.now) c.pushes g.new after) }
-    ensures grows { Grows g.old g.new }
+    locals: &[Cell],
+    place: u16,
+    sort: Sort,
+) -> Result<Option<Vec<Cell>>, Memory>
+    ensures { IfOk result (λ o. option_map (λ v. v.items) o ≡ option_map (λ l. l ∷ []) (local_of sort place locals.now)) }
 {
-    let kids = kids_of(alloc, held.heap, c.with_heap, operands)?;
-    let node = over(alloc, g, c.op, &kids)?;
-    let Some(sort) = c.pushes else {
-        return Ok(Held { heap: node, ..held });
-    };
-    let stack = pushed(alloc, Cell { sort, node }, held.stack.as_slice())?;
-    Ok(Held {
-        stack: stack.into(),
-        ..held
-    })
+    match local(locals, place, sort) {
+        Some(cell) => Ok(Some(vec![in alloc; cell]?)),
+        None => Ok(None),
+    }
 }
 
-// What is held after an action that is no increase, no call, no cast and no type test.
-fn simply(
+// The values that an action takes: its operands, or the local that it reads.
+fn read(
     alloc: Global,
-    g: &mut Graph,
-    held: Held,
+    held: &Held,
     action: &Action,
     operands: &[Cell],
-) -> Result<Option<Held>, Memory>
-    requires single { IsSingle action.now }
-    requires plain { IsPlain action.now }
-    requires sorted { IsSorted g.old held }
-    requires operands { AreSorted g.old operands.now }
-    requires takes { map sort_in operands.now ≡ takes action.now }
-    ensures acts { IfOk result (λ o. ActsOn action.now g.old.nodes held operands.now g.new.nodes o) }
-    ensures sorted { IfOk result (λ o. IfSome o (λ after. IsSorted g.new after)) }
-    ensures grows { Grows g.old g.new }
+) -> Result<Option<Vec<Cell>>, Memory>
+    ensures { IfOk result (λ o. option_map (λ v. v.items) o ≡ read_in action.now held.now operands.now) }
 {
-    match computing(alloc, action)? {
-        Some(c) => Ok(Some(compute(alloc, g, held, c, operands)?)),
-        None => rearranged(alloc, held, action, operands),
+    let locals = held.locals.as_slice();
+    match action {
+        Action::Load(sort, place) => one_local(alloc, locals, *place, *sort),
+        Action::Increase(place, _) => one_local(alloc, locals, *place, Sort::Int),
+        _ => Ok(Some(Vec::from_slice(alloc, operands)?)),
     }
 }
 
@@ -191,20 +154,20 @@ pub(crate) fn act_on(
     requires plain { IsPlain action.now }
     requires sorted { IsSorted g.old held }
     requires operands { AreSorted g.old operands.now }
+    requires known { AreKnown operands.now }
     requires takes { map sort_in operands.now ≡ takes action.now }
     ensures acts { IfOk result (λ o. ActsOn action.now g.old.nodes held operands.now g.new.nodes o) }
     ensures sorted { IfOk result (λ o. IfSome o (λ after. IsSorted g.new after)) }
     ensures grows { Grows g.old g.new }
 {
-    match action {
-        Action::Increase(place, by) => increased(alloc, g, held, *place, i32::from(*by)),
-        Action::Call(desc, f) | Action::CallOn(desc, f) => {
-            Ok(Some(called(alloc, g, held, desc, f, operands)?))
-        }
-        Action::Cast(_) => cast(alloc, held, operands),
-        Action::InstanceOf(_) => Ok(Some(with_int(alloc, g, &held, 0)?)),
-        _ => simply(alloc, g, held, action, operands),
-    }
+    let Some(effect) = effect_for(alloc, action)? else {
+        return rearranged(alloc, held, action, operands);
+    };
+    let Some(cells) = read(alloc, &held, action, operands)? else {
+        return Ok(None);
+    };
+    let given = given_nodes(alloc, &held, &cells)?;
+    Ok(Some(affected(alloc, g, &given, held, &effect)?))
 }
 
 /// What is held after an action, which pops its operands; `None` where it doesn't find what it needs, or

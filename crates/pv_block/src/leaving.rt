@@ -15,8 +15,8 @@ ghost use Rattle.pv_block.specs.Rows.{with_int_node, leaving_by, LeavesByRow, Ke
 ghost use Rattle.pv_block.specs.Leaving.{AreKnown, state_of, ended, faulted, AreSortedExits, LeavesFrom, LeavesAs, GivesResult};
 
 use crate::acting::{act_on, pop};
+use crate::effect::given_nodes;
 use crate::held::{Cell, Held};
-use crate::kids::kids_of;
 use crate::line::{Kid, emit, node_at};
 use crate::ran::{Ending, Leaving, Ran, State};
 use crate::row::{Row, Way};
@@ -195,7 +195,7 @@ fn leave_with(
     ensures grows { Grows g.old g.new }
 {
     let row = row_for(alloc, gives, next, action)?;
-    let given = kids_of(alloc, held.heap, true, operands)?;
+    let given = given_nodes(alloc, &held, operands)?;
     let ends = ended(&held);
     if ends_method(action) {
         return Ok(Some(left(alloc, g, &row, &given, ends, &held)?));

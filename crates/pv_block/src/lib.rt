@@ -7,16 +7,19 @@
 //! `HoldsFor`). Where the sort isn't known, no value is, and the node is unit. `specs/Sorted` has the sorts of
 //! the nodes, so that a graph never refuses an operation for them.
 //!
-//! `stack`, `locals` and `takes` are the text of `pv_frame` on cells. `acting` does what an action does
-//! (`ActsOn` in `specs/Acting`): it is one operation, or moves values alone, or an increase of a local
-//! (`increasing`), a call (`calling`), or a cast or a type test, which choose by tests what they leave
-//! (`casting`). `along` does one action after the other (`ActsAlong`).
+//! `stack`, `locals` and `takes` are the text of `pv_frame` on cells. What an instruction computes is data.
+//! `effects` gives for each action its effect (`effect`): lines, which are operations over the operands and over
+//! earlier lines (`line`), and what changes over what they make of what is held, as a value that is pushed or
+//! another heap. `specs/Effects` has the same effects, and `effect_parts` says what is held in parts after one;
+//! that this is what `pv_runs` defines is computed, an equation an action (`proofs/ByEffect`). `acting` does
+//! what an action does (`ActsOn` in `specs/Acting`): its effect, or a store or a move of values, which need no
+//! operation. `along` does one action after the other (`ActsAlong`).
 //!
-//! The tests and exits of the last action are data: `rows` gives for each action a row (`row`), which has
-//! lines, operations over the operands and over earlier lines (`line`), says which lines are tests, and how
-//! each exit leaves the block. `specs/Rows` has the same rows, and `row_chain` says which chain a row is over
-//! the parts of the operands; that this is the chain which `pv_runs` defines is computed, an equation an
-//! action (`proofs/ByRow`). `emit` makes the nodes of all lines, and `leaving` makes tests and exits of them.
+//! The tests and exits of the last action are data as well: `rows` gives for each action a row (`row`), which
+//! has lines, says which lines are tests, and how each exit leaves the block. `specs/Rows` has the same rows,
+//! and `row_chain` says which chain a row is over the parts of the operands; that this is the chain which
+//! `pv_runs` defines is computed too (`proofs/ByRow`). `emit` makes the nodes of all lines, of effects and of
+//! rows, and `leaving` makes tests and exits of them.
 //!
 //! The layer above uses `run`, for a whole block: its tests, and the slots at its exits as far as their
 //! sorts are known, stand for those of the block's chain, whatever the slots stand for where it begins
@@ -25,12 +28,9 @@
 
 mod acting;
 mod along;
-mod calling;
-mod casting;
-mod computing;
+mod effect;
+mod effects;
 mod held;
-mod increasing;
-mod kids;
 mod leaving;
 mod line;
 mod locals;

@@ -2,11 +2,13 @@
 
 ghost use Rattle.std.specs.Prelude.{◌≡◌, IfOk};
 ghost use Rattle.pv_graph.specs.Graphs.{IsGraph};
-ghost use Rattle.pv_terms.specs.Terms.{Grows};
-ghost use Rattle.pv_block.specs.Lines.{node_at, nodes_for, Fit, AreMade};
+ghost use Rattle.pv_graph.specs.Calls.{FitsOver};
+ghost use Rattle.pv_terms.specs.Terms.{IsFlat, HasItsSort, Grows};
+ghost use Rattle.pv_block.specs.Standing.{StandsOver};
+ghost use Rattle.pv_block.specs.Lines.{node_at, after_first, nodes_for, Fit, AreMade};
 
 use pv_graph::{Graph, NodeId, Op};
-use pv_terms::over;
+use pv_terms::{both, over};
 use pv_value::Memory;
 use std::alloc::{AllocError, Global};
 
@@ -17,10 +19,12 @@ pub(crate) enum Kid {
     Made(usize),
 }
 
-/// The kids of an operation: all nodes that are given, or these.
+/// The kids of an operation: the heap and the operands, the operands, or these. Of the nodes that are given
+/// the token where the block begins is the first, the heap the second, and the operands are the others.
 #[derive(Clone, Copy, Debug)]
 pub(crate) enum Kids {
-    All,
+    WithHeap,
+    Operands,
     Zero,
     One(Kid),
     Two(Kid, Kid),
@@ -44,6 +48,16 @@ pub(crate) fn node_at(given: &[NodeId], made: &[NodeId], kid: Kid) -> NodeId
     }
 }
 
+// All but the first.
+fn after_first(nodes: &[NodeId]) -> &[NodeId]
+    ensures { result.now ≡ after_first nodes.now }
+{
+    match nodes {
+        [] => nodes,
+        [_, others @ ..] => others,
+    }
+}
+
 // The nodes of kids.
 fn nodes_for(
     alloc: Global,
@@ -55,12 +69,29 @@ fn nodes_for(
 {
     let at = |kid| node_at(given, made, kid);
     match kids {
-        Kids::All => Vec::from_slice(alloc, given),
+        Kids::WithHeap => Vec::from_slice(alloc, after_first(given)),
+        Kids::Operands => Vec::from_slice(alloc, after_first(after_first(given))),
         Kids::Zero => Ok(Vec::new(alloc)),
         Kids::One(a) => [at(a)].to_vec(alloc),
         Kids::Two(a, b) => [at(a), at(b)].to_vec(alloc),
         Kids::Three(a, b, c) => [at(a), at(b), at(c)].to_vec(alloc),
     }
+}
+
+// The node of an operation.
+fn operation(alloc: Global, g: &mut Graph, op: &Op, kids: &[NodeId]) -> Result<NodeId, Memory>
+    requires graph { IsGraph g.old }
+    requires flat { IsFlat op.now }
+    requires fits { FitsOver g.old op.now kids.now }
+    ensures stands { IfOk result (λ n. StandsOver g.old.nodes op.now kids.now g.new.nodes n) }
+    ensures sort { IfOk result (λ n. HasItsSort g.old op.now kids.now g.new n) }
+    ensures grows { Grows g.old g.new }
+{
+    if matches!(op, Op::Both) {
+        return both(alloc, g, kids[0], kids[1]);
+    }
+    let op = op.copy(alloc)?;
+    over(alloc, g, op, kids)
 }
 
 /// The nodes that the lines make, which are added to the graph.
@@ -78,8 +109,7 @@ pub(crate) fn emit(
     let mut nodes = Vec::new(alloc);
     for line in lines {
         let kids = nodes_for(alloc, given, &nodes, line.kids)?;
-        let op = line.op.copy(alloc)?;
-        let node = over(alloc, g, op, &kids)?;
+        let node = operation(alloc, g, &line.op, &kids)?;
         nodes.push(node)?;
     }
     Ok(nodes)

@@ -27,8 +27,7 @@ pub(crate) enum Way {
     Ends,
 }
 
-/// The tests and the exits of an instruction, over its operands with the heap before them and over
-/// what the lines make of these. There is one exit more than tests, as in `Ran`.
+/// The tests and the exits of an instruction, over what it takes (`Kids`) and over what the lines make of it. There is one exit more than tests, as in `Ran`.
 #[derive(Debug, Drop)]
 pub(crate) struct Row {
     pub(crate) lines: Listed<Line>,

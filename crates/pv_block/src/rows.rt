@@ -1,13 +1,13 @@
-//! The row of each instruction. The heap is given first, then its operands.
+//! The row of each instruction. Given are the token where the block begins, the heap, and its operands.
 
 ghost use Rattle.std.specs.Prelude.{◌≡◌, IfOk};
 ghost use Rattle.pv_value.specs.Operations as operation;
 ghost use Rattle.pv_frame.specs.Effects.{sort_of_word};
 ghost use Rattle.pv_block.specs.Rows as rows;
 
-use crate::computing::{copy_sym, value_sort};
+use crate::effects::{copy_sym, value_sort};
 use crate::line::Kid::{Given, Made};
-use crate::line::Kids::{All, One, Three, Two, Zero};
+use crate::line::Kids::{One, Three, Two, WithHeap, Zero};
 use crate::line::{Kid, Line};
 use crate::row::Way::{Ends, Gives, Goes, GoesWith, Throws, ThrowsAfter};
 use crate::row::{Row, Way, line_of, only, row_of};
@@ -54,7 +54,7 @@ fn zero_branch(alloc: Global, comparison: Comparison, target: u32, next: u32) ->
 {
     let lines = [
         line_of(Op::Int(0), Zero),
-        compares(comparison, Given(1), Made(0)),
+        compares(comparison, Given(2), Made(0)),
     ];
     row_of(
         alloc,
@@ -67,7 +67,7 @@ fn zero_branch(alloc: Global, comparison: Comparison, target: u32, next: u32) ->
 fn ints_branch(alloc: Global, comparison: Comparison, target: u32, next: u32) -> Result<Row, Memory>
     ensures { IfOk result (λ r. r ≡ rows.ints_branch comparison target next) }
 {
-    let lines = [compares(comparison, Given(1), Given(2))];
+    let lines = [compares(comparison, Given(2), Given(3))];
     row_of(
         alloc,
         lines,
@@ -79,7 +79,7 @@ fn ints_branch(alloc: Global, comparison: Comparison, target: u32, next: u32) ->
 fn same_branch(alloc: Global, on_true: bool, target: u32, next: u32) -> Result<Row, Memory>
     ensures { IfOk result (λ r. r ≡ rows.same_branch on_true target next) }
 {
-    let lines = [line_of(Op::Aeq, Two(Given(1), Given(2)))];
+    let lines = [line_of(Op::Aeq, Two(Given(2), Given(3)))];
     row_of(alloc, lines, [Made(0)], ways(on_true, target, next))
 }
 
@@ -88,7 +88,7 @@ fn null_branch(alloc: Global, on_true: bool, target: u32, next: u32) -> Result<R
 {
     let lines = [
         line_of(Op::Null, Zero),
-        line_of(Op::Aeq, Two(Given(1), Made(0))),
+        line_of(Op::Aeq, Two(Given(2), Made(0))),
     ];
     row_of(alloc, lines, [Made(1)], ways(on_true, target, next))
 }
@@ -117,7 +117,7 @@ fn switch(alloc: Global, default: u32, cases: &[Case]) -> Result<Row, Memory>
         let key = lines.len();
         lines.push(line_of(Op::Int(case.key), Zero))?;
         let test = lines.len();
-        lines.push(line_of(Op::Scalar(ScalarOp::Ieq), Two(Given(1), Made(key))))?;
+        lines.push(line_of(Op::Scalar(ScalarOp::Ieq), Two(Given(2), Made(key))))?;
         tests.push(Made(test))?;
         exits.push(Goes(case.target))?;
     }
@@ -138,7 +138,7 @@ fn unless_zero(alloc: Global, sort: Sort, next: u32) -> Result<Row, Memory>
         Sort::Long => {
             let lines = [
                 line_of(Op::Long(0), Zero),
-                line_of(Op::Scalar(ScalarOp::Leq), Two(Given(2), Made(0))),
+                line_of(Op::Scalar(ScalarOp::Leq), Two(Given(3), Made(0))),
                 line_of(Op::FArith, Zero),
             ];
             row_of(alloc, lines, [Made(1)], exits)
@@ -146,7 +146,7 @@ fn unless_zero(alloc: Global, sort: Sort, next: u32) -> Result<Row, Memory>
         _ => {
             let lines = [
                 line_of(Op::Int(0), Zero),
-                line_of(Op::Scalar(ScalarOp::Ieq), Two(Given(2), Made(0))),
+                line_of(Op::Scalar(ScalarOp::Ieq), Two(Given(3), Made(0))),
                 line_of(Op::FArith, Zero),
             ];
             row_of(alloc, lines, [Made(1)], exits)
@@ -160,7 +160,7 @@ fn unless_null(alloc: Global, next: u32) -> Result<Row, Memory>
 {
     let lines = [
         line_of(Op::Null, Zero),
-        line_of(Op::Aeq, Two(Given(1), Made(0))),
+        line_of(Op::Aeq, Two(Given(2), Made(0))),
         line_of(Op::FNull, Zero),
     ];
     row_of(alloc, lines, [Made(1)], [Throws(Made(2)), Goes(next)])
@@ -172,11 +172,11 @@ fn within(alloc: Global, next: u32) -> Result<Row, Memory>
 {
     let lines = [
         line_of(Op::Null, Zero),
-        line_of(Op::Aeq, Two(Given(1), Made(0))),
+        line_of(Op::Aeq, Two(Given(2), Made(0))),
         line_of(Op::Int(0), Zero),
-        line_of(Op::Scalar(ScalarOp::Ilt), Two(Given(2), Made(2))),
-        line_of(Op::Length, One(Given(1))),
-        line_of(Op::Scalar(ScalarOp::Ilt), Two(Given(2), Made(4))),
+        line_of(Op::Scalar(ScalarOp::Ilt), Two(Given(3), Made(2))),
+        line_of(Op::Length, One(Given(2))),
+        line_of(Op::Scalar(ScalarOp::Ilt), Two(Given(3), Made(4))),
         line_of(Op::FNull, Zero),
         line_of(Op::FIndex, Zero),
     ];
@@ -200,17 +200,17 @@ fn stores_ref(alloc: Global, next: u32) -> Result<Row, Memory>
 {
     let lines = [
         line_of(Op::Null, Zero),
-        line_of(Op::Aeq, Two(Given(1), Made(0))),
+        line_of(Op::Aeq, Two(Given(2), Made(0))),
         line_of(Op::Int(0), Zero),
-        line_of(Op::Scalar(ScalarOp::Ilt), Two(Given(2), Made(2))),
-        line_of(Op::Length, One(Given(1))),
-        line_of(Op::Scalar(ScalarOp::Ilt), Two(Given(2), Made(4))),
+        line_of(Op::Scalar(ScalarOp::Ilt), Two(Given(3), Made(2))),
+        line_of(Op::Length, One(Given(2))),
+        line_of(Op::Scalar(ScalarOp::Ilt), Two(Given(3), Made(4))),
         line_of(Op::Scalar(ScalarOp::Ieq), Two(Made(5), Made(2))),
-        line_of(Op::Aeq, Two(Given(3), Made(0))),
+        line_of(Op::Aeq, Two(Given(4), Made(0))),
         line_of(Op::Heap0, Zero),
         line_of(
             Op::CallRes(fits_sym(alloc)?),
-            Three(Made(8), Given(1), Given(3)),
+            Three(Made(8), Given(2), Given(4)),
         ),
         line_of(Op::FNull, Zero),
         line_of(Op::FIndex, Zero),
@@ -233,7 +233,7 @@ fn stores_ref(alloc: Global, next: u32) -> Result<Row, Memory>
 fn is_of(alloc: Global, class: &Name, start: Kid) -> Result<Line, Memory>
     ensures { IfOk result (λ l. l ≡ rows.is_of class.now start) }
 {
-    Ok(line_of(Op::CallRes(is_sym(alloc, class)?), Two(start, Given(1))))
+    Ok(line_of(Op::CallRes(is_sym(alloc, class)?), Two(start, Given(2))))
 }
 
 // The object of a literal that is thrown by a cast.
@@ -251,7 +251,7 @@ fn unless_other(alloc: Global, class: &Name, next: u32) -> Result<Row, Memory>
     let literal = cast_literal(alloc)?;
     let lines = [
         line_of(Op::Null, Zero),
-        line_of(Op::Aeq, Two(Given(1), Made(0))),
+        line_of(Op::Aeq, Two(Given(2), Made(0))),
         line_of(Op::Heap0, Zero),
         of_class,
         literal,
@@ -272,7 +272,7 @@ fn asks_class(alloc: Global, class: &Name, next: u32) -> Result<Row, Memory>
     let lines = [
         line_of(Op::Int(1), Zero),
         line_of(Op::Null, Zero),
-        line_of(Op::Aeq, Two(Given(1), Made(1))),
+        line_of(Op::Aeq, Two(Given(2), Made(1))),
         line_of(Op::Heap0, Zero),
         is_of(alloc, class, Made(3))?,
     ];
@@ -289,7 +289,7 @@ fn unless_thrown(alloc: Global, f: &Sym, next: u32) -> Result<Row, Memory>
     ensures { IfOk result (λ r. r ≡ rows.unless_thrown f.now next) }
 {
     let lines = [
-        line_of(Op::CallFault(copy_sym(alloc, f)?), All),
+        line_of(Op::CallFault(copy_sym(alloc, f)?), WithHeap),
         line_of(Op::IsClear, One(Made(0))),
     ];
     row_of(alloc, lines, [Made(1)], [Goes(next), ThrowsAfter(Made(0))])
@@ -300,9 +300,9 @@ fn unless_null_or_thrown(alloc: Global, f: &Sym, next: u32) -> Result<Row, Memor
     ensures { IfOk result (λ r. r ≡ rows.unless_null_or_thrown f.now next) }
 {
     let lines = [
-        line_of(Op::CallFault(copy_sym(alloc, f)?), All),
+        line_of(Op::CallFault(copy_sym(alloc, f)?), WithHeap),
         line_of(Op::Null, Zero),
-        line_of(Op::Aeq, Two(Given(1), Made(1))),
+        line_of(Op::Aeq, Two(Given(2), Made(1))),
         line_of(Op::FNull, Zero),
         line_of(Op::IsClear, One(Made(0))),
     ];
@@ -318,7 +318,7 @@ fn narrowed(alloc: Global, op: ScalarOp) -> Result<Row, Memory>
 {
     row_of(
         alloc,
-        [line_of(Op::Scalar(op), One(Given(1)))],
+        [line_of(Op::Scalar(op), One(Given(2)))],
         [],
         [Gives(Made(0))],
     )
@@ -333,14 +333,14 @@ fn give(alloc: Global, gives: Option<JType>) -> Result<Row, Memory>
         Some(JType::Z) => {
             let lines = [
                 line_of(Op::Int(1), Zero),
-                line_of(Op::Scalar(ScalarOp::Iand), Two(Given(1), Made(0))),
+                line_of(Op::Scalar(ScalarOp::Iand), Two(Given(2), Made(0))),
             ];
             row_of(alloc, lines, [], [Gives(Made(1))])
         }
         Some(JType::B) => narrowed(alloc, ScalarOp::I2b),
         Some(JType::C) => narrowed(alloc, ScalarOp::I2c),
         Some(JType::S) => narrowed(alloc, ScalarOp::I2s),
-        Some(_) => only(alloc, Gives(Given(1))),
+        Some(_) => only(alloc, Gives(Given(2))),
     }
 }
 
@@ -350,9 +350,9 @@ fn throw(alloc: Global) -> Result<Row, Memory>
 {
     let lines = [
         line_of(Op::Null, Zero),
-        line_of(Op::Aeq, Two(Given(1), Made(0))),
+        line_of(Op::Aeq, Two(Given(2), Made(0))),
         line_of(Op::FNull, Zero),
-        line_of(Op::Thrown, One(Given(1))),
+        line_of(Op::Thrown, One(Given(2))),
     ];
     row_of(alloc, lines, [Made(1)], [Throws(Made(2)), Throws(Made(3))])
 }

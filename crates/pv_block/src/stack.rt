@@ -1,6 +1,6 @@
 //! Operand stacks with their top first.
 
-ghost use Rattle.std.specs.Prelude.{◌≡◌, ◌∷◌, ◌++◌, ◌≤◌, length, IfOk, take, reverse};
+ghost use Rattle.std.specs.Prelude.{◌≡◌, ◌++◌, ◌≤◌, length, IfOk, take, reverse};
 ghost use Rattle.std.specs.Option.{option_map};
 ghost use Rattle.pv_frame.specs.Stacks.{fits, is_wide, popped, one, two, moved, copied, dropped, exchanged};
 ghost use Rattle.pv_block.specs.Cells.{sort_in, taken_by};
@@ -72,15 +72,6 @@ pub(crate) fn operands<'a>(
     };
     let found = reversed(alloc, stack, sorts.len())?;
     Ok(Some((found, rest)))
-}
-
-/// A stack with one value more.
-pub(crate) fn pushed(alloc: Global, cell: Cell, stack: &[Cell]) -> Result<Vec<Cell>, Memory>
-    ensures { IfOk result (λ v. v.items ≡ cell ∷ stack.now) }
-{
-    let mut after = vec![in alloc; cell]?;
-    after.extend_from_slice(stack)?;
-    Ok(after)
 }
 
 /// What a move takes from the top of the stack.

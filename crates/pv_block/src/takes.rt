@@ -4,7 +4,7 @@ ghost use Rattle.std.specs.Prelude.{◌≡◌, map, IfOk};
 ghost use Rattle.pv_value.specs.Operations as operation;
 ghost use Rattle.pv_frame.specs.Effects.{sort_of_type, sort_of_word, test_takes, takes};
 
-use crate::computing::{sort_of_kind, sort_of_type};
+use crate::effects::{sort_of_kind, sort_of_type};
 use pv_frame::{Action, Sort, Test};
 use pv_list::Listed;
 use pv_value::{JType, Memory, ScalarOp};

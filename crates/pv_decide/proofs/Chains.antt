@@ -1,13 +1,8 @@
 -- Chains of a flow of equations, and the exits of the code.
 use Rattle.std.proofs.Common.{◌≡◌, ℕ, zero, suc, ◌<◌, List, [], ◌∷◌, Bool, length, get_or, Some, slice_get, inl, inr, refl, sym, ap, ◌∙◌, subst, arith}
-use Rattle.std.specs.List.{Contains}
-use Rattle.std.specs.Bool.{Decides}
-use Rattle.std.proofs.lemmas.Option.{slice_get_within, slice_get-get_or}
-use Rattle.pv_equations.specs.Flow.{Part, Exit, Chain, Leave, Test, InChain}
+use Rattle.pv_decide.proofs.Words.{Contains, Decides, slice_get_within, slice_get-get_or, Part, Exit, Chain, Leave, Test, InChain, Site, dest_of, exit_at, test_at, GoTo, GoesTo, IsAround, AreInRange, IsInRange}
 use Rattle.pv_flow.specs.declared.block.Exit as code
 use Rattle.pv_flow.specs.declared.block.Exit.TheVariants as dest
-use Rattle.pv_decide.specs.declared.site.Site.{Site}
-use Rattle.pv_decide.specs.Sites.{dest_of, exit_at, test_at, GoTo, GoesTo, IsAround, AreInRange, IsInRange}
 
 pub found : (sites : List Site) (b : ℕ) → b < length sites → (k : Site) × (slice_get sites b ≡ Some k)
 found [] b less = absurd (omega arith)

@@ -1,12 +1,8 @@
 -- A tree without the nodes after its root.
 use Rattle.std.proofs.Common.{◌≡◌, ℕ, zero, suc, ◌+◌, ◌-◌, ◌<◌, List, [], ◌∷◌, length, take, Option, Some, slice_get, refl, sym, ap, subst, arith}
-use Rattle.pv_equations.specs.Exp.{Exp}
-use Rattle.pv_decide.specs.declared.site.Site.{Site}
-use Rattle.pv_decide.specs.declared.aim.Scope.{Scope}
+use Rattle.pv_decide.proofs.Words.{Exp, Site, Scope, TreeNode, Folds, at_leaf, at_test, at_nothing, at_dead, AreSound}
 use Rattle.pv_decide.specs.declared.tree.Target.{Target}
-use Rattle.pv_decide.specs.declared.tree.TreeNode.{TreeNode}
 use Rattle.pv_decide.specs.declared.tree.TreeNode.TheVariants as node
-use Rattle.pv_decide.specs.Folds.{Folds, at_leaf, at_test, at_nothing, at_dead, AreSound}
 
 front_get : (nodes : List TreeNode) (c n : ℕ) (x : TreeNode) → n < c → slice_get nodes n ≡ Some x → slice_get (take c nodes) n ≡ Some x
 front_get nodes zero n x less e = absurd (omega arith)

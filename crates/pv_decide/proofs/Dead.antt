@@ -1,19 +1,11 @@
 -- A block from which neither the target nor an end is ahead gives `never` for the token, and else nothing.
 use Rattle.std.proofs.Common.{◌≡◌, ◌≢◌, ℕ, zero, suc, ◌+◌, ◌<◌, ◌≤◌, List, ◌++◌, length, Option, Some, None, inl, inr, ⊎_elim, refl, sym, ap, ◌∙◌, subst, arith}
-use Rattle.pv_equations.specs.Exp.{Exp}
-use Rattle.pv_loops.specs.Ranks.{Heads}
-use Rattle.pv_equations.specs.Flow.{Part, put, To, Exit, Chain, Leave, Test, InChain, Flow}
-use Rattle.pv_equations.specs.Equations.{Place, On, Again, Header, Gone, Ended, Joins, IsChain, Values, outs, AtPlace, IsExit, IsTree, OfToken, Hits, Ahead, now, later, never_exp}
-use Rattle.pv_equations.proofs.Cited.{About, about}
+use Rattle.pv_decide.proofs.Words.{Exp, Heads, Part, put, To, Exit, Chain, Leave, Test, InChain, Flow, Place, On, Again, Header, Gone, Ended, Joins, IsChain, Values, outs, AtPlace, IsExit, IsTree, OfToken, Hits, Ahead, now, later, never_exp, About, about, Site, dest_of, GoesTo, AreInRange, IsInRange, AreOrdered, place_of, loops_of, target_of, dead_of, HasTrees, IsPlaced}
 use Rattle.pv_flow.specs.declared.block.Exit as code
 use Rattle.pv_flow.specs.declared.block.Exit.TheVariants as dest
-use Rattle.pv_decide.specs.declared.site.Site.{Site}
 use Rattle.pv_decide.specs.declared.aim.Scope as scope
 use Rattle.pv_decide.specs.declared.tree.Target as aim
 use Rattle.pv_decide.specs.declared.tree.Target.TheVariants as target
-use Rattle.pv_decide.specs.Sites.{dest_of, GoesTo, AreInRange, IsInRange, AreOrdered, place_of, loops_of}
-use Rattle.pv_decide.specs.Walks.{target_of, dead_of, HasTrees}
-use Rattle.pv_decide.specs.Placing.{IsPlaced}
 use Rattle.pv_decide.proofs.Places.{place_low, goes_on}
 use Rattle.pv_decide.proofs.Chains.{found, chain_at, exit_range, goes_as}
 use Rattle.pv_decide.proofs.Exits.{not_on}

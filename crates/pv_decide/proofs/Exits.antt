@@ -1,28 +1,13 @@
 -- What a walk makes of an exit is what the equations say.
 use Rattle.std.proofs.Common.{◌≡◌, ◌≢◌, ℕ, zero, suc, ◌+◌, ◌<◌, Bool, true, false, List, [], ◌∷◌, ◌++◌, length, Option, Some, None, ◌⊎◌, inl, inr, ⊎_elim, refl, sym, ap, ◌∙◌, subst, subst₂, arith, append-nil, append_assoc, length-append, if◌then◌else◌, ◌==◌}
-use Rattle.std.specs.List.{Contains}
-use Rattle.std.proofs.lemmas.Bool.Decides.{eqb_tells}
-use Rattle.std.proofs.lemmas.List.Elements.{Contains-append_right}
-use Rattle.pv_equations.specs.Exp.{Exp}
-use Rattle.pv_loops.specs.Ranks.{Heads}
-use Rattle.pv_equations.specs.Flow.{Kind, Return, Throw, Dest, To, End, Exit, InChain, Flow}
-use Rattle.pv_equations.specs.Equations.{Node, Back, Finish, Returning, Leaving, Place, On, Again, Header, Gone, Ended, Seen, Values, leaf, AtPlace, IsExit, true_exp, false_exp}
-use Rattle.pv_equations.proofs.Cited.{About, about}
+use Rattle.pv_decide.proofs.Words.{Contains, eqb_tells, Contains-append_right, Exp, Heads, Kind, Return, Throw, Dest, To, End, Exit, InChain, Flow, Node, Back, Finish, Returning, Leaving, Place, On, Again, Header, Gone, Ended, Seen, Values, leaf, AtPlace, IsExit, true_exp, false_exp, About, about, Site, Whole, Loop, Landing, Verdict, dest_of, IsInRange, IsAround, GoesTo, place_of, AreOrdered, loops_of, Inside, IsLanding, verdict_end, verdict_of, target_of, leaving, exit_gives, IsAimed, IsUnder, IsPlaced}
 use Rattle.pv_flow.specs.declared.block.Exit as code
 use Rattle.pv_flow.specs.declared.block.Exit.TheVariants as dest
-use Rattle.pv_decide.specs.declared.site.Site.{Site}
 use Rattle.pv_decide.specs.declared.aim.Scope as scope
-use Rattle.pv_decide.specs.declared.aim.Scope.TheVariants.{Whole, Loop}
 use Rattle.pv_decide.specs.declared.tree.Target as aim
 use Rattle.pv_decide.specs.declared.tree.Target.TheVariants as target
-use Rattle.pv_decide.specs.declared.landing.Landing.{Landing}
 use Rattle.pv_decide.specs.declared.landing.Landing.TheVariants as l
-use Rattle.pv_decide.specs.declared.landing.Verdict.{Verdict}
 use Rattle.pv_decide.specs.declared.landing.Verdict.TheVariants as verdict
-use Rattle.pv_decide.specs.Sites.{dest_of, IsInRange, IsAround, GoesTo, place_of, AreOrdered, loops_of, Inside}
-use Rattle.pv_decide.specs.Landings.{IsLanding, verdict_end, verdict_of}
-use Rattle.pv_decide.specs.Walks.{target_of, leaving, exit_gives, IsAimed}
-use Rattle.pv_decide.specs.Placing.{IsUnder, IsPlaced}
 use Rattle.pv_decide.proofs.Places.{goes_on}
 use Rattle.pv_decide.proofs.Chains.{found}
 

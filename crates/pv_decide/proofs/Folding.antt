@@ -1,13 +1,7 @@
 -- Folds of nodes that grow.
-use Rattle.std.specs.Prelude.{Result, Ok, Err, IfOk}
-use Rattle.pv_value.specs.declared.memory.Memory.{Memory}
 use Rattle.std.proofs.Common.{◌≡◌, ◌≢◌, ℕ, zero, suc, List, [], ◌∷◌, ◌++◌, length, Option, Some, None, slice_get, inl, inr, refl, sym, ap, ◌∙◌, subst, subst₂, append-nil, append_assoc}
-use Rattle.pv_equations.specs.Exp.{Exp}
-use Rattle.pv_equations.specs.Equations.{Joins}
-use Rattle.pv_decide.specs.declared.tree.TreeNode.{TreeNode}
+use Rattle.pv_decide.proofs.Words.{Result, Ok, Err, IfOk, Memory, Exp, Joins, TreeNode, Folds, at_leaf, at_test, at_nothing, at_dead, Grows, Pushed, HasNothing, HasDead, Joined, TestMade}
 use Rattle.pv_decide.specs.declared.tree.TreeNode.TheVariants as node
-use Rattle.pv_decide.specs.Folds.{Folds, at_leaf, at_test, at_nothing, at_dead}
-use Rattle.pv_decide.specs.Placing.{Grows, Pushed, HasNothing, HasDead, Joined, TestMade}
 
 -- growth
 pub grows_refl : (a : List TreeNode) → Grows a a

@@ -1,27 +1,13 @@
 -- The places of exits and of sites.
 use Rattle.std.proofs.Common.{◌≡◌, ℕ, suc, ◌+◌, ◌-◌, ◌<◌, List, ◌++◌, length, take, Option, Some, slice_get, inl, inr, sym, ap, ◌∙◌, subst, subst₂, arith, length-append}
-use Rattle.std.specs.Prelude.{Result, Ok, Err, IfOk, slice_index}
+use Rattle.pv_decide.proofs.Words.{Result, Ok, Err, IfOk, slice_index, Exp, Part, put, Exit, Chain, InChain, Flow, Joins, IsChain, Values, outs, IsExit, IsTree, OfToken, Ahead, Memory, Site, TreeNode, Landing, Verdict, slice_get_within, dest_of, exit_at, IsInRange, loops_of, IsLanding, verdict_of, at_leaf, at_nothing, Grows, Pushed, HasNothing, Joined, Walking, FollowsTo, Follows, target_of, inner, exit_gives, leaves_of, tests_of, dead_of, Gives}
 use Rattle.std.proofs.Math.Seq.{take-append_seam}
-use Rattle.pv_equations.specs.Exp.{Exp}
-use Rattle.pv_equations.specs.Flow.{Part, put, Exit, Chain, InChain, Flow}
-use Rattle.pv_equations.specs.Equations.{Joins, IsChain, Values, outs, IsExit, IsTree, OfToken, Ahead}
-use Rattle.pv_value.specs.declared.memory.Memory.{Memory}
 use Rattle.pv_flow.specs.declared.block.Exit as code
-use Rattle.pv_decide.specs.declared.site.Site.{Site}
 use Rattle.pv_decide.specs.declared.aim.Scope as scope
 use Rattle.pv_decide.specs.declared.tree.Target as aim
-use Rattle.pv_decide.specs.declared.tree.TreeNode.{TreeNode}
 use Rattle.pv_decide.specs.declared.tree.TreeNode.TheVariants as node
-use Rattle.pv_decide.specs.declared.landing.Landing.{Landing}
-use Rattle.pv_decide.specs.declared.landing.Verdict.{Verdict}
 use Rattle.pv_decide.specs.declared.landing.Verdict.TheVariants as verdict
-use Rattle.std.proofs.lemmas.Option.{slice_get_within}
 use Rattle.pv_flow.specs.declared.block.Exit.TheVariants as dest
-use Rattle.pv_decide.specs.Sites.{dest_of, exit_at, IsInRange, loops_of}
-use Rattle.pv_decide.specs.Landings.{IsLanding, verdict_of}
-use Rattle.pv_decide.specs.Folds.{at_leaf, at_nothing}
-use Rattle.pv_decide.specs.Placing.{Grows, Pushed, HasNothing, Joined, Walking, FollowsTo, Follows}
-use Rattle.pv_decide.specs.Walks.{target_of, inner, exit_gives, leaves_of, tests_of, dead_of, Gives}
 use Rattle.pv_decide.proofs.Folding.{grows_refl, grows_get, pushed_grows, pushed_get, folds_grow}
 use Rattle.pv_decide.proofs.Chains.{chain_exit, goes_as, from, chain_last, chain_test}
 use Rattle.pv_decide.proofs.Exits.{Makes, exit_makes}

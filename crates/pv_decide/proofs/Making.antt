@@ -1,23 +1,15 @@
 -- What walks need is made of a flow and its forest.
 use Rattle.std.proofs.Common.{◌≡◌, ℕ, zero, suc, ◌<◌, ◌^◌, List, [], ◌∷◌, length, map, get_or, Option, Some, None, slice_get, ◌⊎◌, inl, inr, ⊎_elim, refl, sym, ap, ◌∙◌, subst, arith}
-use Rattle.std.specs.List.{All, Contains}
-use Rattle.std.proofs.lemmas.Option.{slice_get_within, slice_get-get_or, slice_get-map, get_or_from_slice_get}
-use Rattle.std.proofs.lemmas.List.{length-map}
+use Rattle.pv_decide.proofs.Words.{All, Contains, slice_get_within, slice_get-get_or, slice_get-map, get_or_from_slice_get, length-map, Block, Forest, around, Site, IsInRange, IsAround, GoesTo, AreInRange, AreOrdered, AreForWalks, IsSite, AreSites}
 use Rattle.pv_frame.proofs.Cited.{contains_more, contains_cases, contains_none}
 use Rattle.pv_flow.specs.declared.block.Exit.{Exit}
 use Rattle.pv_flow.specs.declared.block.Exit.TheVariants as exit
-use Rattle.pv_flow.specs.declared.block.Block.{Block}
 use Rattle.pv_flow.specs.declared.block.Flow as code
 use Rattle.pv_flow.specs.Edges.{targets_of, edges_of}
 use Rattle.pv_loops.specs.declared.forest.Loop.{Loop}
-use Rattle.pv_loops.specs.declared.forest.Forest.{Forest}
 use Rattle.pv_loops.specs.Shapes.{Edge}
 use Rattle.pv_loops.specs.Loops.{Region, Whole, Inside, Way, edge, more, IsLargest, IsLoop, outermost, inner}
 use Rattle.pv_loops.specs.Forests.{IsForest}
-use Rattle.pv_loops.specs.Ranks.{around}
-use Rattle.pv_decide.specs.declared.site.Site.{Site}
-use Rattle.pv_decide.specs.Sites.{IsInRange, IsAround, GoesTo, AreInRange, AreOrdered}
-use Rattle.pv_decide.specs.Trees.{AreForWalks, IsSite, AreSites}
 
 module _ (s : List (List ℕ)) (forest : Forest) (is : IsForest s forest) where
   -- a header is a node

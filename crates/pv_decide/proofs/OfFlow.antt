@@ -1,23 +1,13 @@
 -- The trees that are made, for a flow and its forest.
 use Rattle.std.proofs.Common.{ℕ, ◌-◌, Bool, List, length, sym, ap, ◌∙◌, subst}
-use Rattle.std.specs.Prelude.{slice_index}
-use Rattle.std.proofs.lemmas.Option.{slice_get_within, slice_get-get_or}
+use Rattle.pv_decide.proofs.Words.{slice_index, slice_get_within, slice_get-get_or, Forest, Flow, Values, tree_of, Site, GoTo, Stand, IsScope, loops_of, target_of, HasTrees, Gives, IsPlaced, IsWalk, KnowAhead, AreSites, AreReady, IsRegion, scope_by, scope_of, IsOver, IsAsked, IsTreeOf}
 use Rattle.pv_flow.specs.declared.block.Flow as code
-use Rattle.pv_loops.specs.declared.forest.Forest.{Forest}
-use Rattle.pv_equations.specs.Flow.{Flow}
-use Rattle.pv_equations.specs.Equations.{Values, tree_of}
-use Rattle.pv_decide.specs.declared.site.Site.{Site}
 use Rattle.pv_decide.specs.declared.aim.Scope as scope
 use Rattle.pv_decide.specs.declared.tree.Region.{Region}
 use Rattle.pv_decide.specs.declared.tree.Region.TheVariants.{Top, Loop}
 use Rattle.pv_decide.specs.declared.tree.Target.{Target}
 use Rattle.pv_decide.specs.declared.tree.Tree.{Tree}
 use Rattle.pv_decide.specs.declared.trees.Trees.{Trees}
-use Rattle.pv_decide.specs.Sites.{GoTo, Stand, IsScope, loops_of}
-use Rattle.pv_decide.specs.Walks.{target_of, HasTrees, Gives}
-use Rattle.pv_decide.specs.Placing.{IsPlaced, IsWalk}
-use Rattle.pv_decide.specs.Reaching.{KnowAhead}
-use Rattle.pv_decide.specs.Trees.{AreSites, AreReady, IsRegion, scope_by, scope_of, IsOver, IsAsked, IsTreeOf}
 use Rattle.pv_decide.proofs.Making.{under}
 
 pub scope_low : (t : Trees) (r : Region) → AreReady t → IsRegion t r → IsScope t.sites.items (scope_of t r)

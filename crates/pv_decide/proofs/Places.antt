@@ -1,9 +1,6 @@
 -- Places of blocks in an order.
 use Rattle.std.proofs.Common.{◌≡◌, ◌≢◌, ℕ, zero, suc, ◌<◌, Bool, List, [], ◌∷◌, length, Some, slice_get, ⊎_elim, sym, ap, subst, if◌then◌else◌}
-use Rattle.std.proofs.lemmas.Bool.Decides.{eqb_tells}
-use Rattle.std.proofs.lemmas.Option.{slice_get_within}
-use Rattle.pv_decide.specs.declared.site.Site.{Site}
-use Rattle.pv_decide.specs.Sites.{IsAround, GoesTo, place_of, AreOrdered}
+use Rattle.pv_decide.proofs.Words.{eqb_tells, slice_get_within, Site, IsAround, GoesTo, place_of, AreOrdered}
 
 place_get : (ys : List ℕ) (x k : ℕ) → slice_get ys k ≡ Some x → slice_get ys (place_of ys x) ≡ Some x
 place_get [] x k e = absurd (cc)

@@ -1,23 +1,11 @@
 -- The search for what is ahead.
 use Rattle.std.proofs.Common.{◌≡◌, ◌≢◌, ℕ, zero, suc, ◌+◌, ◌<◌, ◌≤◌, ◌++◌, Bool, true, false, List, [], ◌∷◌, length, set, take, drop, get_or, replicate, Some, slice_get, ◌⊎◌, inl, inr, ⊎_elim, refl, sym, ap, ◌∙◌, subst, arith}
-use Rattle.std.proofs.lemmas.Option.{slice_get_within, slice_get-get_or}
-use Rattle.std.proofs.lemmas.List.{get_or-set_other}
-use Rattle.std.proofs.Math.ListN.{length-set}
-use Rattle.std.specs.Bool.{Decides}
-use Rattle.pv_loops.specs.Ranks.{Heads}
-use Rattle.pv_equations.specs.Flow.{Dest, To, End, Flow}
-use Rattle.pv_equations.specs.Equations.{Target, Finish, Hits, Ahead, now, later}
+use Rattle.pv_decide.proofs.Words.{slice_get_within, slice_get-get_or, get_or-set_other, length-set, Decides, Heads, Dest, To, End, Flow, Target, Finish, Hits, Ahead, now, later, Site, Whole, Loop, dest_of, exit_at, AreInRange, loops_of, target_of, IsPlaced, HitsAt, LeadsOn, Leads, AreSo, IsDone, unmarked, Swept, KnowAhead, AreEnds}
 use Rattle.pv_flow.specs.declared.block.Exit as code
 use Rattle.pv_flow.specs.declared.block.Exit.TheVariants as dest
-use Rattle.pv_decide.specs.declared.site.Site.{Site}
 use Rattle.pv_decide.specs.declared.aim.Scope as scope
-use Rattle.pv_decide.specs.declared.aim.Scope.TheVariants.{Whole, Loop}
 use Rattle.pv_decide.specs.declared.tree.Target as aim
 use Rattle.pv_decide.specs.declared.tree.Target.TheVariants as target
-use Rattle.pv_decide.specs.Sites.{dest_of, exit_at, AreInRange, loops_of}
-use Rattle.pv_decide.specs.Walks.{target_of}
-use Rattle.pv_decide.specs.Placing.{IsPlaced}
-use Rattle.pv_decide.specs.Reaching.{HitsAt, LeadsOn, Leads, AreSo, IsDone, unmarked, Swept, KnowAhead, AreEnds}
 use Rattle.pv_decide.proofs.Chains.{found, chain_exit, chain_at, exit_range}
 
 goes_to : (d : code.Exit) (m : ℕ) → dest_of d ≡ To m → d ≡ dest.To m

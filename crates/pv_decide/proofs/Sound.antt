@@ -1,29 +1,14 @@
 -- Which nodes a walk makes.
 use Rattle.std.proofs.Common.{◌≡◌, ◌≢◌, ℕ, zero, suc, ◌+◌, ◌-◌, ◌<◌, ◌≤◌, Bool, List, [], ◌∷◌, ◌++◌, length, set, get_or, Some, slice_get, ◌⊎◌, inl, inr, ⊎_elim, refl, sym, ap, ◌∙◌, subst, subst₂, arith, length-append, if◌then◌else◌}
-use Rattle.std.specs.Prelude.{Result, Ok, Err, IfOk, slice_index}
-use Rattle.std.proofs.lemmas.Bool.Decides.{eqb_tells}
-use Rattle.std.proofs.lemmas.List.{get_or-set_same, get_or-set_other}
-use Rattle.std.proofs.Math.ListN.{length-set}
-use Rattle.std.proofs.lemmas.Option.{slice_get_within, slice_get_read}
-use Rattle.pv_value.specs.declared.memory.Memory.{Memory}
+use Rattle.pv_decide.proofs.Words.{Result, Ok, Err, IfOk, slice_index, eqb_tells, get_or-set_same, get_or-set_other, length-set, slice_get_within, slice_get_read, Memory, Site, Scope, Whole, Loop, TreeNode, Landing, Verdict, IsInRange, IsAround, GoesTo, place_of, AreOrdered, IsLanding, verdict_end, verdict_of, IsExitOf, IsTestOf, IsEarly, AimsAt, IsAimedAt, NodeFits, AreSound, Grows, Pushed, HasNothing, HasDead, TestMade, PlaceFits, ArePlaces, FitsAt}
 use Rattle.pv_flow.specs.declared.block.Exit as code
 use Rattle.pv_flow.specs.declared.block.Exit.TheVariants as dest
-use Rattle.pv_decide.specs.declared.site.Site.{Site}
-use Rattle.pv_decide.specs.declared.aim.Scope.{Scope}
-use Rattle.pv_decide.specs.declared.aim.Scope.TheVariants.{Whole, Loop}
 use Rattle.pv_decide.specs.declared.tree.Target.{Target}
 use Rattle.pv_decide.specs.declared.tree.Target.TheVariants as target
-use Rattle.pv_decide.specs.declared.tree.TreeNode.{TreeNode}
 use Rattle.pv_decide.specs.declared.tree.TreeNode.TheVariants as node
-use Rattle.pv_decide.specs.declared.landing.Landing.{Landing}
 use Rattle.pv_decide.specs.declared.landing.Landing.TheVariants as l
-use Rattle.pv_decide.specs.declared.landing.Verdict.{Verdict}
 use Rattle.pv_decide.specs.declared.landing.Verdict.TheVariants as verdict
-use Rattle.pv_decide.specs.Sites.{IsInRange, IsAround, GoesTo, place_of, AreOrdered}
-use Rattle.pv_decide.specs.Landings.{IsLanding, verdict_end, verdict_of}
 use Rattle.pv_decide.proofs.Places.{goes_on}
-use Rattle.pv_decide.specs.Folds.{IsExitOf, IsTestOf, IsEarly, AimsAt, IsAimedAt, NodeFits, AreSound}
-use Rattle.pv_decide.specs.Placing.{Grows, Pushed, HasNothing, HasDead, TestMade, PlaceFits, ArePlaces, FitsAt}
 
 push_cases : (xs : List TreeNode) (x y : TreeNode) (n : ℕ) → slice_get (xs ++ x ∷ []) n ≡ Some y → (slice_get xs n ≡ Some y) ⊎ ((n ≡ length xs) × (x ≡ y))
 push_cases [] x y zero e = inr (refl, cc)
@@ -34,9 +19,6 @@ push_cases (z ∷ xs) x y (suc n) e = ⊎_elim (λ p. inl p) (λ q. inr (ap suc 
 module _ (sites : List Site) (t : Target) where
   pub place_grow : (a b : List TreeNode) → Grows a b → (m p : ℕ) → PlaceFits sites t a m p → PlaceFits sites t b m p
   place_grow a b g m p h = let z : length b ≡ length a + length g.0 = ap length g.1 ∙ length-append a g.0 in (omega (arith, h.0), h.1)
-
-  pub places_grow : (a b : List TreeNode) → Grows a b → (places : List ℕ) → ArePlaces sites t a places → ArePlaces sites t b places
-  places_grow a b g places h m less = place_grow a b g m (slice_index places m) (h m less)
 
 module _ (sites : List Site) (r : Scope) (t : Target) where
   sound_push : (a b : List TreeNode) (x : TreeNode) (n : ℕ) → AreSound sites r t a → NodeFits sites r t n x → Pushed a b x n → AreSound sites r t b

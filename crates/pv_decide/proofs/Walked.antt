@@ -1,24 +1,11 @@
 -- The walk, block by block.
 use Rattle.std.proofs.Common.{◌≡◌, ◌≢◌, ℕ, zero, suc, ◌+◌, ◌<◌, ◌≤◌, Bool, true, false, List, ◌++◌, length, take, get_or, set, replicate, Some, slice_get, ◌⊎◌, ⊎_elim, refl, sym, ap, ◌∙◌, subst, subst₂, arith, append-nil}
-use Rattle.std.specs.Prelude.{Result, Ok, Err, IfOk, slice_index}
-use Rattle.std.proofs.lemmas.Option.{slice_get-get_or, slice_get_within}
-use Rattle.std.proofs.lemmas.List.{get_or-set_same, get_or-set_other}
-use Rattle.pv_loops.specs.Ranks.{Heads}
-use Rattle.pv_equations.specs.Flow.{Flow}
-use Rattle.pv_equations.specs.Equations.{Values, OfToken, first_of_region, first_loops, tree_of}
-use Rattle.pv_value.specs.declared.memory.Memory.{Memory}
-use Rattle.pv_decide.specs.declared.site.Site.{Site}
+use Rattle.pv_decide.proofs.Words.{Result, Ok, Err, IfOk, slice_index, slice_get-get_or, slice_get_within, get_or-set_same, get_or-set_other, Heads, Flow, Values, OfToken, first_of_region, first_loops, tree_of, Memory, Site, Whole, Loop, TreeNode, AreInRange, AreOrdered, place_of, IsScope, first_of, loops_of, Inside, at_dead, AreSound, HasNothing, PlaceFits, ArePlaces, IsPlaced, AreAhead, IsWalk, Follows, IsPlace, target_of, leaves_of, tests_of, dead_of, HasTrees, Gives}
 use Rattle.pv_decide.specs.declared.aim.Scope as scope
-use Rattle.pv_decide.specs.declared.aim.Scope.TheVariants.{Whole, Loop}
 use Rattle.pv_decide.specs.declared.tree.Target as aim
 use Rattle.pv_decide.specs.declared.tree.Target.TheVariants as target
-use Rattle.pv_decide.specs.declared.tree.TreeNode.{TreeNode}
 use Rattle.pv_decide.specs.declared.tree.TreeNode.TheVariants as node
-use Rattle.pv_decide.specs.Sites.{AreInRange, AreOrdered, place_of, IsScope, first_of, loops_of, Inside}
-use Rattle.pv_decide.specs.Folds.{at_dead, AreSound}
-use Rattle.pv_decide.specs.Placing.{HasNothing, PlaceFits, ArePlaces, IsPlaced, AreAhead, IsWalk, Follows, IsPlace}
 use Rattle.pv_decide.proofs.Cut.{cut_last}
-use Rattle.pv_decide.specs.Walks.{target_of, leaves_of, tests_of, dead_of, HasTrees, Gives}
 use Rattle.pv_decide.proofs.Folding.{grows_refl, folds_grow}
 use Rattle.pv_decide.proofs.Places.{place_low, place_is, at_place, same_place}
 use Rattle.pv_decide.proofs.Exits.{is_inside}

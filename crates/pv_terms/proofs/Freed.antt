@@ -1,21 +1,10 @@
 -- A depth is free in a node where it is free in its expression.
 use Rattle.std.proofs.Common.{◌≡◌, ℕ, suc, Bool, true, false, List, [], ◌∷◌, Some, inl, inr, ⊎_elim, refl, ap, ◌∙◌, subst, ◌==◌, if◌then◌else◌}
-use Rattle.pv_graph.specs.declared.node.Op.{Op}
+use Rattle.pv_terms.proofs.Words.{Op, Node, form, node_of, In, form_at, form_there, node_at, Exp, Exps, Name, Over, NoExp, Then, two, listed, Flow, Values, FreeIn, theta, name, entered, begun, kid, first_kid, Named, Reads, ReadAll, AreNames, depths, AreTiedBelow, FreeReads}
 use Rattle.pv_graph.specs.declared.node.Op.TheVariants as op
-use Rattle.pv_graph.specs.declared.node.Node.{Node}
 use Rattle.pv_graph.specs.Ops as ops
-use Rattle.pv_graph.specs.Forms.{form}
-use Rattle.pv_graph.specs.Nodes.{node_of}
-use Rattle.pv_graph.specs.Walks.{In, open_kids, Free, here as free_here, below as free_below}
-use Rattle.pv_graph.specs.Graphs.{form_at}
-use Rattle.pv_graph.proofs.Cited.{form_there, node_at}
-use Rattle.pv_equations.specs.Exp.{Exp, Exps, Name, Over, NoExp, Then, two, listed}
-use Rattle.pv_equations.specs.Flow.{Flow}
-use Rattle.pv_equations.specs.Equations.{Values, FreeIn, theta, name, entered, begun, kid, first_kid}
+use Rattle.pv_graph.specs.Walks.{open_kids, Free, here as free_here, below as free_below}
 use Rattle.pv_equations.proofs.Cited.{FreeAll, free_seen}
-use Rattle.pv_terms.specs.declared.names.Named.{Named}
-use Rattle.pv_terms.specs.Reads.{Reads, ReadAll, AreNames}
-use Rattle.pv_terms.specs.Laws.{depths, AreTiedBelow, FreeReads}
 use Rattle.pv_terms.proofs.Reading.{same_op}
 
 -- a kid that counts stands for one that does, and the other way round

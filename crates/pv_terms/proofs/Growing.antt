@@ -1,19 +1,8 @@
 -- Graphs to which nodes are added, and the sorts of these.
 use Rattle.std.proofs.Common.{◌≡◌, ◌≢◌, ℕ, ◌<◌, List, [], ◌∷◌, ◌++◌, length, Bool, true, false, Some, None, slice_get, ◌⊎◌, inl, inr, ⊎_elim, refl, sym, ap, ◌∙◌, subst, arith, if◌then◌else◌}
-use Rattle.std.specs.Prelude.{Result, Ok, Err, OnErr}
-use Rattle.std.proofs.lemmas.Option.{slice_get_within, same_Some}
-use Rattle.pv_graph.specs.declared.node.Op.{Op}
+use Rattle.pv_terms.proofs.Words.{Result, Ok, Err, OnErr, slice_get_within, same_Some, Op, Node, OpSort, found, push_cases, added_made, added_extends, begun_made, begun_extends, node_of, IsAbsent, is_depth, sort_over, but_root, HaveSorts, HasSort, Graph, IsGraph, IsUnfinished, Extends, IsSame, AreNodes, IsOpenTheta, appended, Added, Begun, IsNoTheta, has_depth, IsFlat, IsFlatOrOut, GrowsBy, Grows, Opens, Keeps, IsOfSort, IsValue, HasItsSort, KeepsSort}
 use Rattle.pv_graph.specs.declared.node.Op.TheVariants as op
-use Rattle.pv_graph.specs.declared.node.Node.{Node}
-use Rattle.pv_graph.specs.declared.node.OpSort.{OpSort}
 use Rattle.pv_graph.specs.declared.node.OpSort.TheVariants as sort
-use Rattle.pv_graph.proofs.Cited.{found, push_cases, added_made, added_extends, begun_made, begun_extends}
-use Rattle.pv_graph.specs.Nodes.{node_of, IsAbsent}
-use Rattle.pv_graph.specs.Ops.{is_depth, sort_over, but_root, HaveSorts, HasSort}
-use Rattle.pv_graph.specs.Graphs.{Graph, IsGraph, IsUnfinished, Extends}
-use Rattle.pv_graph.specs.Calls.{IsSame, AreNodes, IsOpenTheta, appended, Added, Begun}
-use Rattle.pv_terms.specs.Reads.{IsNoTheta}
-use Rattle.pv_terms.specs.Terms.{has_depth, IsFlat, IsFlatOrOut, GrowsBy, Grows, Opens, Keeps, IsOfSort, IsValue, HasItsSort, KeepsSort}
 
 -- ---- graphs that grow
 

@@ -1,3 +1,4 @@
+mod Words
 pub mod Reading
 pub mod Tying
 pub mod Freed

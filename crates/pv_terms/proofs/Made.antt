@@ -1,21 +1,9 @@
 -- What the added nodes stand for.
 use Rattle.std.proofs.Common.{◌≡◌, ◌≢◌, ℕ, List, [], ◌∷◌, length, true, Some, slice_get, ◌⊎◌, inl, inr, ⊎_elim, refl, sym, ap, ◌∙◌, subst}
-use Rattle.pv_graph.specs.declared.node.Op.{Op}
+use Rattle.pv_terms.proofs.Words.{Op, OpSort, Node, node_of, exactly, HaveSorts, HasSort, Graph, IsGraph, IsUnfinished, Added, IsFree, added_extends, Exp, Exps, Name, Over, NoExp, Then, one, two, FreeIn, unit_exp, Named, IsNoTheta, Reads, ReadAll, AreNames, depths, IsFlat, IsFlatOrOut, GrowsBy, Grows, IsOfSort, ReadsOver, ReadsBoth, last_of, ReadsLast, ReadsOut, ReadsTokenOut}
 use Rattle.pv_graph.specs.declared.node.Op.TheVariants as op
-use Rattle.pv_graph.specs.declared.node.OpSort.{OpSort}
 use Rattle.pv_graph.specs.declared.node.OpSort.TheVariants as sort
-use Rattle.pv_graph.specs.declared.node.Node.{Node}
-use Rattle.pv_graph.specs.Nodes.{node_of}
-use Rattle.pv_graph.specs.Ops.{exactly, HaveSorts, HasSort}
-use Rattle.pv_graph.specs.Graphs.{Graph, IsGraph, IsUnfinished}
-use Rattle.pv_graph.specs.Calls.{Added, IsFree}
-use Rattle.pv_graph.proofs.Cited.{added_extends}
-use Rattle.pv_equations.specs.Exp.{Exp, Exps, Name, Over, NoExp, Then, one, two, made}
-use Rattle.pv_equations.specs.Equations.{FreeIn, unit_exp}
-use Rattle.pv_terms.specs.declared.names.Named.{Named}
-use Rattle.pv_terms.specs.Reads.{IsNoTheta, Reads, ReadAll, AreNames}
-use Rattle.pv_terms.specs.Laws.{depths}
-use Rattle.pv_terms.specs.Terms.{IsFlat, IsFlatOrOut, GrowsBy, Grows, IsOfSort, ReadsOver, ReadsBoth, last_of, ReadsLast, ReadsOut, ReadsTokenOut}
+use Rattle.pv_equations.specs.Exp.{made}
 use Rattle.pv_terms.proofs.Reading.{same_node, same_op, same_kids, unnamed, reads_stand, all_stand, names_stand, extends_stand}
 use Rattle.pv_terms.proofs.Freed.{free_reads}
 

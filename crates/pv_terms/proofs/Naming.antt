@@ -1,16 +1,7 @@
 -- One name more.
 use Rattle.std.proofs.Common.{◌≡◌, ℕ, ◌<◌, List, [], ◌∷◌, ◌++◌, length, Some, slice_get, ◌⊎◌, inl, inr, ⊎_elim, refl, sym, ap, ◌∙◌, subst, arith}
-use Rattle.std.proofs.lemmas.Option.{slice_get_within}
+use Rattle.pv_terms.proofs.Words.{slice_get_within, OpSort, get_last, begun_extends, node_of, In, Graph, IsGraph, Begun, Named, named, IsTheta, AreNames, Within, IsOfSort, IsUnnamed, StayNames}
 use Rattle.pv_graph.specs.declared.node.Op.TheVariants as op
-use Rattle.pv_graph.specs.declared.node.OpSort.{OpSort}
-use Rattle.pv_graph.proofs.Cited.{get_last, begun_extends}
-use Rattle.pv_graph.specs.Nodes.{node_of}
-use Rattle.pv_graph.specs.Walks.{In}
-use Rattle.pv_graph.specs.Graphs.{Graph, IsGraph}
-use Rattle.pv_graph.specs.Calls.{Begun}
-use Rattle.pv_terms.specs.declared.names.Named.{Named}
-use Rattle.pv_terms.specs.Reads.{named, IsTheta, AreNames, Within}
-use Rattle.pv_terms.specs.Terms.{IsOfSort, IsUnnamed, StayNames}
 use Rattle.pv_terms.proofs.Reading.{names_stand, extends_stand}
 
 -- a name of the longer list is one of the others, or the last

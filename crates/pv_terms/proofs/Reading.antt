@@ -1,18 +1,7 @@
 -- What nodes stand for: once, and for good.
 use Rattle.std.proofs.Common.{◌≡◌, ◌≢◌, ℕ, zero, suc, ◌<◌, List, [], ◌∷◌, length, Some, slice_get, slice_set, ◌⊎◌, inl, inr, ⊎_elim, refl, sym, ap, ◌∙◌, subst, arith}
-use Rattle.std.proofs.lemmas.Option.{slice_get_within, same_Some}
-use Rattle.pv_graph.specs.declared.node.Op.{Op}
+use Rattle.pv_terms.proofs.Words.{slice_get_within, same_Some, Op, Node, node_of, IsFirst, found, In, Graph, Extends, Tied, Exp, Exps, Name, Over, NoExp, Then, Named, named, IsNoTheta, Reads, ReadAll, IsTheta, AreNames, Stand, Within, ReadOnce, StandingReads, GrowthStands}
 use Rattle.pv_graph.specs.declared.node.Op.TheVariants as op
-use Rattle.pv_graph.specs.declared.node.Node.{Node}
-use Rattle.pv_graph.specs.Nodes.{node_of, IsFirst}
-use Rattle.pv_graph.proofs.Cited.{found}
-use Rattle.pv_graph.specs.Walks.{In}
-use Rattle.pv_graph.specs.Graphs.{Graph, Extends}
-use Rattle.pv_graph.specs.Calls.{Tied}
-use Rattle.pv_equations.specs.Exp.{Exp, Exps, Name, Over, NoExp, Then}
-use Rattle.pv_terms.specs.declared.names.Named.{Named}
-use Rattle.pv_terms.specs.Reads.{named, IsNoTheta, Reads, ReadAll, IsTheta, AreNames, Stand, Within}
-use Rattle.pv_terms.specs.Laws.{ReadOnce, StandingReads, GrowthStands}
 
 pub same_node : (nodes : List Node) (n : ℕ) (a b : Node) → slice_get nodes n ≡ Some a → slice_get nodes n ≡ Some b → a ≡ b
 same_node nodes n a b p q = same_Some a b (sym p ∙ q)

@@ -1,19 +1,8 @@
 -- Once each name has its kids, nodes unfold as their expressions.
 use Rattle.std.proofs.Common.{ℕ, List, [], ◌∷◌, Option, Some, refl, sym, subst}
+use Rattle.pv_terms.proofs.Words.{Node, Form, form, node_of, In, form_at, form_there, Matched, Bisimulates, bisimulates_unfolds, Exp, Exps, Name, Over, NoExp, Then, listed, Flow, Values, form_of, Named, named, Reads, ReadAll, depths, IsTiedName, TyingUnfolds}
 use Rattle.std.specs.List.{AllZip}
 use Rattle.pv_graph.specs.declared.node.Op.TheVariants as op
-use Rattle.pv_graph.specs.declared.node.Node.{Node}
-use Rattle.pv_graph.specs.Forms.{Form, form}
-use Rattle.pv_graph.specs.Nodes.{node_of}
-use Rattle.pv_graph.specs.Walks.{In}
-use Rattle.pv_graph.specs.Graphs.{form_at}
-use Rattle.pv_graph.proofs.Cited.{form_there, Matched, Bisimulates, bisimulates_unfolds}
-use Rattle.pv_equations.specs.Exp.{Exp, Exps, Name, Over, NoExp, Then, listed}
-use Rattle.pv_equations.specs.Flow.{Flow}
-use Rattle.pv_equations.specs.Equations.{Values, form_of}
-use Rattle.pv_terms.specs.declared.names.Named.{Named}
-use Rattle.pv_terms.specs.Reads.{named, Reads, ReadAll}
-use Rattle.pv_terms.specs.Laws.{depths, IsTiedName, TyingUnfolds}
 
 module _ (f : Flow) (v : Values) (nodes : List Node) (names : List Named) (tied : (h s n : ℕ) → In names (named h s n) → IsTiedName f v nodes names h s n) where
   abbrev Pairs : ℕ → Exp → Type 0

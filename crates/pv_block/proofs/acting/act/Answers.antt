@@ -1,36 +1,29 @@
-use Rattle.std.proofs.Common.{◌≡◌, ap, sym, ◌∙◌, List, Some}
-use Rattle.std.proofs.lemmas.Result.{IfOk-weaker}
-use Rattle.pv_block.specs.declared.held.Cell.{Cell}
-use Rattle.pv_block.specs.Acting.{popped_in}
-use Rattle.pv_block.proofs.Popped.{acts_none, acts_popped, pops_sorted}
+use Rattle.std.proofs.Common.{ap, sym, subst, ◌∙◌, List}
+use Rattle.pv_block.proofs.Words.{map, IfOk-weaker, Cell, sort_in, AreSorted, ActsOn, AreKnown}
+use Rattle.pv_block.proofs.Popped.{acts_none, acts_popped, pops_sorted, pops_known, popped_none, popped_some}
 use Rattle.pv_block.proofs.acting.act.Goals as goal
 
 pub returns-in_default-clause-acts : goal.returns-in_default-clause-acts
 returns-in_default-clause-acts c =
-    let none = rw c.in_default.is at c.in_ok-operands.ensures in
-    acts_none c.args.action.now c.args.g.now.nodes c.args.g.now.nodes c.args.held (sym none)
+    acts_none c.args.action.now c.args.g.now.nodes c.args.g.now.nodes c.args.held (popped_none c.args.action.now c.args.held c.in_ok-operands.field-0 c.in_ok-operands.ensures c.in_default.is)
 
-pub act_on-requires-clause-sorted : goal.act_on-requires-clause-sorted
-act_on-requires-clause-sorted c =
-    let some = rw c.in-Some.is at c.in_ok-operands.ensures in
-    (pops_sorted c.args.g.now c.args.action.now c.args.held c.in-Some.rest c.in-Some.operands.items c.requires.sorted (sym some)).sorted
-
-pub act_on-requires-clause-operands : goal.act_on-requires-clause-operands
-act_on-requires-clause-operands c =
-    let some = rw c.in-Some.is at c.in_ok-operands.ensures in
-    let found : popped_in c.args.action.now c.args.held ≡ Some (c.deref.result.now, c.in-Some.rest) = sym some ∙ ap (λ (l : List Cell). Some (l, c.in-Some.rest)) (sym c.deref.ensures.value) in
-    (pops_sorted c.args.g.now c.args.action.now c.args.held c.in-Some.rest c.deref.result.now c.requires.sorted found).operands
-
-pub act_on-requires-clause-takes : goal.act_on-requires-clause-takes
-act_on-requires-clause-takes c =
-    let some = rw c.in-Some.is at c.in_ok-operands.ensures in
-    let found : popped_in c.args.action.now c.args.held ≡ Some (c.deref.result.now, c.in-Some.rest) = sym some ∙ ap (λ (l : List Cell). Some (l, c.in-Some.rest)) (sym c.deref.ensures.value) in
-    (pops_sorted c.args.g.now c.args.action.now c.args.held c.in-Some.rest c.deref.result.now c.requires.sorted found).takes_
+pub act_on-requires : goal.act_on-requires
+act_on-requires c =
+    let same = c.deref.ensures.value in
+    let popped = popped_some c.args.action.now c.args.held c.in_ok-operands.field-0 c.in-Some.operands c.in-Some.rest c.in_ok-operands.ensures c.in-Some.is in
+    let s = pops_sorted c.args.g.now c.args.action.now c.args.held c.in-Some.rest c.in-Some.operands.items c.requires.sorted popped in
+    record {
+      plain = c.requires.plain;
+      sorted = s.sorted;
+      operands = subst (AreSorted c.args.g.now) (sym same) s.operands;
+      known = subst AreKnown (sym same) (pops_known c.args.action.now c.args.held c.in-Some.rest c.in-Some.operands.items popped);
+      takes = ap (map sort_in) same ∙ s.takes_;
+    }
 
 pub returns-clause-acts : goal.returns-clause-acts
 returns-clause-acts c =
-    let some = rw c.in-Some.is at c.in_ok-operands.ensures in
-    let found : popped_in c.args.action.now c.args.held ≡ Some (c.deref.result.now, c.in-Some.rest) = sym some ∙ ap (λ (l : List Cell). Some (l, c.in-Some.rest)) (sym c.deref.ensures.value) in
+    let popped = popped_some c.args.action.now c.args.held c.in_ok-operands.field-0 c.in-Some.operands c.in-Some.rest c.in_ok-operands.ensures c.in-Some.is in
     IfOk-weaker c.act_on.result _ _
-    (λ o acts. acts_popped c.args.action.now c.args.g.now.nodes c.act_on.new.g.nodes c.args.held c.in-Some.rest c.deref.result.now o found acts)
+    (λ o acts. acts_popped c.args.action.now c.args.g.now.nodes c.act_on.new.g.nodes c.args.held c.in-Some.rest c.in-Some.operands.items o popped
+    (subst (λ (cells : List Cell). ActsOn c.args.action.now c.args.g.now.nodes c.in-Some.rest cells c.act_on.new.g.nodes o) c.deref.ensures.value acts))
     c.act_on.ensures.acts

@@ -1,29 +1,52 @@
-use Rattle.std.proofs.Common.{◌≡◌, ap, sym, subst, ◌∙◌, w16, w32, to_z, of_z, rules}
-use Rattle.std.proofs.lemmas.Result.{IfOk-weaker}
-use Rattle.pv_frame.specs.declared.action.Action.{Action}
-use Rattle.pv_frame.specs.declared.action.Action.TheVariants as act
-use Rattle.pv_block.specs.Acting.{ActsOn}
-use Rattle.pv_block.proofs.Called.{plain_call, call_takes, call_acts}
+use Rattle.std.proofs.Common.{◌≡◌, List, ℕ, ap, sym, subst, ◌∙◌}
+use Rattle.pv_block.proofs.Words.{IfOk-weaker, Fit, given_nodes, HoldsAfter, SortedAfter}
+use Rattle.pv_block.proofs.Holding.{rearranged_holds}
+use Rattle.pv_block.proofs.Rearranged.{if_sorted}
+use Rattle.pv_block.proofs.Changed.{reads_none, acts_by_effect, effect_fit, sorted_by_effect}
 use Rattle.pv_block.proofs.acting.act_on.Goals as goal
 
-pub returns-in-Increase-clause-acts : goal.returns-in-Increase-clause-acts
-returns-in-Increase-clause-acts c =
-    let small : to_z w16 (of_z w16 c.in-Increase.by) ≡ c.in-Increase.by = search rules in
-    let wide : to_z w32 (of_z w32 c.from.result) ≡ c.from.result = search rules in
-    let by : to_z w32 (of_z w32 c.from.result) ≡ c.in-Increase.by = wide ∙ c.from.ensures ∙ small in
-    IfOk-weaker c.increased.result _ _
-    (λ o increases. subst (λ (a : Action). ActsOn a c.args.g.now.nodes c.args.held c.args.operands.now c.increased.new.g.nodes o) (ap (act.Increase c.in-Increase.place) by ∙ sym c.in-Increase.is) (increases c.args.operands.now))
-    c.increased.ensures.increases
+pub returns-in_default-clause-acts : goal.returns-in_default-clause-acts
+returns-in_default-clause-acts c =
+    let none = rw c.in_default.is at c.in_ok-effect.ensures in
+    IfOk-weaker c.rearranged.result _ _
+    (λ o is. λ at h g ds hold z i.
+    let b = rearranged_holds at c.args.g.now.nodes c.args.action.now c.args.held h g c.args.operands.now ds (sym none) hold z i in
+    (b.0, is ∙ b.1, b.2))
+    c.rearranged.ensures
 
-pub returns-in_ok-called-in-Call-clause-acts : goal.returns-in_ok-called-in-Call-clause-acts
-returns-in_ok-called-in-Call-clause-acts c =
-    call_acts c.args.action.now c.in-Call.desc c.in-Call.f c.args.g.now.nodes c.called.new.g.nodes c.args.held c.in_ok-called-in-Call.field-0 c.args.operands.now c.in-Call.is c.in_ok-called-in-Call.ensures.calls
+pub returns-in_default-clause-sorted : goal.returns-in_default-clause-sorted
+returns-in_default-clause-sorted c = IfOk-weaker c.rearranged.result _ _ (λ o is. if_sorted c.args.g.now c.args.action.now c.args.held c.args.operands.now o c.requires.sorted c.requires.operands is) c.rearranged.ensures
 
-pub called-requires-clause-typed : goal.called-requires-clause-typed
-called-requires-clause-typed c = (plain_call c.args.action.now c.in-Call.desc c.in-Call.f c.in-Call.is c.requires.plain).0
+pub returns-in_default-2-clause-acts : goal.returns-in_default-2-clause-acts
+returns-in_default-2-clause-acts c =
+    let none = rw c.in_default-2.is at c.in_ok-cells.ensures in
+    reads_none c.args.action.now c.in-Some.effect (sym c.in_ok-effect.ensures ∙ c.in-Some.is) c.args.g.now c.args.held c.args.operands.now c.args.g.now c.requires.known (sym none)
 
-pub called-requires-clause-floatless : goal.called-requires-clause-floatless
-called-requires-clause-floatless c = (plain_call c.args.action.now c.in-Call.desc c.in-Call.f c.in-Call.is c.requires.plain).1
+pub affected-requires-clause-fit : goal.affected-requires-clause-fit
+affected-requires-clause-fit c =
+    let e = c.in-Some.effect in
+    let cells = c.in-Some-2.cells.items in
+    let read = rw c.in-Some-2.is at c.in_ok-cells.ensures in
+    let given : c.deref-2.result.now ≡ given_nodes c.args.held cells = c.deref-2.ensures.value ∙ c.in_ok-given.ensures ∙ ap (given_nodes c.args.held) c.deref.ensures.value in
+    subst (λ (ns : List ℕ). Fit c.args.g.now ns e.lines) (sym given)
+    (effect_fit c.args.action.now e (sym c.in_ok-effect.ensures ∙ c.in-Some.is) c.args.g.now c.args.held c.args.operands.now cells (sym read) c.requires.plain c.requires.sorted c.requires.operands c.requires.takes)
 
-pub called-requires-clause-takes : goal.called-requires-clause-takes
-called-requires-clause-takes c = c.requires.takes ∙ call_takes c.args.action.now c.in-Call.desc c.in-Call.f c.in-Call.is
+pub returns-clause-acts : goal.returns-clause-acts
+returns-clause-acts c =
+    let e = c.in-Some.effect in
+    let cells = c.in-Some-2.cells.items in
+    let after = c.in_ok-affected.field-0 in
+    let read = rw c.in-Some-2.is at c.in_ok-cells.ensures in
+    let given : c.deref-2.result.now ≡ given_nodes c.args.held cells = c.deref-2.ensures.value ∙ c.in_ok-given.ensures ∙ ap (given_nodes c.args.held) c.deref.ensures.value in
+    acts_by_effect c.args.action.now e (sym c.in_ok-effect.ensures ∙ c.in-Some.is) c.args.g.now c.args.held c.args.operands.now cells (sym read) c.affected.new.g after c.requires.known
+    (subst (λ (ns : List ℕ). HoldsAfter e c.args.g.now.nodes ns c.args.held c.affected.new.g.nodes after) given c.in_ok-affected.ensures.holds)
+
+pub returns-clause-sorted : goal.returns-clause-sorted
+returns-clause-sorted c =
+    let e = c.in-Some.effect in
+    let cells = c.in-Some-2.cells.items in
+    let after = c.in_ok-affected.field-0 in
+    let read = rw c.in-Some-2.is at c.in_ok-cells.ensures in
+    let given : c.deref-2.result.now ≡ given_nodes c.args.held cells = c.deref-2.ensures.value ∙ c.in_ok-given.ensures ∙ ap (given_nodes c.args.held) c.deref.ensures.value in
+    sorted_by_effect c.args.action.now e (sym c.in_ok-effect.ensures ∙ c.in-Some.is) c.args.g.now c.args.held c.args.operands.now cells (sym read) c.requires.plain c.requires.sorted c.requires.operands c.requires.takes c.affected.new.g after
+    (subst (λ (ns : List ℕ). SortedAfter e c.args.g.now ns c.affected.new.g after) given c.in_ok-affected.ensures.sorted)

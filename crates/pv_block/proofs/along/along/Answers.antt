@@ -1,9 +1,5 @@
 use Rattle.std.proofs.Common.{◌≡◌, ℕ, suc, zero, ◌+◌, ◌-◌, List, None, refl, ap, sym, subst, ◌∙◌, arith}
-use Rattle.std.specs.Prelude.{slice_get}
-use Rattle.std.proofs.lemmas.Option.{slice_get_read, slice_get_past}
-use Rattle.pv_frame.specs.declared.action.Action.{Action}
-use Rattle.pv_frame.specs.Programs.{IsAt}
-use Rattle.pv_terms.proofs.Cited.{grows_then}
+use Rattle.pv_block.proofs.Words.{slice_get, slice_get_read, slice_get_past, Action, IsAt, grows_then}
 use Rattle.pv_block.proofs.Reaching.{Reaches, reaches_next, stops, runs_out, reaches_last}
 use Rattle.pv_block.proofs.along.along.Goals as goal
 

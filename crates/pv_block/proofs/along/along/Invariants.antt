@@ -1,6 +1,5 @@
 use Rattle.std.proofs.Common.{◌≡◌, ℕ, ◌+◌}
-use Rattle.pv_terms.specs.Terms.{Grows}
-use Rattle.pv_block.specs.Sorted.{IsSorted}
+use Rattle.pv_block.proofs.Words.{Grows, IsSorted}
 use Rattle.pv_block.proofs.Reaching.{Reaches}
 use Rattle.pv_block.proofs.along.along.Given as goal
 

@@ -1,12 +1,7 @@
 use Rattle.std.proofs.Common.{◌+◌, ℕ, List, ap, sym, subst, ◌∙◌, add-one}
-use Rattle.std.specs.Prelude.{map}
-use Rattle.std.proofs.lemmas.Result.{IfOk-weaker}
-use Rattle.pv_block.specs.declared.held.Cell.{Cell}
-use Rattle.pv_block.specs.Cells.{sort_in}
-use Rattle.pv_block.specs.Sorted.{AreSorted}
-use Rattle.pv_block.specs.Leaving.{AreKnown, LeavesFrom}
-use Rattle.pv_block.proofs.Popped.{pops_sorted}
-use Rattle.pv_block.proofs.Operands.{pops_known, leaves_popped, leaves_none, popped_none, popped_some}
+use Rattle.pv_block.proofs.Words.{map, IfOk-weaker, Cell, sort_in, AreSorted, AreKnown, LeavesFrom}
+use Rattle.pv_block.proofs.Popped.{pops_sorted, pops_known, popped_none, popped_some}
+use Rattle.pv_block.proofs.Operands.{leaves_popped, leaves_none}
 use Rattle.pv_block.proofs.leaving.leave.Goals as goal
 
 pub returns-in_default-clause-stands : goal.returns-in_default-clause-stands

@@ -1,8 +1,6 @@
 use Rattle.std.proofs.Common.{sym, subst, ◌∙◌}
+use Rattle.pv_block.proofs.Words.{grows_same, grows_then, IsSortedEnding, ended}
 use Rattle.pv_frame.specs.declared.sort.Sort.TheVariants as sort
-use Rattle.pv_terms.proofs.Cited.{grows_same, grows_then}
-use Rattle.pv_block.specs.Ran.{IsSortedEnding}
-use Rattle.pv_block.specs.Leaving.{ended}
 use Rattle.pv_block.proofs.Exits.{ending_on, ended_sorted}
 use Rattle.pv_block.proofs.Operands.{row_fit, same_left, left_sorted, ends_from, goes_from, goes_none}
 use Rattle.pv_block.proofs.leaving.leave_with.Goals as goal

@@ -1,6 +1,5 @@
 use Rattle.std.proofs.Common.{◌≡◌, take}
-use Rattle.std.specs.Prelude.{map}
-use Rattle.pv_block.specs.Rows.{leaving_by}
+use Rattle.pv_block.proofs.Words.{map, leaving_by}
 use Rattle.pv_block.proofs.leaving.leavings.Given as goal
 
 abbrev pub invariant-loop-way : goal.invariant-loop-way

@@ -1,8 +1,5 @@
 use Rattle.std.proofs.Common.{◌≡◌, ℕ, List, ap, subst, ◌∙◌}
-use Rattle.std.specs.Prelude.{map}
-use Rattle.pv_block.specs.declared.line.Line.{Line}
-use Rattle.pv_block.specs.Lines.{node_at, AreMade}
-use Rattle.pv_block.specs.Rows.{leaving_by}
+use Rattle.pv_block.proofs.Words.{map, Line, node_at, AreMade, leaving_by}
 use Rattle.pv_block.proofs.Left.{row_leaves, row_sorted}
 use Rattle.pv_block.proofs.leaving.left.Goals as goal
 

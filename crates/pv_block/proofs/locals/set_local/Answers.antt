@@ -1,5 +1,5 @@
 use Rattle.std.proofs.Common.{ap, sym, ◌∙◌}
-use Rattle.pv_block.specs.Cells.{lost_before}
+use Rattle.pv_block.proofs.Words.{lost_before}
 use Rattle.pv_block.proofs.Steps.{stored_wide, stored_narrow, set_local_is}
 use Rattle.pv_block.proofs.locals.set_local.Goals as goal
 use Rattle.pv_block.proofs.locals.set_local.Goals.{then-is_wide, else-is_wide}

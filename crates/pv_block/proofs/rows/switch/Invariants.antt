@@ -1,5 +1,5 @@
 use Rattle.std.proofs.Common.{◌≡◌, ◌++◌, length, drop}
-use Rattle.pv_block.specs.Rows.{case_lines, case_tests, case_exits}
+use Rattle.pv_block.proofs.Words.{case_lines, case_tests, case_exits}
 use Rattle.pv_block.proofs.rows.switch.Given as goal
 
 abbrev pub invariant-loop-case : goal.invariant-loop-case

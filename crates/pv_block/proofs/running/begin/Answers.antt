@@ -1,12 +1,8 @@
 use Rattle.std.proofs.Common.{refl}
+use Rattle.pv_block.proofs.Words.{T, F, grows_same, grows_then, unit_part, entry_of}
 use Rattle.pv_graph.specs.declared.node.Op.TheVariants as op
-use Rattle.pv_graph.specs.declared.node.OpSort.TheVariants.{T, F}
-use Rattle.pv_terms.proofs.Cited.{grows_then}
-use Rattle.pv_runs.specs.Held.{unit_part}
-use Rattle.pv_block.specs.Ran.{entry_of}
-use Rattle.pv_block.proofs.Standing.{grown, stands_on}
-use Rattle.pv_block.proofs.Nodes.{over_none, sort_on, makes}
-use Rattle.pv_block.proofs.Exits.{cells_on}
+use Rattle.pv_block.proofs.Standing.{grown, stands_on, over_none, makes}
+use Rattle.pv_block.proofs.Exits.{sort_on, cells_on}
 use Rattle.pv_block.proofs.Whole.{holds_first}
 use Rattle.pv_block.proofs.running.begin.Goals as goal
 
@@ -21,8 +17,8 @@ returns-clause-holds c = λ f x.
     let at = entry_of c.args.g.now c.args.state in
     let g = grows_then c.args.g.now c.over.new.g c.over-2.new.g c.in_ok-unit.ensures.grows c.in_ok-clear.ensures.grows in
     holds_first c.args.g.now c.args.state c.over-2.new.g.nodes (grown c.args.g.now c.over-2.new.g g) f c.in_ok-unit.unit c.in_ok-clear.clear x
-    (stands_on at c.over.new.g.nodes c.over-2.new.g.nodes c.in_ok-unit.unit unit_part (grown c.over.new.g c.over-2.new.g c.in_ok-clear.ensures.grows) (makes c.args.g.now c.over.new.g op.Unit c.in_ok-unit.unit refl refl c.in_ok-unit.ensures.reads at))
-    (makes c.over.new.g c.over-2.new.g op.Clear c.in_ok-clear.clear refl refl c.in_ok-clear.ensures.reads at)
+    (stands_on at c.over.new.g.nodes c.over-2.new.g.nodes c.in_ok-unit.unit unit_part (grown c.over.new.g c.over-2.new.g c.in_ok-clear.ensures.grows) (makes c.args.g.now c.over.new.g op.Unit c.in_ok-unit.unit refl (λ e. absurd (let y = e in cc)) c.in_ok-unit.ensures.reads at (grown c.args.g.now c.args.g.now (grows_same c.args.g.now c.requires.graph))))
+    (makes c.over.new.g c.over-2.new.g op.Clear c.in_ok-clear.clear refl (λ e. absurd (let y = e in cc)) c.in_ok-clear.ensures.reads at (grown c.args.g.now c.over.new.g c.in_ok-unit.ensures.grows))
 
 pub returns-clause-sorted : goal.returns-clause-sorted
 returns-clause-sorted c =

@@ -1,6 +1,5 @@
 use Rattle.std.proofs.Common.{◌≡◌, length}
-use Rattle.pv_frame.specs.Stacks.{popped}
-use Rattle.pv_block.specs.Cells.{sort_in}
+use Rattle.pv_block.proofs.Words.{popped, sort_in}
 use Rattle.pv_block.proofs.Steps.{rest_of}
 use Rattle.pv_block.proofs.stack.below.Given as goal
 

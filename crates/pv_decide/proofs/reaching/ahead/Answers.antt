@@ -1,5 +1,5 @@
 use Rattle.std.proofs.Common.{◌≡◌, ◌++◌, length, take, drop, Bool, sym, ap, ◌∙◌, subst, arith}
-use Rattle.pv_decide.specs.Reaching.{AreSo, KnowAhead, Swept, unmarked, IsDone}
+use Rattle.pv_decide.proofs.Words.{AreSo, KnowAhead, Swept, unmarked, IsDone}
 use Rattle.pv_decide.proofs.Reached.{written, know_ahead}
 use Rattle.pv_decide.proofs.reaching.ahead.Goals as goal
 

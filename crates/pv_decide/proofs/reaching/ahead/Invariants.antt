@@ -1,5 +1,5 @@
 use Rattle.std.proofs.Common.{◌≡◌, length}
-use Rattle.pv_decide.specs.Reaching.{AreSo, unmarked}
+use Rattle.pv_decide.proofs.Words.{AreSo, unmarked}
 use Rattle.pv_decide.proofs.reaching.ahead.Given as goal
 
 abbrev pub invariant-loop-aim : goal.invariant-loop-aim

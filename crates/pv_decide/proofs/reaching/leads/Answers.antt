@@ -1,8 +1,7 @@
 use Rattle.std.proofs.Common.{◌≡◌, List, length, get_or, Some, slice_get, refl, sym, ap, subst, arith}
-use Rattle.std.proofs.lemmas.Option.{slice_get-get_or}
+use Rattle.pv_decide.proofs.Words.{slice_get-get_or, Site}
 use Rattle.pv_flow.specs.declared.block.Exit.{Exit}
 use Rattle.pv_flow.specs.declared.block.Exit.TheVariants as dest
-use Rattle.pv_decide.specs.declared.site.Site.{Site}
 use Rattle.pv_decide.proofs.Reached.{no_leads, until}
 use Rattle.pv_decide.proofs.reaching.leads.Goals as goal
 

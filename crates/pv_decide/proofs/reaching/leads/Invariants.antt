@@ -1,6 +1,6 @@
 use Rattle.std.proofs.Common.{◌≡◌, ◌<◌, ℕ, Some, slice_get}
+use Rattle.pv_decide.proofs.Words.{LeadsOn}
 use Rattle.pv_flow.specs.declared.block.Exit.{Exit}
-use Rattle.pv_decide.specs.Reaching.{LeadsOn}
 use Rattle.pv_decide.proofs.reaching.leads.Given as goal
 
 abbrev pub invariant-loop-exit : goal.invariant-loop-exit

@@ -1,7 +1,5 @@
 use Rattle.std.proofs.Common.{◌≡◌, ◌<◌, ◌-◌, suc, List, length, set, Some, slice_get, Bool, false, true, ◌⊎◌, inl, inr, ap, ◌∙◌, arith}
-use Rattle.std.proofs.lemmas.Option.{slice_get-get_or}
-use Rattle.std.proofs.Math.ListN.{length-set}
-use Rattle.pv_decide.specs.Reaching.{Leads, unmarked}
+use Rattle.pv_decide.proofs.Words.{slice_get-get_or, length-set, Leads, unmarked}
 use Rattle.pv_decide.proofs.Reached.{unmarked_set, so_more, done_more}
 use Rattle.pv_decide.proofs.reaching.sweep.Goals as goal
 use Rattle.pv_decide.proofs.reaching.sweep.Goals.{else-not-known-b-via-then-not-known-b+else-leads, else-not-known-b-via-else-not-known-b}

@@ -1,5 +1,5 @@
 use Rattle.std.proofs.Common.{◌≡◌, ◌≤◌, ◌+◌, false, length}
-use Rattle.pv_decide.specs.Reaching.{AreSo, IsDone, unmarked}
+use Rattle.pv_decide.proofs.Words.{AreSo, IsDone, unmarked}
 use Rattle.pv_decide.proofs.Reached.{one_if}
 use Rattle.pv_decide.proofs.reaching.sweep.Given as goal
 

@@ -1,10 +1,6 @@
 use Rattle.std.proofs.Common.{ℕ, List, get_or, subst}
-use Rattle.std.proofs.lemmas.Option.{slice_get-get_or}
-use Rattle.std.proofs.lemmas.Bool.Decides.{Decides-eqb}
-use Rattle.std.proofs.lemmas.List.Elements.{contains_decides, Decides-contains}
+use Rattle.pv_decide.proofs.Words.{slice_get-get_or, Decides-eqb, contains_decides, Decides-contains, Contains, Decides}
 use Rattle.std.proofs.Math.Dec.{eqb}
-use Rattle.std.specs.List.{Contains}
-use Rattle.std.specs.Bool.{Decides}
 use Rattle.pv_decide.proofs.Chains.{around_loop}
 use Rattle.pv_decide.proofs.site.is_around.Goals as goal
 

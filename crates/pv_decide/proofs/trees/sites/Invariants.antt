@@ -1,7 +1,5 @@
 use Rattle.std.proofs.Common.{◌≡◌, ℕ, length, Some, slice_get}
-use Rattle.pv_flow.specs.declared.block.Block.{Block}
-use Rattle.pv_decide.specs.declared.site.Site.{Site}
-use Rattle.pv_decide.specs.Trees.{IsSite}
+use Rattle.pv_decide.proofs.Words.{Block, Site, IsSite}
 use Rattle.pv_decide.proofs.trees.sites.Given as goal
 
 abbrev pub invariant-loop-b : goal.invariant-loop-b

@@ -1,6 +1,5 @@
 use Rattle.std.proofs.Common.{◌≡◌, ◌<◌, ℕ, suc, ◌-◌, length, Some, slice_get, arith, sym, subst, refl, rules}
-use Rattle.std.proofs.lemmas.Option.{slice_get_read}
-use Rattle.pv_decide.specs.Placing.{Grows}
+use Rattle.pv_decide.proofs.Words.{slice_get_read, Grows}
 use Rattle.pv_decide.proofs.Following.{GivesFrom, from_last, from_test, from_first, nothing_grows}
 use Rattle.pv_decide.proofs.Folding.{grows_trans}
 use Rattle.pv_decide.proofs.Sound.{test_fits, place_grow, exit_before, test_before}

@@ -1,5 +1,4 @@
-use Rattle.pv_decide.specs.Folds.{IsExitOf}
-use Rattle.pv_decide.specs.Placing.{Grows, HasNothing, FitsAt}
+use Rattle.pv_decide.proofs.Words.{IsExitOf, Grows, HasNothing, FitsAt}
 use Rattle.pv_decide.proofs.Following.{GivesFrom}
 use Rattle.pv_decide.proofs.walking.block_place.Given as goal
 

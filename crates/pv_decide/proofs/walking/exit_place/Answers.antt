@@ -1,5 +1,5 @@
 use Rattle.std.proofs.Common.{◌<◌, ℕ, get_or, refl, sym, subst}
-use Rattle.std.proofs.lemmas.Option.{slice_get_within}
+use Rattle.pv_decide.proofs.Words.{slice_get_within}
 use Rattle.pv_decide.proofs.Chains.{goes_as, exit_range}
 use Rattle.pv_decide.proofs.Following.{follows_leaf_ok, follows_goes, follows_nothing}
 use Rattle.pv_decide.proofs.Sound.{leaf_fits_ok, goes_fits, goes_later, nothing_fits, exit_read}

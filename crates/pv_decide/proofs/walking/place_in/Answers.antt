@@ -1,5 +1,5 @@
 use Rattle.std.proofs.Common.{◌≡◌, ◌≢◌, ◌<◌, true, false, Some, slice_get, length, ◌⊎◌, inl, inr, ◌∙◌, ap, rules, arith}
-use Rattle.std.proofs.lemmas.Option.{slice_get-get_or}
+use Rattle.pv_decide.proofs.Words.{slice_get-get_or}
 use Rattle.pv_decide.specs.declared.tree.Target.TheVariants as target
 use Rattle.pv_decide.proofs.Sound.{dead_fits}
 use Rattle.pv_decide.proofs.Walked.{place_dead, place_alive_ok}

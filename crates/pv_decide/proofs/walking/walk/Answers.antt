@@ -1,11 +1,6 @@
 use Rattle.std.proofs.Common.{◌≡◌, ◌<◌, ℕ, suc, ◌+◌, ◌-◌, List, [], ◌∷◌, ◌++◌, replicate, length, get_or, take, Some, slice_get, ◌∙◌, sym, ap, subst, refl, arith}
-use Rattle.std.proofs.Math.ListN.{length-set, length-replicate}
-use Rattle.std.proofs.lemmas.Option.{slice_get-get_or}
-use Rattle.pv_decide.specs.declared.tree.TreeNode.{TreeNode}
+use Rattle.pv_decide.proofs.Words.{length-set, length-replicate, slice_get-get_or, TreeNode, first_of, AreSound, HasNothing, HasDead, IsPlace, IsWalk}
 use Rattle.pv_decide.specs.declared.tree.TreeNode.TheVariants as node
-use Rattle.pv_decide.specs.Sites.{first_of}
-use Rattle.pv_decide.specs.Folds.{AreSound}
-use Rattle.pv_decide.specs.Placing.{HasNothing, HasDead, IsPlace, IsWalk}
 use Rattle.pv_decide.proofs.Folding.{grows_dead}
 use Rattle.pv_decide.proofs.Sound.{places_set, first_sound}
 use Rattle.pv_decide.proofs.Following.{nothing_grows}

@@ -1,6 +1,5 @@
 use Rattle.std.proofs.Common.{◌≡◌, ◌≤◌, length}
-use Rattle.pv_decide.specs.Folds.{AreSound}
-use Rattle.pv_decide.specs.Placing.{HasNothing, HasDead, ArePlaces}
+use Rattle.pv_decide.proofs.Words.{AreSound, HasNothing, HasDead, ArePlaces}
 use Rattle.pv_decide.proofs.Walked.{HasPlaces}
 use Rattle.pv_decide.proofs.walking.walk.Given as goal
 

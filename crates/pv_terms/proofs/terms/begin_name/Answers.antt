@@ -1,8 +1,5 @@
 use Rattle.std.proofs.Common.{List, subst, sym}
-use Rattle.pv_graph.specs.Walks.{In}
-use Rattle.pv_terms.specs.declared.names.Named.{Named}
-use Rattle.pv_terms.specs.Reads.{named}
-use Rattle.pv_terms.specs.Terms.{StayNames}
+use Rattle.pv_terms.proofs.Words.{In, Named, named, StayNames}
 use Rattle.pv_terms.proofs.Growing.{opens_begun, keeps_begun, on_err}
 use Rattle.pv_terms.proofs.Naming.{begun_theta, begun_sort, stay_names, name_last}
 use Rattle.pv_terms.proofs.terms.begin_name.Goals as goal

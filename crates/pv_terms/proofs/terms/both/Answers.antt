@@ -1,4 +1,4 @@
-use Rattle.std.proofs.lemmas.Result.{IfOk-weaker}
+use Rattle.pv_terms.proofs.Words.{IfOk-weaker}
 use Rattle.pv_graph.specs.declared.node.OpSort.TheVariants as sort
 use Rattle.pv_terms.proofs.Growing.{both_has}
 use Rattle.pv_terms.proofs.Made.{both_unit, both_other}

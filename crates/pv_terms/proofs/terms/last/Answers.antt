@@ -1,6 +1,5 @@
-use Rattle.std.proofs.lemmas.Result.{IfOk-weaker}
+use Rattle.pv_terms.proofs.Words.{IfOk-weaker, IsFlatOrOut, IsOfSort}
 use Rattle.pv_graph.specs.declared.node.OpSort.TheVariants as sort
-use Rattle.pv_terms.specs.Terms.{IsFlatOrOut, IsOfSort}
 use Rattle.pv_terms.proofs.Growing.{grows_by_then, pass_has, eval_has, eval_keeps}
 use Rattle.pv_terms.proofs.Made.{last_reads}
 use Rattle.pv_terms.proofs.terms.last.Goals as goal

@@ -1,8 +1,6 @@
 use Rattle.std.proofs.Common.{sym, subst}
-use Rattle.std.proofs.lemmas.Result.{IfOk-weaker}
-use Rattle.pv_graph.specs.Graphs.{Graph, IsGraph}
+use Rattle.pv_terms.proofs.Words.{IfOk-weaker, Graph, IsGraph, GrowsBy, IsFlatOrOut, IsOfSort, IsValue, KeepsSort, ReadsLast, ReadsOut}
 use Rattle.pv_graph.specs.declared.node.OpSort.TheVariants as sort
-use Rattle.pv_terms.specs.Terms.{GrowsBy, IsFlatOrOut, IsOfSort, IsValue, KeepsSort, ReadsLast, ReadsOut}
 use Rattle.pv_terms.proofs.Growing.{grows_by_same}
 use Rattle.pv_terms.proofs.Made.{out_same, out_last}
 use Rattle.pv_terms.proofs.terms.out.Goals as goal

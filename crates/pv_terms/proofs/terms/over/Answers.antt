@@ -1,4 +1,4 @@
-use Rattle.pv_terms.specs.Terms.{IsFlat}
+use Rattle.pv_terms.proofs.Words.{IsFlat}
 use Rattle.pv_terms.proofs.Growing.{fit_nodes, grows_added, flat_no_theta, sort_added}
 use Rattle.pv_terms.proofs.Made.{reads_added}
 use Rattle.pv_terms.proofs.terms.over.Goals as goal

@@ -1,5 +1,5 @@
 use Rattle.std.proofs.Common.{inr}
-use Rattle.pv_terms.specs.Terms.{IsFlatOrOut}
+use Rattle.pv_terms.proofs.Words.{IsFlatOrOut}
 use Rattle.pv_terms.proofs.Growing.{fit_nodes, grows_added, out_no_theta, sort_added}
 use Rattle.pv_terms.proofs.Made.{reads_added}
 use Rattle.pv_terms.proofs.terms.over_out.Goals as goal

@@ -1,5 +1,4 @@
-use Rattle.std.proofs.lemmas.Result.{IfOk-weaker}
-use Rattle.pv_terms.specs.Terms.{IsFlatOrOut}
+use Rattle.pv_terms.proofs.Words.{IfOk-weaker, IsFlatOrOut}
 use Rattle.pv_terms.proofs.Growing.{grows_by_then, flat_or_out}
 use Rattle.pv_terms.proofs.Made.{token_reads}
 use Rattle.pv_terms.proofs.terms.token_out.Goals as goal

@@ -1,9 +1,6 @@
 use Rattle.std.proofs.Common.{◌≡◌, List, sym, ◌∙◌, subst}
-use Rattle.pv_decide.specs.declared.site.Site.{Site}
-use Rattle.pv_decide.specs.declared.aim.Scope.TheVariants.{Whole}
+use Rattle.pv_decide.proofs.Words.{Site, Whole, AreInRange, KnowAhead}
 use Rattle.pv_decide.specs.declared.tree.Target.TheVariants as target
-use Rattle.pv_decide.specs.Sites.{AreInRange}
-use Rattle.pv_decide.specs.Reaching.{KnowAhead}
 use Rattle.pv_decide.proofs.Making.{are_in_range, are_ordered, headers_low}
 use Rattle.pv_decide.proofs.Reached.{are_ends, none_so}
 use Rattle.pv_decide.proofs.trees.Trees.new.Goals as goal

@@ -1,10 +1,5 @@
 use Rattle.std.proofs.Common.{Bool, List, sym, ◌∙◌, subst, subst₂}
-use Rattle.pv_decide.specs.declared.aim.Scope.{Scope}
-use Rattle.pv_decide.specs.declared.site.Site.{Site}
-use Rattle.pv_decide.specs.Sites.{IsScope}
-use Rattle.pv_decide.specs.Reaching.{AreSo, KnowAhead}
-use Rattle.pv_decide.specs.Placing.{IsWalk}
-use Rattle.pv_decide.specs.Trees.{scope_of}
+use Rattle.pv_decide.proofs.Words.{Scope, Site, IsScope, AreSo, KnowAhead, IsWalk, scope_of}
 use Rattle.pv_decide.proofs.Reached.{ends_so}
 use Rattle.pv_decide.proofs.OfFlow.{scope_low, tree_is}
 use Rattle.pv_decide.proofs.trees.Trees.walk.Goals as goal

@@ -35,7 +35,7 @@ pub fn sort_of_type(jtype: JType) -> Sort
 }
 
 /// The sort of the elements of an array.
-fn sort_of_kind(kind: Kind) -> Sort
+pub fn sort_of_kind(kind: Kind) -> Sort
     ensures { result ≡ sort_of_kind kind }
 {
     match kind {
@@ -173,7 +173,7 @@ pub fn asked_sorts(action: &Action) -> &'static [Sort]
 }
 
 /// The sorts of the operands, in the order in which they are pushed; none for a move.
-pub(crate) fn takes(alloc: Global, action: &Action) -> Result<Vec<Sort>, AllocError>
+pub fn takes(alloc: Global, action: &Action) -> Result<Vec<Sort>, AllocError>
     ensures { IfOk result (λ v. v.items ≡ takes action.now) }
 {
     match action {

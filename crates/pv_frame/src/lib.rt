@@ -13,8 +13,8 @@
 //! This layer stands on `pv_value`, `pv_list`, `pv_pool`, `pv_insn` and `pv_class`. The layers above use
 //! `infer`: it is Ok exactly where the method is accepted, with its program and the frames that have
 //! the fewest unknown locals, and else names the first cause and its address (`specs/Answers`). They
-//! take from here too what a move takes from a stack (`Part`), the sorts of numbers and types, and those
-//! that actions ask for.
+//! take from here too what a move takes from a stack (`Part`), the sorts of numbers, types and kinds, and
+//! those that actions ask for.
 #![tactic(auto)]
 
 mod acting;
@@ -35,7 +35,9 @@ mod used;
 
 pub use action::{Action, Comparison, Move, Test};
 pub use cause::{Cause, CauseKind, Refused};
-pub use effect::{asked_sorts, parameter_sorts, sort_of, sort_of_type, value_sort};
+pub use effect::{
+    asked_sorts, parameter_sorts, sort_of, sort_of_kind, sort_of_type, takes, value_sort,
+};
 pub use frame::Frame;
 pub use inference::{LONGEST_CODE, MOST_SLOTS, infer};
 pub use program::Program;

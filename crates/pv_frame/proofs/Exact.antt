@@ -1,6 +1,7 @@
 -- Each method with a code is accepted, or refused for a cause: that neither holds is impossible.
 use Rattle.std.proofs.Common.{◌≡◌, ℕ, zero, suc, ◌+◌, ◌<◌, ◌≤◌, refl, List, [], ◌∷◌, ◌++◌, length, Some, ◌∙◌, sym, inl, inr, arith, append_assoc, ◌⊎◌}
-use Rattle.pv_frame.proofs.Words.{cases_eq, cases_lt, AllZip, AllByRecursion, Descriptor, IsMethodType, ClassFile, Method, Code, Placed, CodeFault, IsCode, IsBad, formed, Action, Cause, IsFloatlessMethod, Program, is_instance, IsUnsynchronized, Does, IsProgramOf, HasFrames, HasNoCause, address_of, Row, handler, synchronized, long_code, slots, float, bad_code, instruction, untyped, IsRefused, IsAccepted}
+use Rattle.pv_frame.proofs.Words.{cases_eq, cases_lt, AllZip, AllByRecursion, Descriptor, IsMethodType, ClassFile, Method, Code, Placed, CodeFault, IsCode, IsBad, formed}
+use Rattle.pv_frame.proofs.Words.{Action, Cause, IsFloatlessMethod, Program, is_instance, IsUnsynchronized, Does, IsProgramOf, HasFrames, HasNoCause, address_of, Row, handler, synchronized, long_code, slots, float, bad_code, instruction, untyped, IsRefused, IsAccepted}
 use Rattle.pv_frame.proofs.Complete.{HasTexts, method_or_not, list_acts}
 
 -- a fault of a code, with its address

@@ -1,8 +1,8 @@
 //! What actions take from the operand stack and put there, by sorts, and where they lead.
 
-ghost use Rattle.std.specs.Prelude.{◌≡◌, ◌+◌, ◌<◌, ◌^◌, IfOk, map, ◌∷◌};
+ghost use Rattle.std.specs.Prelude.{◌≡◌, ◌+◌, ◌<◌, ◌^◌, IfOk, map, [], ◌∷◌};
 ghost use Rattle.pv_value.specs.Operations as operation;
-ghost use Rattle.pv_frame.specs.Effects.{sort_of, sort_of_type, sort_of_kind, sort_of_word, sorts_given, test_takes, takes, gives, successors};
+ghost use Rattle.pv_frame.specs.Effects.{sort_of, sort_of_type, sort_of_kind, sort_of_word, sorts_given, test_takes, asked, takes, gives, successors};
 
 use crate::action::{Action, Test};
 use crate::sort::Sort;
@@ -46,7 +46,7 @@ pub fn sort_of_kind(kind: Kind) -> Sort
 }
 
 /// The sorts of the operands of an operation.
-pub fn operand_sorts(op: ScalarOp) -> &'static [Sort]
+fn operand_sorts(op: ScalarOp) -> &'static [Sort]
     ensures { result.now ≡ map sort_of_word (operation.takes op) }
 {
     match op {
@@ -92,7 +92,7 @@ pub fn value_sort(op: ScalarOp) -> Sort
 }
 
 /// The sorts that a test asks for.
-pub fn test_takes(test: Test) -> &'static [Sort]
+fn test_takes(test: Test) -> &'static [Sort]
     ensures { result.now ≡ test_takes test }
 {
     match test {
@@ -114,33 +114,71 @@ pub fn parameter_sorts(alloc: Global, params: &Listed<JType>) -> Result<Vec<Sort
     Ok(sorts)
 }
 
+/// A value of a sort alone.
+fn alone(sort: Sort) -> &'static [Sort]
+    ensures { result.now ≡ sort ∷ [] }
+{
+    match sort {
+        Sort::Int => &[Sort::Int],
+        Sort::Long => &[Sort::Long],
+        Sort::Ref => &[Sort::Ref],
+        Sort::Unknown => &[Sort::Unknown],
+    }
+}
+
+/// A reference, and a value of a sort.
+fn after_ref(sort: Sort) -> &'static [Sort]
+    ensures { result.now ≡ Sort.Ref ∷ sort ∷ [] }
+{
+    match sort {
+        Sort::Int => &[Sort::Ref, Sort::Int],
+        Sort::Long => &[Sort::Ref, Sort::Long],
+        Sort::Ref => &[Sort::Ref, Sort::Ref],
+        Sort::Unknown => &[Sort::Ref, Sort::Unknown],
+    }
+}
+
+/// A reference, an int, and a value of a sort.
+fn after_element(sort: Sort) -> &'static [Sort]
+    ensures { result.now ≡ Sort.Ref ∷ Sort.Int ∷ sort ∷ [] }
+{
+    match sort {
+        Sort::Int => &[Sort::Ref, Sort::Int, Sort::Int],
+        Sort::Long => &[Sort::Ref, Sort::Int, Sort::Long],
+        Sort::Ref => &[Sort::Ref, Sort::Int, Sort::Ref],
+        Sort::Unknown => &[Sort::Ref, Sort::Int, Sort::Unknown],
+    }
+}
+
+/// The sorts of the operands of an action, in the order in which they are pushed; none for a move, and
+/// none for a call, whose type tells them.
+pub fn asked_sorts(action: &Action) -> &'static [Sort]
+    ensures { result.now ≡ asked action.now }
+{
+    match action {
+        Action::Store(sort, _) => alone(*sort),
+        Action::Scalar(op) | Action::Divide(op) => operand_sorts(*op),
+        Action::Branch(test, _) => test_takes(*test),
+        Action::Switch(_, _) => &[Sort::Int],
+        Action::Give(Some(sort)) => alone(*sort),
+        Action::Throw | Action::GetField(_, _) | Action::Length => &[Sort::Ref],
+        Action::Cast(_) | Action::InstanceOf(_) => &[Sort::Ref],
+        Action::PutStatic(field, _) => alone(sort_of_type(*field)),
+        Action::PutField(field, _) => after_ref(sort_of_type(*field)),
+        Action::LoadElement(_) => after_ref(Sort::Int),
+        Action::StoreElement(kind) => after_element(sort_of_kind(*kind)),
+        Action::StoreRef => after_element(Sort::Ref),
+        _ => &[],
+    }
+}
+
 /// The sorts of the operands, in the order in which they are pushed; none for a move.
-pub(crate) fn takes(alloc: Global, action: &Action) -> Result<Vec<Sort>, AllocError>
+pub fn takes(alloc: Global, action: &Action) -> Result<Vec<Sort>, AllocError>
     ensures { IfOk result (λ v. v.items ≡ takes action.now) }
 {
     match action {
-        Action::Store(sort, _) => [*sort].to_vec(alloc),
-        Action::Scalar(op) | Action::Divide(op) => operand_sorts(*op).to_vec(alloc),
-        Action::Branch(test, _) => test_takes(*test).to_vec(alloc),
-        Action::Switch(_, _) => [Sort::Int].to_vec(alloc),
-        Action::Give(Some(sort)) => [*sort].to_vec(alloc),
-        Action::Throw | Action::GetField(_, _) | Action::Length => [Sort::Ref].to_vec(alloc),
-        Action::Cast(_) | Action::InstanceOf(_) => [Sort::Ref].to_vec(alloc),
-        Action::PutStatic(field, _) => [sort_of_type(*field)].to_vec(alloc),
-        Action::PutField(field, _) => [Sort::Ref, sort_of_type(*field)].to_vec(alloc),
-        Action::LoadElement(_) => [Sort::Ref, Sort::Int].to_vec(alloc),
-        Action::StoreElement(kind) => { [Sort::Ref, Sort::Int, sort_of_kind(*kind)].to_vec(alloc) }
-        Action::StoreRef => [Sort::Ref, Sort::Int, Sort::Ref].to_vec(alloc),
         Action::Call(desc, _) | Action::CallOn(desc, _) => parameter_sorts(alloc, &desc.params),
-        Action::Nop
-        | Action::Push(_)
-        | Action::Literal(_)
-        | Action::Load(_, _)
-        | Action::Increase(_, _)
-        | Action::Move(_)
-        | Action::Jump(_)
-        | Action::Give(None)
-        | Action::GetStatic(_, _) => Ok(Vec::new(alloc)),
+        _ => asked_sorts(action).to_vec(alloc),
     }
 }
 

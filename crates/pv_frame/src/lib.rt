@@ -14,7 +14,7 @@
 //! `infer`: it is Ok exactly where the method is accepted, with its program and the frames that have
 //! the fewest unknown locals, and else names the first cause and its address (`specs/Answers`). They
 //! take from here too what a move takes from a stack (`Part`), the sorts of numbers, types and kinds, and
-//! those that operations and tests ask for.
+//! those that actions ask for.
 #![tactic(auto)]
 
 mod acting;
@@ -36,7 +36,7 @@ mod used;
 pub use action::{Action, Comparison, Move, Test};
 pub use cause::{Cause, CauseKind, Refused};
 pub use effect::{
-    operand_sorts, parameter_sorts, sort_of, sort_of_kind, sort_of_type, test_takes, value_sort,
+    asked_sorts, parameter_sorts, sort_of, sort_of_kind, sort_of_type, takes, value_sort,
 };
 pub use frame::Frame;
 pub use inference::{LONGEST_CODE, MOST_SLOTS, infer};

@@ -56,7 +56,7 @@ pub use Rattle.pv_frame.proofs.Cited.{by_sorts, fits_same, flows_flows, goes_fro
 pub use Rattle.pv_frame.specs.Actions.{ActsWith, IsFloatless, LoadsConstant, UsesMember, branch_rows, cases_from, class_rows, field_rows, local_rows, plain_rows, row_of}
 pub use Rattle.pv_frame.specs.Answers.{AnswersOnly}
 pub use Rattle.pv_frame.specs.Causes.{IsAccepted}
-pub use Rattle.pv_frame.specs.Effects.{gives, sort_of, sort_of_kind, sort_of_local, sort_of_type, sort_of_word, sorts_of_result, successors, takes, test_takes}
+pub use Rattle.pv_frame.specs.Effects.{asked, gives, sort_of, sort_of_kind, sort_of_local, sort_of_type, sort_of_word, sorts_of_result, successors, takes, test_takes}
 pub use Rattle.pv_frame.specs.Frames.{Agrees, Finds, Flows, GoesOn, HasFrames, IsEnd, IsFrameAt, IsTyped, LeadsTo, Leaves, entry_frame, frame_after, frame_done, holds, local_holds, padded_sorts, passed_to, pushed, same, sorts_of, this_sorts}
 pub use Rattle.pv_frame.specs.Programs.{IsAt, IsProgramOf}
 pub use Rattle.pv_frame.specs.Stacking.{lost_before, taken_by}
@@ -75,7 +75,7 @@ pub use Rattle.pv_frame.specs.declared.stack.Part.{Part}
 pub use Rattle.pv_frame.specs.declared.used.Use.{Use}
 unfoldable pub use Rattle.pv_machine.specs.Callees.{after_over}
 pub use Rattle.pv_machine.specs.Callees.{AreCallees, Callees, DifferInReplies, EndsOver, FinitelyManyReplies, HasRepliesOf, IsPartOf, MoreReplies, OverItsOwn, RunEndsOver, SameOverCallees, answer, callees_of, done_over, go_on_over, is_fact, perform_at_over, step_over}
-pub use Rattle.pv_machine.specs.Doing.{Accesses, Acts, Asks, Does, IsAccess, IsNumber, IsPlain, KeepsHeap, Lacks, Reads, asked, element_and_number_of, element_and_ref_of, element_of}
+pub use Rattle.pv_machine.specs.Doing.{Accesses, Acts, Asks, Does, IsAccess, IsNumber, IsPlain, KeepsHeap, Lacks, Reads, element_and_number_of, element_and_ref_of, element_of}
 pub use Rattle.pv_machine.specs.InMemory.{StackInMemory, StateInMemory}
 unfoldable pub use Rattle.pv_machine.specs.Machine.{after}
 pub use Rattle.pv_machine.specs.Machine.{Ends, Now, RunEnds, State, branches, called, compares, computed, divided, done, element_fault, ended, given, go_on, increased, keeps, local, locals_of, next, num_of, number_of, of_sort, padded, passed, perform, perform_at, performed, pushes, running, start, step, store_fault, stored, target_of, tested, throws, unless, value_of, writes}

@@ -10,7 +10,6 @@ use Rattle.pv_frame.specs.declared.action.Action.{Action}
 use Rattle.pv_frame.specs.declared.action.Action.TheVariants as act
 use Rattle.pv_frame.specs.declared.sort.Sort.{Sort}
 use Rattle.pv_frame.specs.declared.program.Program.{Program}
-use Rattle.pv_frame.specs.Effects.{takes}
 use Rattle.pv_value.specs.Numbers.{IsNum}
 use Rattle.pv_machine.specs.declared.effect.Effect.{Effect}
 use Rattle.pv_machine.specs.declared.effect.Effect.TheVariants as effect
@@ -110,12 +109,6 @@ Acts p w locals a nums e =
     (at : ℕ) (stack : List Num) (heap heap0 : Heap) → Does p w (record { at = at; stack = stack; locals = locals; heap = heap; heap0 = heap0 }) a nums e
 
 -- ---- operands
-
--- what an action asks for; a call finds its arguments by itself
-abbrev pub asked : Action → List Sort
-asked (act.Call d f) = []
-asked (act.CallOn d f) = []
-asked a = takes a
 
 -- an array and an index
 abbrev pub element_of : List Num → Option (ℕ × ℤ)

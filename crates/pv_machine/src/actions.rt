@@ -1,12 +1,12 @@
 //! What instructions do to a state (JVMS 6.5).
 
-ghost use Rattle.std.specs.Prelude.{◌≡◌, ◌≤◌, ◌<◌, [], ◌∷◌, map, option_map, IfSome, IfOk, OnOk, OnErr};
+ghost use Rattle.std.specs.Prelude.{◌≡◌, ◌≤◌, ◌<◌, map, option_map, IfSome, IfOk, OnOk, OnErr};
 ghost use Rattle.std.specs.Option.{option_and_then};
 ghost use Rattle.pv_value.specs.declared.world.World.{World};
 ghost use Rattle.pv_frame.specs.declared.program.Program.{Program};
-ghost use Rattle.pv_frame.specs.Effects.{sort_of, sort_of_type, sort_of_kind, test_takes, takes};
+ghost use Rattle.pv_frame.specs.Effects.{sort_of, takes};
 ghost use Rattle.pv_machine.specs.Machine.{running, perform, given, tested, branches, held, increased};
-ghost use Rattle.pv_machine.specs.Doing.{IsPlain, IsAccess, AsksTypes, KeepsHeap, Leads, Acts, asked};
+ghost use Rattle.pv_machine.specs.Doing.{IsPlain, IsAccess, AsksTypes, KeepsHeap, Leads, Acts};
 ghost use Rattle.pv_machine.specs.Steps.{now_of, IsQuiet, IsOverfull};
 
 use crate::access::access;
@@ -17,69 +17,9 @@ use crate::moves::moved;
 use crate::operations::{computed, divided};
 use crate::state::State;
 use crate::types::ask;
-use pv_frame::{
-    Action, Move, Program, Sort, Test, operand_sorts, parameter_sorts, sort_of_kind, sort_of_type,
-    test_takes,
-};
-use pv_value::{Descriptor, Fault, JType, Kind, Memory, Num, Outcome, Sym, World};
+use pv_frame::{Action, Move, Program, Sort, Test, asked_sorts, parameter_sorts};
+use pv_value::{Descriptor, Fault, JType, Memory, Num, Outcome, Sym, World};
 use std::alloc::Global;
-
-// A value of a sort alone.
-fn alone(sort: Sort) -> &'static [Sort]
-    ensures { result.now ≡ sort ∷ [] }
-{
-    match sort {
-        Sort::Int => &[Sort::Int],
-        Sort::Long => &[Sort::Long],
-        Sort::Ref => &[Sort::Ref],
-        Sort::Unknown => &[Sort::Unknown],
-    }
-}
-
-// A reference, and a value of a sort.
-fn after_ref(sort: Sort) -> &'static [Sort]
-    ensures { result.now ≡ Sort.Ref ∷ sort ∷ [] }
-{
-    match sort {
-        Sort::Int => &[Sort::Ref, Sort::Int],
-        Sort::Long => &[Sort::Ref, Sort::Long],
-        Sort::Ref => &[Sort::Ref, Sort::Ref],
-        Sort::Unknown => &[Sort::Ref, Sort::Unknown],
-    }
-}
-
-// A reference, an int, and a value of a sort.
-fn after_element(sort: Sort) -> &'static [Sort]
-    ensures { result.now ≡ Sort.Ref ∷ Sort.Int ∷ sort ∷ [] }
-{
-    match sort {
-        Sort::Int => &[Sort::Ref, Sort::Int, Sort::Int],
-        Sort::Long => &[Sort::Ref, Sort::Int, Sort::Long],
-        Sort::Ref => &[Sort::Ref, Sort::Int, Sort::Ref],
-        Sort::Unknown => &[Sort::Ref, Sort::Int, Sort::Unknown],
-    }
-}
-
-// The sorts of the operands of an action that isn't a call, in the order in which they are pushed.
-fn takes(action: &Action) -> &'static [Sort]
-    ensures { result.now ≡ asked action.now }
-{
-    match action {
-        Action::Store(sort, _) => alone(*sort),
-        Action::Scalar(op) | Action::Divide(op) => operand_sorts(*op),
-        Action::Branch(test, _) => test_takes(*test),
-        Action::Switch(_, _) => &[Sort::Int],
-        Action::Give(Some(sort)) => alone(*sort),
-        Action::Throw | Action::GetField(_, _) | Action::Length => &[Sort::Ref],
-        Action::Cast(_) | Action::InstanceOf(_) => &[Sort::Ref],
-        Action::PutStatic(t, _) => alone(sort_of_type(*t)),
-        Action::PutField(t, _) => after_ref(sort_of_type(*t)),
-        Action::LoadElement(_) => after_ref(Sort::Int),
-        Action::StoreElement(kind) => after_element(sort_of_kind(*kind)),
-        Action::StoreRef => after_element(Sort::Ref),
-        _ => &[],
-    }
-}
 
 // Where a branch goes.
 fn branch(test: Test, target: u32, operands: &[Num]) -> Option<Effect>
@@ -164,7 +104,7 @@ fn act(
     ensures max_stack { s.new.max_stack ≡ s.old.max_stack }
     ensures full { OnErr result (IsOverfull p.now world.now s.old action.now) }
 {
-    let Some(operands) = s.stack.operands(takes(action)) else {
+    let Some(operands) = s.stack.operands(asked_sorts(action)) else {
         return Ok(None);
     };
     let taken = operands.len();
@@ -189,7 +129,7 @@ fn reach(
     ensures max_stack { s.new.max_stack ≡ s.old.max_stack }
     ensures full { IsQuiet action.now → OnErr result (IsOverfull p.now world.now s.old action.now) }
 {
-    let Some(operands) = s.stack.operands(takes(action)) else {
+    let Some(operands) = s.stack.operands(asked_sorts(action)) else {
         return Ok(None);
     };
     let taken = operands.len();
@@ -213,7 +153,7 @@ fn inquire(
     ensures room { s.old.room ≤ s.new.room }
     ensures max_stack { s.new.max_stack ≡ s.old.max_stack }
 {
-    let Some(operands) = s.stack.operands(takes(action)) else {
+    let Some(operands) = s.stack.operands(asked_sorts(action)) else {
         return Ok(None);
     };
     let taken = operands.len();

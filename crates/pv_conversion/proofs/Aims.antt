@@ -1,16 +1,8 @@
 -- What a token's value outside a loop says of the blocks inside.
 use Rattle.std.proofs.Common.{◌≡◌, ℕ, zero, suc, ◌<◌, ◌≤◌, List, [], ◌∷◌, ◌++◌, length, Option, ◌⊎◌, inl, inr, ⊎_elim, refl, sym, ap, ◌∙◌, subst, subst₂, append-nil, append_assoc, length-append, arith}
-use Rattle.pv_value.specs.declared.world.World.{World}
-use Rattle.pv_value.specs.declared.outcome.Input.{Input}
-use Rattle.pv_value.specs.declared.outcome.Val.{Val}
+use Rattle.pv_conversion.proofs.Words.{World, Input, Val, Index, at_depth, Exp, Over, one, two, put, Exit, InChain, Flow, Shape, Target, Node, On, Values, outs, token_out, token_outs, leaf, first_of_region, first_loops, tree_of, Given, FreeIn, AreEquations, About, IsNode, Later, Walk, Walks, about, go, seen_to, snoc_same, stop, walk_around, walk_rank, walk_split, walk_then, walks_end, walks_rank, Meaning}
 use Rattle.pv_value.specs.declared.outcome.Val.TheVariants as vals
 use Rattle.pv_graph.specs.declared.node.Op.TheVariants as op
-use Rattle.pv_denote.specs.Denote.{Index, at_depth}
-use Rattle.pv_equations.specs.Exp.{Exp, Over, one, two}
-use Rattle.pv_equations.specs.Flow.{put, Exit, InChain, Flow, Shape}
-use Rattle.pv_equations.specs.Equations.{Target, Node, On, Values, outs, token_out, token_outs, leaf, first_of_region, first_loops, tree_of, Given, FreeIn, AreEquations}
-use Rattle.pv_equations.proofs.Cited.{About, IsNode, Later, Walk, Walks, about, go, seen_to, snoc_same, stop, walk_around, walk_rank, walk_split, walk_then, walks_end, walks_rank}
-use Rattle.pv_conversion.specs.Meaning.{Meaning}
 use Rattle.pv_conversion.proofs.Follow.{given_is, AgreesTo, Later_back, Ends, Ends_chain, Ends_refl, Follows, faith_here, agrees_self, token_outs_last}
 use Rattle.pv_conversion.proofs.Leaves.{IsSnoc, snoc_of, no_snoc, tree_leaf, some_node, token_out_says, keeps_token, OfGoing, Evidence, Any, node_evidence}
 

@@ -1,17 +1,9 @@
 -- Where a run has come to a block on its way to a goal, the token's tree from there gives something.
 use Rattle.std.proofs.Common.{◌≡◌, ℕ, ◌<◌, true, false, pos, arith, List, [], ◌∷◌, ◌++◌, length, Some, inl, inr, refl, sym, ap, ◌∙◌, subst, subst₂, append-nil, append_assoc}
-use Rattle.pv_value.specs.declared.world.World.{World}
-use Rattle.pv_value.specs.declared.outcome.Input.{Input}
-use Rattle.pv_value.specs.declared.outcome.Val.{Val}
+use Rattle.pv_conversion.proofs.Words.{World, Input, Val, Index, at_depth, truth, Exp, Over, NoExp, one, Dest, To, End, Exit, InChain, Flow, Shape, Target, Back, Finish, Leaving, Place, On, Again, Header, Gone, Ended, Seen, Values, OfToken, IsTree, tree_of, never_exp, true_exp, false_exp, AreEquations, Boundary, Further, IsGoal, Later, OutWalk, Outside, Walk, about, exit_out, go, node_out, out_walk, seen_heads, seen_to, stop, walk_around, walk_then, walk_widen, Meaning}
 use Rattle.pv_value.specs.declared.outcome.Val.TheVariants as vals
 use Rattle.pv_value.specs.declared.number.Num.TheVariants as num
 use Rattle.pv_graph.specs.declared.node.Op.TheVariants as op
-use Rattle.pv_denote.specs.Denote.{Index, at_depth, truth}
-use Rattle.pv_equations.specs.Exp.{Exp, Over, NoExp, one}
-use Rattle.pv_equations.specs.Flow.{Dest, To, End, Exit, InChain, Flow, Shape}
-use Rattle.pv_equations.specs.Equations.{Target, Back, Finish, Leaving, Place, On, Again, Header, Gone, Ended, Seen, Values, OfToken, IsTree, tree_of, never_exp, true_exp, false_exp, AreEquations}
-use Rattle.pv_equations.proofs.Cited.{Boundary, Further, IsGoal, Later, OutWalk, Outside, Walk, about, exit_out, go, node_out, out_walk, seen_heads, seen_to, stop, walk_around, walk_then, walk_widen}
-use Rattle.pv_conversion.specs.Meaning.{Meaning}
 use Rattle.pv_conversion.proofs.Follow.{some_inj, given_is, AgreesTo}
 use Rattle.pv_conversion.proofs.Leaves.{const_is, Leafs, tree_leaf, SomeAt, some_exit, some_walk}
 use Rattle.pv_conversion.proofs.Aims.{EndsAt, PassIs, Chained, chain_snoc, Placed, far}

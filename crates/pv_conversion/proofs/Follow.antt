@@ -1,24 +1,13 @@
 -- A run follows the trees.
 use Rattle.std.proofs.Common.{◌≡◌, ◌≢◌, ℕ, zero, suc, ◌+◌, ◌<◌, ◌≤◌, pos, if◌then◌else◌, Bool, true, false, List, [], ◌∷◌, ◌++◌, length, Option, Some, None, ◌⊎◌, ◌↔◌, inl, inr, ⊎_elim, refl, sym, ap, ◌∙◌, subst, subst₂, append-nil, append_assoc, length-append, arith, le_refl}
-use Rattle.std.specs.List.{AllZip}
-use Rattle.pv_value.specs.declared.world.World.{World}
-use Rattle.pv_value.specs.declared.outcome.Input.{Input}
-use Rattle.pv_value.specs.declared.outcome.Val.{Val}
+use Rattle.pv_conversion.proofs.Words.{AllZip, World, Input, Val, Index, at_depth, truth, Means, at_same, at_other, Exp, Exps, Over, NoExp, Then, one, two, three, listed, Heads, Part, Parts, Slot, Of, NoPart, More, put, put_all, Kind, Return, Dest, To, End, Exit, Chain, Leave, Test, InChain, Flow, TokenPart, kept, calls, Edge, Shape, PartIs, PartsAre, Chooses, Steps, Runs, ends, goes, Starts, Target, Node, Back, Finish, Returning, Leaving, Place, On, Again, Header, Gone, Ended, Seen, Joins, IsChain, Values, outs, token_out, token_outs, leaf, AtPlace, IsExit, Hits, Ahead, now, later, OfToken, IsTree, first_of_region, first_loops, tree_of, or_else, Given, FreeIn, unit_exp, never_exp, true_exp, false_exp, at_start, AreEquations, first_kid, Later, lands_gone, lands_header, lands_in, lands_on, seen_ended, seen_heads, seen_once, seen_to, Meaning}
 use Rattle.pv_value.specs.declared.outcome.Val.TheVariants as vals
 use Rattle.pv_value.specs.declared.number.Num.TheVariants as num
 use Rattle.pv_graph.specs.declared.node.Op.{Op}
 use Rattle.pv_graph.specs.declared.node.Op.TheVariants as op
 use Rattle.pv_graph.specs.Ops as ops
-use Rattle.pv_denote.specs.Denote.{Index, at_depth, strict, truth}
-use Rattle.pv_denote.specs.Means.{Means}
-use Rattle.pv_denote.proofs.Cited.{at_same, at_other}
-use Rattle.pv_equations.specs.Exp.{Exp, Exps, Over, NoExp, Then, one, two, three, listed, made}
-use Rattle.pv_loops.specs.Ranks.{Heads}
-use Rattle.pv_equations.specs.Flow.{Part, Parts, Slot, Of, NoPart, More, put, put_all, Kind, Return, Dest, To, End, Exit, Chain, Leave, Test, InChain, Flow, TokenPart, kept, calls, Edge, Shape}
-use Rattle.pv_conversion.specs.Runs.{PartIs, PartsAre, Chooses, Steps, Runs, ends, goes, Starts}
-use Rattle.pv_equations.specs.Equations.{Target, Node, Back, Finish, Returning, Leaving, Place, On, Again, Header, Gone, Ended, Seen, Joins, IsChain, Values, outs, token_out, token_outs, leaf, AtPlace, IsExit, Hits, Ahead, now, later, OfToken, IsTree, first_of_region, first_loops, tree_of, or_else, Given, FreeIn, unit_exp, never_exp, true_exp, false_exp, at_start, AreEquations, first_kid}
-use Rattle.pv_equations.proofs.Cited.{Later, lands_gone, lands_header, lands_in, lands_on, seen_ended, seen_heads, seen_once, seen_to}
-use Rattle.pv_conversion.specs.Meaning.{Meaning}
+use Rattle.pv_denote.specs.Denote.{strict}
+use Rattle.pv_equations.specs.Exp.{made}
 
 -- one iteration up to a depth
 abbrev pub AgreesTo : ℕ → Index → Index → Type 0

@@ -1,22 +1,11 @@
 -- The law of the conversion.
 use Rattle.std.proofs.Common.{ℕ, ◌<◌, ◌≤◌, length, ◌↔◌}
-use Rattle.pv_value.specs.declared.world.World.{World}
-use Rattle.pv_value.specs.declared.outcome.Input.{Input}
-use Rattle.pv_value.specs.declared.outcome.Outcome.{Outcome}
-use Rattle.pv_value.specs.declared.outcome.Val.{Val}
+use Rattle.pv_conversion.proofs.Words.{World, Input, Outcome, Val, Index, unfolds_value, Exp, Flow, Shape, Starts, Runnable, Values, form_of, AreEquations, root_of, EndsWith, Finishes, Next, MachineEnds, Carries}
 use Rattle.pv_value.specs.declared.outcome.Val.TheVariants as vals
 use Rattle.pv_denote.specs.Denote as denote
-use Rattle.pv_denote.specs.Denote.{Index}
 use Rattle.pv_graph.specs.Unfold.{UnfoldsAs}
 use Rattle.pv_graph.specs.Graphs.{Graph, form_at}
 use Rattle.pv_denote.specs.Meaning.{Value}
-use Rattle.pv_denote.proofs.Cited.{unfolds_value}
-use Rattle.pv_equations.specs.Exp.{Exp}
-use Rattle.pv_equations.specs.Flow.{Flow, Shape}
-use Rattle.pv_conversion.specs.Runs.{Starts, Runnable}
-use Rattle.pv_equations.specs.Equations.{Values, form_of, AreEquations}
-use Rattle.pv_equations.specs.Root.{root_of}
-use Rattle.pv_conversion.specs.Outcomes.{EndsWith, Finishes, Next, MachineEnds, Carries}
 use Rattle.pv_conversion.proofs.Meanings.{meaning}
 use Rattle.pv_conversion.specs.Laws.{AsTested, Conversion}
 use Rattle.pv_conversion.proofs.Top.{root_blocks, root_machine}

@@ -1,18 +1,11 @@
 -- Where a tree has a value: a leaf of it has that value; and which trees there are.
 use Rattle.std.proofs.Common.{◌≡◌, ℕ, zero, suc, ◌+◌, ◌<◌, ◌≤◌, Bool, true, false, if◌then◌else◌, pos, List, [], ◌∷◌, ◌++◌, length, Option, Some, None, ◌⊎◌, inl, inr, refl, sym, ap, ◌∙◌, subst, arith}
-use Rattle.std.specs.List.{AllZip}
-use Rattle.pv_value.specs.declared.world.World.{World}
-use Rattle.pv_value.specs.declared.outcome.Input.{Input}
-use Rattle.pv_value.specs.declared.outcome.Val.{Val}
+use Rattle.pv_conversion.proofs.Words.{AllZip, World, Input, Val, Index, at_depth, Exp, Over, NoExp, one, two, three, Part, put, To, Exit, Chain, Leave, Test, InChain, Flow, TokenPart, kept, calls, Shape, Target, Node, Back, Finish, Returning, Leaving, Place, On, Again, Header, Gone, Ended, Seen, Joins, IsChain, Values, outs, token_out, leaf, AtPlace, IsExit, IsTree, never_exp, AreEquations, IsGoal, IsNode, Walk, Walks, go, on_rank, seen_once, seen_to, stop, walk_around, Meaning}
 use Rattle.pv_value.specs.declared.outcome.Val.TheVariants as vals
 use Rattle.pv_value.specs.declared.number.Num.TheVariants as num
 use Rattle.pv_graph.specs.declared.node.Op.TheVariants as op
-use Rattle.pv_denote.specs.Denote.{Index, at_depth, strict}
-use Rattle.pv_equations.specs.Exp.{Exp, Over, NoExp, one, two, three, made}
-use Rattle.pv_equations.specs.Flow.{Part, put, To, Exit, Chain, Leave, Test, InChain, Flow, TokenPart, kept, calls, Shape}
-use Rattle.pv_equations.specs.Equations.{Target, Node, Back, Finish, Returning, Leaving, Place, On, Again, Header, Gone, Ended, Seen, Joins, IsChain, Values, outs, token_out, leaf, AtPlace, IsExit, IsTree, never_exp, AreEquations}
-use Rattle.pv_equations.proofs.Cited.{IsGoal, IsNode, Walk, Walks, go, on_rank, seen_once, seen_to, stop, walk_around}
-use Rattle.pv_conversion.specs.Meaning.{Meaning}
+use Rattle.pv_denote.specs.Denote.{strict}
+use Rattle.pv_equations.specs.Exp.{made}
 use Rattle.pv_conversion.proofs.Follow.{some_inj, unit_value, node_leaf}
 
 pub never_none : (w : World) (x : Input) (vs : List Val) (u : Val) → strict w x op.Never vs ≡ Some u → ⊥

@@ -1,4 +1,5 @@
 -- the values in a graph of expressions
+mod Words
 pub mod Meanings
 -- where a run ends, the root has its values
 pub mod Follow

@@ -1,16 +1,8 @@
 -- Blocks and the steps of a machine.
 use Rattle.std.proofs.Common.{◌≡◌, ℕ, zero, suc, ◌+◌, ◌<◌, Option, ◌↔◌, refl, sym, ap, ◌∙◌, subst, arith}
-use Rattle.pv_value.specs.declared.world.World.{World}
-use Rattle.pv_value.specs.declared.outcome.Input.{Input}
-use Rattle.pv_value.specs.declared.outcome.Val.{Val}
-use Rattle.pv_value.specs.declared.outcome.Outcome.{Outcome}
-use Rattle.pv_value.specs.declared.outcome.Outcome.TheVariants.{Returned, Threw}
-use Rattle.pv_value.specs.declared.outcome.Fault.{Fault}
-use Rattle.pv_value.specs.declared.heap.Heap.{Heap}
+use Rattle.pv_conversion.proofs.Words.{World, Input, Val, Outcome, Returned, Threw, Fault, Heap, Kind, Return, Throw, Dest, To, End, Exit, Flow, Steps, Runs, ends, goes, IsOutcome, EndsWith, Next, Stops, then, after, MachineEnds, Carries}
 use Rattle.pv_value.specs.declared.number.Num.{Num}
-use Rattle.pv_equations.specs.Flow.{Kind, Return, Throw, Dest, To, End, Exit, Flow}
-use Rattle.pv_conversion.specs.Runs.{Steps, Runs, ends, goes}
-use Rattle.pv_conversion.specs.Outcomes.{IsOutcome, EndsWith, Next, Goes, Stops, then, after, MachineEnds, Carries}
+use Rattle.pv_conversion.specs.Outcomes.{Goes}
 
 pub outcome_once : (k : Kind) (τ : ℕ → Val) (o p : Outcome) → IsOutcome k τ o → IsOutcome k τ p → o ≡ p
 outcome_once Return τ o p a b =

@@ -1,15 +1,7 @@
 -- The values in a graph of expressions are as operations, names and free depths ask.
 use Rattle.std.proofs.Common.{ℕ, ◌<◌, List, [], ◌∷◌, length, ◌↔◌, refl, subst}
-use Rattle.pv_value.specs.declared.world.World.{World}
-use Rattle.pv_value.specs.declared.outcome.Input.{Input}
+use Rattle.pv_conversion.proofs.Words.{World, Input, Value, den_makes, value_once, value_says, not_free, Name, Over, two, listed, Flow, Shape, Values, form_of, AreEquations, first_kid, found, free_seen, Meaning}
 use Rattle.pv_graph.specs.declared.node.Op.TheVariants as op
-use Rattle.pv_denote.specs.Denote.{Value}
-use Rattle.pv_denote.proofs.Cited.{den_makes, value_once, value_says, not_free}
-use Rattle.pv_equations.specs.Exp.{Name, Over, two, listed}
-use Rattle.pv_equations.specs.Flow.{Flow, Shape}
-use Rattle.pv_equations.specs.Equations.{Values, form_of, AreEquations, first_kid}
-use Rattle.pv_equations.proofs.Cited.{found, free_seen}
-use Rattle.pv_conversion.specs.Meaning.{Meaning}
 
 module _ (f : Flow) (v : Values) (rank : ℕ → ℕ) (eqs : AreEquations f v) (shape : Shape f rank) (top : ℕ) (below_top : (b : ℕ) → rank b < top) where
   pub meaning : (w : World) (x : Input) → Meaning w x (Value (form_of f v) w x) f v

@@ -1,26 +1,14 @@
 -- Where the token's tree for the end has a value, the run ends.
 use Rattle.std.proofs.Common.{◌≡◌, ◌≢◌, ℕ, zero, suc, ◌+◌, ◌<◌, ◌≤◌, Bool, true, false, if◌then◌else◌, List, [], ◌∷◌, ◌++◌, length, Option, Some, None, ◌⊎◌, inl, inr, ⊎_elim, refl, sym, ap, ◌∙◌, subst, subst₂, append-nil, append_assoc, length-append, arith, le_refl}
-use Rattle.std.specs.List.{AllZip}
-use Rattle.pv_value.specs.declared.world.World.{World}
-use Rattle.pv_value.specs.declared.outcome.Input.{Input}
-use Rattle.pv_value.specs.declared.outcome.Val.{Val}
+use Rattle.pv_conversion.proofs.Words.{AllZip, World, Input, Val, Index, at_depth, truth, Means, at_same, at_at, numbers, Exp, Over, NoExp, two, three, listed, Heads, Part, Parts, call_token, put, put_all, Kind, Dest, To, End, Exit, InChain, Flow, TokenPart, kept, calls, Shape, Chain, Leave, Test, PartIs, PartsAre, Chooses, Steps, Left, Ends, Fails, Waits, Runs, ends, goes, Starts, Runnable, Target, Node, Back, Finish, Leaving, Place, On, Again, Header, Gone, Ended, Seen, Joins, IsChain, IsExit, Values, outs, leaf, token_out, token_outs, AtPlace, IsTree, tree_of, never_exp, true_exp, false_exp, AreEquations, first_kid, Goes, IsGoal, IsNode, OutWalk, Walk, go, header_back, lands_header, move, node_out, on_rank, seen_to, snoc_same, stop, walk_around, walk_rank, Meaning}
 use Rattle.pv_value.specs.declared.outcome.Val.TheVariants as vals
 use Rattle.pv_graph.specs.declared.node.Op.TheVariants as op
 use Rattle.pv_graph.specs.Ops as ops
-use Rattle.pv_denote.specs.Denote.{Index, at_depth, strict, truth}
-use Rattle.pv_denote.specs.Means.{Means}
-use Rattle.pv_denote.proofs.Cited.{at_same, at_at}
+use Rattle.pv_denote.specs.Denote.{strict}
 use Rattle.pv_graph.proofs.Cited.{bind_some}
-use Rattle.pv_denote.specs.Denote.{numbers}
 use Rattle.pv_value.specs.Worlds as worlds
 use Rattle.pv_value.specs.declared.name.Sym.{Sym}
-use Rattle.pv_equations.specs.Exp.{Exp, Over, NoExp, two, three, listed, made}
-use Rattle.pv_loops.specs.Ranks.{Heads}
-use Rattle.pv_equations.specs.Flow.{Part, Parts, call_token, put, put_all, Kind, Dest, To, End, Exit, InChain, Flow, TokenPart, kept, calls, Shape, Chain, Leave, Test}
-use Rattle.pv_conversion.specs.Runs.{PartIs, PartsAre, Chooses, Steps, Left, Ends, Fails, Waits, Runs, ends, goes, Starts, Runnable}
-use Rattle.pv_equations.specs.Equations.{Target, Node, Back, Finish, Leaving, Place, On, Again, Header, Gone, Ended, Seen, Joins, IsChain, IsExit, Values, outs, leaf, token_out, token_outs, AtPlace, IsTree, tree_of, never_exp, true_exp, false_exp, AreEquations, first_kid}
-use Rattle.pv_equations.proofs.Cited.{Goes, IsGoal, IsNode, OutWalk, Walk, go, header_back, lands_header, move, node_out, on_rank, seen_to, snoc_same, stop, walk_around, walk_rank}
-use Rattle.pv_conversion.specs.Meaning.{Meaning}
+use Rattle.pv_equations.specs.Exp.{made}
 use Rattle.pv_conversion.proofs.Follow.{some_inj, given_is, AgreesTo, put_value, put_all_values, Ends_chain, Follows, agrees_self, agrees_in, Here, chooses_in, goes_on, at_on, step_on, step_in, step_back, step_start}
 use Rattle.pv_conversion.proofs.Leaves.{never_none, Stops, no_snoc, stops_or_on, SomeAt, chain_some, some_exit, some_walk, made_two, token_out_says, OfGoing, Evidence, Any, goal_leaf, goal_evidence}
 use Rattle.pv_conversion.proofs.Aims.{EndsAt, Settled, settle, token_first, PassIs, Chained, chain_agree, chain_outs, Placed, far, peel}

@@ -1,27 +1,11 @@
 -- A method's root and its runs.
 use Rattle.std.proofs.Common.{◌≡◌, ◌≢◌, ℕ, ◌<◌, ◌≤◌, [], length, Option, Some, None, ◌↔◌, refl, sym, ap, subst}
-use Rattle.pv_value.specs.declared.world.World.{World}
-use Rattle.pv_value.specs.declared.outcome.Input.{Input}
-use Rattle.pv_value.specs.declared.outcome.Val.{Val}
+use Rattle.pv_conversion.proofs.Words.{World, Input, Val, Index, Means, Ending, Heap, Fault, Outcome, Threw, Exp, Over, NoExp, Then, three, listed, Kind, Return, Throw, Flow, Shape, Runs, ends, goes, Starts, Runnable, Finish, Returning, Values, or_else, tree_of, never_exp, AreEquations, Meaning, root_of, IsOutcome, EndsWith, Next, MachineEnds, Carries, Finishes}
 use Rattle.pv_value.specs.declared.outcome.Val.TheVariants as vals
 use Rattle.pv_graph.specs.declared.node.Op.TheVariants as op
 use Rattle.pv_graph.specs.Ops as ops
-use Rattle.pv_denote.specs.Denote.{Index}
-use Rattle.pv_denote.specs.Means.{Means}
 use Rattle.pv_graph.specs.Ops as ops
-use Rattle.pv_denote.specs.Means.{Ending}
-use Rattle.pv_value.specs.declared.heap.Heap.{Heap}
-use Rattle.pv_value.specs.declared.outcome.Fault.{Fault}
 use Rattle.pv_value.specs.declared.outcome.Fault.TheVariants as fault
-use Rattle.pv_value.specs.declared.outcome.Outcome.{Outcome}
-use Rattle.pv_value.specs.declared.outcome.Outcome.TheVariants.{Threw}
-use Rattle.pv_equations.specs.Exp.{Exp, Over, NoExp, Then, three, listed}
-use Rattle.pv_equations.specs.Flow.{Kind, Return, Throw, Flow, Shape}
-use Rattle.pv_conversion.specs.Runs.{Runs, ends, goes, Starts, Runnable}
-use Rattle.pv_equations.specs.Equations.{Finish, Returning, Values, or_else, tree_of, never_exp, AreEquations}
-use Rattle.pv_conversion.specs.Meaning.{Meaning}
-use Rattle.pv_equations.specs.Root.{root_of}
-use Rattle.pv_conversion.specs.Outcomes.{IsOutcome, EndsWith, Next, MachineEnds, Carries, Finishes}
 use Rattle.pv_conversion.proofs.Follow.{done_next, starts_done, machine_to_graph}
 use Rattle.pv_conversion.proofs.Leaves.{never_none}
 use Rattle.pv_conversion.proofs.Run.{graph_to_machine}

@@ -1,9 +1,6 @@
 -- Two solutions of the equations of trees give the same trees for a target, where the values before it agree.
 use Rattle.std.proofs.Common.{◌≡◌, ◌≢◌, ℕ, zero, suc, ◌+◌, ◌<◌, ◌≤◌, List, [], ◌∷◌, ◌++◌, length, Option, Some, None, ◌⊎◌, inl, inr, ⊎_elim, refl, sym, ap, ◌∙◌, subst, subst₂, append_assoc, length-append, arith}
-use Rattle.pv_equations.specs.Exp.{Exp, Then, made}
-use Rattle.pv_loops.specs.Ranks.{Heads}
-use Rattle.pv_equations.specs.Flow.{Part, Parts, Slot, Of, NoPart, More, put, put_all, Kind, Return, Throw, To, Exit, Chain, Leave, Test, InChain, Flow, Shape, Compact}
-use Rattle.pv_equations.specs.Equations.{Target, Node, Back, Finish, Returning, Leaving, Place, On, Again, Header, Gone, Ended, Seen, Joins, IsChain, Values, outs, leaf, AtPlace, IsExit, IsTree, never_exp, AreTrees}
+use Rattle.pv_equations.proofs.Words.{Exp, Then, made, Heads, Part, Parts, Slot, Of, NoPart, More, put, put_all, Kind, Return, Throw, To, Exit, Chain, Leave, Test, InChain, Flow, Shape, Compact, Target, Node, Back, Finish, Returning, Leaving, Place, On, Again, Header, Gone, Ended, Seen, Joins, IsChain, Values, outs, leaf, AtPlace, IsExit, IsTree, never_exp, AreTrees}
 use Rattle.pv_equations.proofs.Seen.{seen_once, seen_to}
 use Rattle.pv_equations.proofs.Moves.{split_app, About, about, other_loop}
 use Rattle.pv_equations.proofs.Walks.{IsNode, Walk, stop, go, on_rank, walk_rank, walk_around}

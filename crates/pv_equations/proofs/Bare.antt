@@ -1,9 +1,6 @@
 -- The values that trees give, before anything is taken out of loops.
 use Rattle.std.proofs.Common.{◌≡◌, ◌≢◌, ℕ, zero, suc, ◌<◌, Bool, true, false, List, ◌∷◌, Option, Some, None, ◌⊎◌, inl, inr, refl, arith}
-use Rattle.pv_equations.specs.Exp.{Exp, Name}
-use Rattle.pv_loops.specs.Ranks.{Heads}
-use Rattle.pv_equations.specs.Flow.{IsFinite, Flow}
-use Rattle.pv_equations.specs.Equations.{Target, Node, Back, Leaving, Values, tree_of, or_else, first_kid, never_exp, at_start}
+use Rattle.pv_equations.proofs.Words.{Exp, Name, Heads, IsFinite, Flow, Target, Node, Back, Leaving, Values, tree_of, or_else, first_kid, never_exp, at_start}
 use Rattle.pv_equations.proofs.Same.{heads_dec}
 use Rattle.pv_equations.proofs.Within.{Within}
 

@@ -1,10 +1,7 @@
 -- Values that meet the equations of trees, from trees that are given.
 use Rattle.std.proofs.Common.{◌≡◌, ◌≢◌, ℕ, zero, suc, ◌+◌, ◌<◌, ◌≤◌, List, [], ◌∷◌, ◌++◌, length, Option, Some, None, ◌⊎◌, inl, inr, ⊎_elim, refl, ap, ◌∙◌, subst, arith}
+use Rattle.pv_equations.proofs.Words.{Exp, Over, one, two, three, Heads, Part, put, Return, Throw, Exit, Chain, Leave, Test, InChain, InTests, NamesBelow, IsFinite, Flow, Shape, Target, Node, Back, Finish, Returning, Leaving, Place, On, Again, Header, Gone, Ended, Seen, Joins, IsChain, Values, outs, token_out, token_outs, leaf, AtPlace, IsExit, IsTree, OfToken, Ahead, first_kid, FreeIn, theta, name, entered, begun, kid, never_exp, true_exp, false_exp, AreTrees}
 use Rattle.pv_graph.specs.declared.node.Op.TheVariants as op
-use Rattle.pv_equations.specs.Exp.{Exp, Over, one, two, three}
-use Rattle.pv_loops.specs.Ranks.{Heads}
-use Rattle.pv_equations.specs.Flow.{Part, put, Return, Throw, Exit, Chain, Leave, Test, InChain, InTests, NamesBelow, IsFinite, Flow, Shape}
-use Rattle.pv_equations.specs.Equations.{Target, Node, Back, Finish, Returning, Leaving, Place, On, Again, Header, Gone, Ended, Seen, Joins, IsChain, Values, outs, token_out, token_outs, leaf, AtPlace, IsExit, IsTree, OfToken, Ahead, first_kid, FreeIn, theta, name, entered, begun, kid, never_exp, true_exp, false_exp, AreTrees}
 use Rattle.pv_equations.proofs.Seen.{seen_to}
 use Rattle.pv_equations.proofs.Moves.{place}
 use Rattle.pv_equations.proofs.Walks.{IsNode, on_rank}

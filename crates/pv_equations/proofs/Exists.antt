@@ -1,9 +1,6 @@
 -- A flow's equations have a solution: built again and again, the values settle, by rank and depth.
 use Rattle.std.proofs.Common.{◌≡◌, ◌≢◌, ℕ, zero, suc, ◌+◌, ◌<◌, ◌≤◌, Bool, true, false, List, [], ◌∷◌, ◌++◌, length, Option, Some, None, ◌⊎◌, inl, inr, ⊎_elim, refl, sym, ap, ◌∙◌, subst, append-nil, append_assoc, length-append, arith, le_refl}
-use Rattle.pv_equations.specs.Exp.{Exp, Name}
-use Rattle.pv_loops.specs.Ranks.{Heads}
-use Rattle.pv_equations.specs.Flow.{IsFinite, Flow, Shape, Compact}
-use Rattle.pv_equations.specs.Equations.{Target, Node, Back, Finish, Returning, Leaving, Values, tree_of, or_else, first_of_region, first_loops, Given, never_exp, at_start, AreTrees, AreEquations}
+use Rattle.pv_equations.proofs.Words.{Exp, Name, Heads, IsFinite, Flow, Shape, Compact, Target, Node, Back, Finish, Returning, Leaving, Values, tree_of, or_else, first_of_region, first_loops, Given, never_exp, at_start, AreTrees, AreEquations}
 use Rattle.pv_equations.proofs.Same.{heads_dec, Done, Names, LoopsAgree, names_under}
 use Rattle.pv_equations.proofs.Agree.{NamesOf, Ready, node_same, region_same}
 use Rattle.pv_equations.proofs.Unique.{names_more}

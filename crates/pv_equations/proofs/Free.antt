@@ -1,14 +1,8 @@
 -- Which depths are free in an expression, with the number of steps in which they are found.
 use Rattle.std.proofs.Common.{◌≡◌, ℕ, suc, List, [], ◌∷◌, length, Some, subst}
-use Rattle.pv_graph.specs.declared.node.Op.{Op}
+use Rattle.pv_equations.proofs.Words.{Op, shape, form, In, open_kids, Free, Exp, Exps, Name, Over, two, listed, Flow, Values, form_of, first_kid}
 use Rattle.pv_graph.specs.declared.node.Op.TheVariants as op
 use Rattle.pv_graph.specs.Ops as ops
-use Rattle.pv_graph.specs.Ops.{shape}
-use Rattle.pv_graph.specs.Forms.{form}
-use Rattle.pv_graph.specs.Walks.{In, open_kids, Free}
-use Rattle.pv_equations.specs.Exp.{Exp, Exps, Name, Over, two, listed}
-use Rattle.pv_equations.specs.Flow.{Flow}
-use Rattle.pv_equations.specs.Equations.{Values, form_of, first_kid}
 
 -- depth d is free in an expression, every name followed, in at most n steps
 pub data FreeAll (f : Flow) (v : Values) (d : ℕ) : ℕ → Exp → Type 0 where

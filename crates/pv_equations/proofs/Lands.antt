@@ -1,7 +1,6 @@
 -- An exit comes to one place, and to which.
 use Rattle.std.proofs.Common.{◌≡◌, ◌≢◌, ℕ, suc, ◌+◌, ◌≤◌, List, [], ◌∷◌, ◌++◌, length, refl, sym, ap, ◌∙◌, subst, arith, length-append, append-nil, le_refl}
-use Rattle.pv_loops.specs.Ranks.{Heads}
-use Rattle.pv_equations.specs.Equations.{Place, On, Again, Header, Gone, Lands, beside, enters, again, header, leaves, gone}
+use Rattle.pv_equations.proofs.Words.{Heads, Place, On, Again, Header, Gone, Lands, beside, enters, again, header, leaves, gone}
 
 longer : (A : List ℕ) (h : ℕ) (B : List ℕ) → A ≡ B → A ≢ h ∷ B
 longer A h B e d = let z : length B ≡ suc (length B) = sym (ap length e) ∙ ap length d in absurd (omega arith)

@@ -1,6 +1,5 @@
 -- The laws of the equations.
-use Rattle.pv_graph.specs.Graphs.{form_at}
-use Rattle.pv_equations.specs.Equations.{form_of}
+use Rattle.pv_equations.proofs.Words.{form_at, form_of}
 use Rattle.pv_equations.specs.Laws.{Solvable, Unique, TreesOnce, FreeFound}
 use Rattle.pv_equations.proofs.Levels.{free_seen}
 use Rattle.pv_equations.proofs.Free.{found}

@@ -1,14 +1,10 @@
 -- In a value at a block no depth is free but those of the loops around it; so `free` sees all.
 use Rattle.std.proofs.Common.{◌≡◌, ◌≢◌, ℕ, zero, suc, ◌+◌, ◌<◌, ◌≤◌, Bool, true, false, pos, List, [], ◌∷◌, ◌++◌, length, Option, Some, None, ◌⊎◌, inl, inr, ⊎_elim, refl, sym, ap, ◌∙◌, subst, append-nil, append_assoc, arith, ◌==◌, if◌then◌else◌, le_refl}
+use Rattle.pv_equations.proofs.Words.{Op, In, open_kids, Exp, Exps, Name, Over, NoExp, Then, one, two, three, listed, Heads, Part, Parts, Slot, Of, NoPart, More, put, put_all, Return, Throw, Exit, Chain, Leave, Test, InChain, Flow, Shape, Target, Node, Back, Finish, Returning, Leaving, Place, On, Header, Gone, Ended, Seen, Joins, IsChain, Values, outs, token_out, token_outs, leaf, AtPlace, IsExit, IsTree, first_of_region, first_loops, tree_of, Given, FreeIn, theta, name, entered, begun, kid, never_exp, true_exp, false_exp, AreEquations, first_kid}
 use Rattle.std.proofs.lemmas.Bool.Decides.{nat_tests}
-use Rattle.pv_graph.specs.declared.node.Op.{Op}
 use Rattle.pv_graph.specs.declared.node.Op.TheVariants as op
 use Rattle.pv_graph.specs.Ops as ops
-use Rattle.pv_graph.specs.Walks.{In, open_kids}
-use Rattle.pv_equations.specs.Exp.{Exp, Exps, Name, Over, NoExp, Then, one, two, three, listed, made}
-use Rattle.pv_loops.specs.Ranks.{Heads}
-use Rattle.pv_equations.specs.Flow.{Part, Parts, Slot, Of, NoPart, More, put, put_all, Return, Throw, Exit, Chain, Leave, Test, InChain, Flow, Shape}
-use Rattle.pv_equations.specs.Equations.{Target, Node, Back, Finish, Returning, Leaving, Place, On, Header, Gone, Ended, Seen, Joins, IsChain, Values, outs, token_out, token_outs, leaf, AtPlace, IsExit, IsTree, first_of_region, first_loops, tree_of, Given, FreeIn, theta, name, entered, begun, kid, never_exp, true_exp, false_exp, AreEquations, first_kid}
+use Rattle.pv_equations.specs.Exp.{made}
 use Rattle.pv_equations.proofs.Seen.{Later, seen_to}
 use Rattle.pv_equations.proofs.Walks.{on_rank}
 use Rattle.pv_equations.proofs.Free.{FreeAll}

@@ -1,4 +1,5 @@
 -- where exits come to, seen from a region, and the walks through it
+mod Words
 pub mod Lands
 pub mod Seen
 pub mod Moves

@@ -1,9 +1,7 @@
 -- Where an edge of a flow comes to, seen from each region.
 use Rattle.std.proofs.Common.{◌≡◌, ◌≢◌, ℕ, suc, ◌+◌, ◌<◌, ◌≤◌, List, [], ◌∷◌, ◌++◌, length, ◌⊎◌, inl, inr, ⊎_elim, refl, sym, ap, ◌∙◌, subst, subst₂, append-nil, append_assoc, length-append, arith}
+use Rattle.pv_equations.proofs.Words.{Heads, Dest, To, End, Exit, InChain, Flow, Edge, Shape, Place, On, Again, Header, Gone, Ended, Lands, Seen}
 use Rattle.pv_equations.proofs.Lands.{same_or_longer, lands_on, lands_in, lands_header, lands_again, lands_gone}
-use Rattle.pv_loops.specs.Ranks.{Heads}
-use Rattle.pv_equations.specs.Flow.{Dest, To, End, Exit, InChain, Flow, Edge, Shape}
-use Rattle.pv_equations.specs.Equations.{Place, On, Again, Header, Gone, Ended, Lands, Seen}
 use Rattle.pv_equations.proofs.Seen.{seen_once}
 
 pub split_app : (F R C D : List ℕ) → F ++ R ≡ C ++ D → ((X : List ℕ) × (F ≡ C ++ X) × (D ≡ X ++ R)) ⊎ ((c : ℕ) × (X : List ℕ) × (C ≡ F ++ c ∷ X) × (R ≡ c ∷ (X ++ D)))

@@ -1,8 +1,6 @@
 -- A tree is determined by the values, by what is taken out, and by the trees further on: what code needs to show that its result is the tree.
 use Rattle.std.proofs.Common.{◌≡◌, ◌≢◌, ℕ, List, [], ◌∷◌, Option, Some, None, ◌⊎◌, inl, inr, sym, ◌∙◌, subst}
-use Rattle.pv_equations.specs.Exp.{Exp}
-use Rattle.pv_equations.specs.Flow.{Part, put, Kind, Return, Throw, Exit, Chain, Leave, Test, Flow}
-use Rattle.pv_equations.specs.Equations.{Target, Node, Back, Finish, Returning, Leaving, Place, On, Again, Header, Gone, Ended, Joins, IsChain, Values, outs, AtPlace, IsExit, IsTree}
+use Rattle.pv_equations.proofs.Words.{Exp, Part, put, Kind, Return, Throw, Exit, Chain, Leave, Test, Flow, Target, Node, Back, Finish, Returning, Leaving, Place, On, Again, Header, Gone, Ended, Joins, IsChain, Values, outs, AtPlace, IsExit, IsTree}
 use Rattle.pv_equations.proofs.Seen.{seen_once}
 
 joins_once : (c : Exp) (a b r q : Option Exp) → Joins c a b r → Joins c a b q → r ≡ q

@@ -1,7 +1,6 @@
 -- Whether a target or the end is ahead of a block, decided for finite flows.
 use Rattle.std.proofs.Common.{◌≡◌, ℕ, List, inl, inr, ⊎_elim, refl, sym, subst}
-use Rattle.pv_equations.specs.Flow.{Dest, To, End, Exit, Chain, Leave, Test, InChain, Flow, IsFinite}
-use Rattle.pv_equations.specs.Equations.{Target, Node, Back, Finish, Returning, Leaving, Hits, Ahead, now, later}
+use Rattle.pv_equations.proofs.Words.{Dest, To, End, Exit, Chain, Leave, Test, InChain, Flow, IsFinite, Target, Node, Back, Finish, Returning, Leaving, Hits, Ahead, now, later}
 use Rattle.pv_equations.proofs.Same.{heads_dec}
 use Rattle.pv_equations.proofs.Search.{Decided, number, equally, Reach, there, onward, reach, below, in_below}
 

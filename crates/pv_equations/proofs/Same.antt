@@ -1,13 +1,9 @@
 -- Two solutions of the equations of trees agree where their values do.
 use Rattle.std.proofs.Common.{◌≡◌, ◌≢◌, ℕ, zero, suc, ◌+◌, ◌<◌, Bool, true, false, List, [], ◌∷◌, ◌++◌, length, ◌⊎◌, inl, inr, ⊎_elim, refl, sym, ap, ◌∙◌, subst, subst₂, length-append, arith, ◌==◌, if◌then◌else◌}
-use Rattle.pv_graph.specs.declared.node.Op.{Op}
+use Rattle.pv_equations.proofs.Words.{Op, In, open_kids, Exp, Exps, Name, Over, NoExp, Then, one, two, listed, Heads, Part, Parts, Slot, Of, NoPart, More, put, put_all, Flow, Values, outs, token_out, token_outs, FreeIn, theta, name, entered, begun, kid, unit_exp, AreTrees}
 use Rattle.pv_graph.specs.declared.node.Op.TheVariants as op
 use Rattle.pv_graph.specs.Ops as ops
-use Rattle.pv_graph.specs.Walks.{In, open_kids}
-use Rattle.pv_equations.specs.Exp.{Exp, Exps, Name, Over, NoExp, Then, one, two, listed, made}
-use Rattle.pv_loops.specs.Ranks.{Heads}
-use Rattle.pv_equations.specs.Flow.{Part, Parts, Slot, Of, NoPart, More, put, put_all, Flow}
-use Rattle.pv_equations.specs.Equations.{Values, outs, token_out, token_outs, FreeIn, theta, name, entered, begun, kid, unit_exp, AreTrees}
+use Rattle.pv_equations.specs.Exp.{made}
 
 pub heads_dec : (A : List ℕ) (m : ℕ) → Heads A m ⊎ (Heads A m → ⊥)
 heads_dec [] m = inr (λ z. let e = z.1 in absurd (cc))

@@ -1,7 +1,7 @@
 -- Whether something is reached by steps between finitely many places, decided by taking in one place after the other
 -- (Warshall, "A theorem on Boolean matrices", Journal of the ACM 1962).
 use Rattle.std.proofs.Common.{◌≡◌, ℕ, zero, suc, ◌<◌, List, [], ◌∷◌, ◌⊎◌, inl, inr, ⊎_elim, refl, sym, subst, arith}
-use Rattle.pv_graph.specs.Walks.{In}
+use Rattle.pv_equations.proofs.Words.{In}
 
 abbrev pub Decided : Type 0 → Type 0
 Decided P = P ⊎ (P → ⊥)

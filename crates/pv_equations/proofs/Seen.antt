@@ -1,9 +1,7 @@
 -- Where an exit lands, seen from a region.
 use Rattle.std.proofs.Common.{◌≡◌, ℕ, ◌<◌, List, ◌∷◌, ◌++◌, refl, sym, ap, ◌∙◌, subst}
+use Rattle.pv_equations.proofs.Words.{Heads, Kind, Dest, To, End, Flow, Target, Node, Back, Finish, Returning, Leaving, Place, On, Header, Ended, Lands, beside, enters, again, header, leaves, gone, Seen}
 use Rattle.pv_equations.proofs.Lands.{lands_once}
-use Rattle.pv_loops.specs.Ranks.{Heads}
-use Rattle.pv_equations.specs.Flow.{Kind, Dest, To, End, Flow}
-use Rattle.pv_equations.specs.Equations.{Target, Node, Back, Finish, Returning, Leaving, Place, On, Header, Ended, Lands, beside, enters, again, header, leaves, gone, Seen}
 
 -- targets that the walk hasn't met at m
 abbrev pub Later : (ℕ → ℕ) → Target → ℕ → Type 0

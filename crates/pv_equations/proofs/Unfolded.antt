@@ -1,10 +1,8 @@
 -- What is free in a node is free in each node that unfolds equally, also in another graph.
 use Rattle.std.proofs.Common.{ℕ, Bool, true, false, List, [], ◌∷◌, Option, inl, inr, refl, subst, ◌==◌, if◌then◌else◌}
+use Rattle.pv_equations.proofs.Words.{Form, In, open_kids, Free, here, below, UnfoldsAs}
 use Rattle.std.specs.List.{AllZip}
 use Rattle.pv_graph.specs.Ops as ops
-use Rattle.pv_graph.specs.Forms.{Form}
-use Rattle.pv_graph.specs.Walks.{In, open_kids, Free, here, below}
-use Rattle.pv_graph.specs.Unfold.{UnfoldsAs}
 use Rattle.pv_graph.proofs.Cited.{Simulates, bisimulates_simulates, unfolds_bisimulates}
 
 opened : {N M : Type 0} (T : N → M → Type 0) (d : ℕ) (s : ops.Shape) (ks : List N) (ls : List M) → AllZip T ks ls → AllZip T (open_kids d s ks) (open_kids d s ls)

@@ -1,14 +1,9 @@
 -- A flow's equations have one solution.
 use Rattle.std.proofs.Common.{◌≡◌, ◌≢◌, ℕ, zero, suc, ◌+◌, ◌<◌, ◌≤◌, Bool, true, false, List, [], ◌∷◌, ◌++◌, length, Option, Some, None, ◌⊎◌, inl, inr, ⊎_elim, refl, sym, ap, ◌∙◌, subst, append-nil, append_assoc, length-append, arith, le_refl}
-use Rattle.pv_graph.specs.Graphs.{Graph, form_at}
+use Rattle.pv_equations.proofs.Words.{Graph, form_at, Form, form, Tree, trees_of, tree_at, UnfoldsAs, Exp, Exps, Name, Over, NoExp, Then, Heads, Flow, Shape, Compact, Target, Node, Back, Finish, Returning, Leaving, Values, form_of, tree_of, or_else, first_of_region, first_loops, Given, never_exp, first_kid, AreTrees, AreEquations}
 use Rattle.pv_graph.specs.declared.node.Op.TheVariants as op
-use Rattle.pv_graph.specs.Forms.{Form, form}
 use Rattle.pv_graph.specs.Unfold as trees
-use Rattle.pv_graph.specs.Unfold.{Tree, trees_of, tree_at, unfold_at, UnfoldsAs}
-use Rattle.pv_equations.specs.Exp.{Exp, Exps, Name, Over, NoExp, Then}
-use Rattle.pv_loops.specs.Ranks.{Heads}
-use Rattle.pv_equations.specs.Flow.{Flow, Shape, Compact}
-use Rattle.pv_equations.specs.Equations.{Target, Node, Back, Finish, Returning, Leaving, Values, form_of, tree_of, or_else, first_of_region, first_loops, Given, never_exp, first_kid, AreTrees, AreEquations}
+use Rattle.pv_graph.specs.Unfold.{unfold_at}
 use Rattle.pv_equations.specs.Root.{root_of}
 use Rattle.pv_equations.proofs.Same.{heads_dec, Done, Names, AllNames, LoopsAgree, names_under}
 use Rattle.pv_equations.proofs.Agree.{NamesOf, Ready, node_same, region_same}

@@ -1,9 +1,7 @@
 -- Walks of a region.
 use Rattle.std.proofs.Common.{◌≡◌, ◌≢◌, ℕ, suc, ◌+◌, ◌<◌, ◌≤◌, List, [], ◌∷◌, ◌++◌, length, ◌⊎◌, inl, inr, ⊎_elim, refl, sym, ap, ◌∙◌, subst, subst₂, append_assoc, length-append, arith, le_refl}
+use Rattle.pv_equations.proofs.Words.{Heads, Dest, To, End, Exit, InChain, Flow, LeadsBack, turns, passes, Shape, Target, Back, Finish, Place, On, Again, Header, Gone, Ended, Lands, Seen, Hits, Ahead, now, later}
 use Rattle.pv_equations.proofs.Lands.{lands_on, lands_in, lands_header}
-use Rattle.pv_loops.specs.Ranks.{Heads}
-use Rattle.pv_equations.specs.Flow.{Dest, To, End, Exit, InChain, Flow, LeadsBack, turns, passes, Shape}
-use Rattle.pv_equations.specs.Equations.{Target, Back, Finish, Place, On, Again, Header, Gone, Ended, Lands, Seen, Hits, Ahead, now, later}
 use Rattle.pv_equations.proofs.Seen.{seen_to}
 use Rattle.pv_equations.proofs.Moves.{snoc_split, About, Goes, other_loop, move, about}
 

@@ -1,13 +1,9 @@
 -- Which depths are free in an expression, decided where the equations name finitely many blocks and slots.
 use Rattle.std.proofs.Common.{◌≡◌, ℕ, ◌<◌, List, [], ◌∷◌, ◌++◌, length, ◌⊎◌, inl, inr, ⊎_elim, refl, sym, ap, subst, subst₂}
-use Rattle.pv_graph.specs.declared.node.Op.{Op}
+use Rattle.pv_equations.proofs.Words.{Op, shape, In, open_kids, Exp, Exps, Name, Over, NoExp, Then, listed, Part, Parts, Slot, Of, NoPart, More, put, put_all, NamesBelow, AllBelow, Flow, Values, FreeIn, theta, name, entered, begun, kid, first_kid}
 use Rattle.pv_graph.specs.declared.node.Op.TheVariants as op
 use Rattle.pv_graph.specs.Ops as ops
-use Rattle.pv_graph.specs.Ops.{shape}
-use Rattle.pv_graph.specs.Walks.{In, open_kids}
-use Rattle.pv_equations.specs.Exp.{Exp, Exps, Name, Over, NoExp, Then, listed, made}
-use Rattle.pv_equations.specs.Flow.{Part, Parts, Slot, Of, NoPart, More, put, put_all, NamesBelow, AllBelow, Flow}
-use Rattle.pv_equations.specs.Equations.{Values, FreeIn, theta, name, entered, begun, kid, first_kid}
+use Rattle.pv_equations.specs.Exp.{made}
 use Rattle.pv_equations.proofs.Same.{counted_in}
 use Rattle.pv_equations.proofs.Search.{Decided, number, less, both, either, equally, Reach, there, onward, reach, below, in_below}
 

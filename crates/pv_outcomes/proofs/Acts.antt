@@ -1,45 +1,15 @@
 -- What an action that only goes on does: the machine's next state matches what the block has computed.
 use Rattle.std.proofs.Common.{◌≡◌, ℕ, suc, ℤ, Bool, true, List, [], ◌∷◌, Option, Some, None, refl, ap, sym, subst, ◌∙◌, inl}
-use Rattle.std.specs.Prelude.{map, option_map, if◌then◌else◌, slice_set}
-use Rattle.std.specs.List.{AllZip}
-use Rattle.std.specs.Prelude.{◌+ℤ◌}
-use Rattle.std.specs.Int.{w32}
-use Rattle.std.proofs.lemmas.Int.{SFits-int_wrap}
-use Rattle.pv_pool.specs.Readers.{◌>>=◌}
-use Rattle.pv_value.specs.declared.number.Num.{Num}
+use Rattle.pv_outcomes.proofs.Words.{map, option_map, if◌then◌else◌, slice_set, AllZip, ◌+ℤ◌, w32, SFits-int_wrap, ◌>>=◌, Num, Sym, JType, ScalarOp, World, Input, Val, field_type, read, written, shown, kept, static_place, Sort, Action, Program, literal_of, Taken, popped, moved, has_room, set_local, sort_of, sort_of_local, sort_of_type, sort_of_word, takes, some_of, if_some, popped_sorts, State, Now, running, next, pushes, stored, increased, done, performed, shown_gives, kept_some, no_nums, one_num, Part, Of, NoPart, More, PartIs, Cell, Held, cell_sort, unset, number_part, parts_of, push, local_cell, increased_cell, acted_on, acted, IsClean, IsSimple, lists_found, mapped, moved_both, popped_both, taken_found, InRange, StackIs, LocalIs, Matches}
 use Rattle.pv_value.specs.declared.number.Num.TheVariants as num
-use Rattle.pv_value.specs.declared.name.Sym.{Sym}
-use Rattle.pv_value.specs.declared.descriptor.JType.{JType}
-use Rattle.pv_value.specs.declared.operation.ScalarOp.{ScalarOp}
-use Rattle.pv_value.specs.declared.world.World.{World}
-use Rattle.pv_value.specs.declared.outcome.Input.{Input}
-use Rattle.pv_value.specs.declared.outcome.Val.{Val}
 use Rattle.pv_value.specs.declared.outcome.Val.TheVariants as val
 use Rattle.pv_value.specs.Operations as operation
-use Rattle.pv_value.specs.Spelled.{field_type}
-use Rattle.pv_value.specs.Heaps.{read, written}
-use Rattle.pv_value.specs.Narrowing.{shown, kept, static_place}
-use Rattle.pv_frame.specs.declared.sort.Sort.{Sort}
 use Rattle.pv_frame.specs.declared.sort.Sort.TheVariants as sort
-use Rattle.pv_frame.specs.declared.action.Action.{Action}
 use Rattle.pv_frame.specs.declared.action.Action.TheVariants as act
 use Rattle.pv_frame.specs.declared.action.Move.{Move}
-use Rattle.pv_frame.specs.declared.program.Program.{Program}
-use Rattle.pv_value.specs.Worlds.{literal_of}
 use Rattle.pv_denote.specs.Denote as denote
-use Rattle.pv_frame.specs.Stacks.{Taken, popped, moved, has_room, set_local}
-use Rattle.pv_frame.specs.Effects.{sort_of, sort_of_local, sort_of_type, sort_of_word, takes}
-use Rattle.pv_frame.proofs.Cited.{some_of, if_some, popped_sorts}
-use Rattle.pv_machine.specs.Machine.{State, Now, running, next, pushes, stored, increased, done, performed}
-use Rattle.pv_machine.proofs.Cited.{shown_gives, kept_some, no_nums, one_num}
 use Rattle.pv_graph.specs.declared.node.Op.TheVariants as op
 use Rattle.pv_denote.specs.Denote.{strict}
-use Rattle.pv_equations.specs.Flow.{Part, Of, NoPart, More}
-use Rattle.pv_conversion.specs.Runs.{PartIs}
-use Rattle.pv_runs.specs.Held.{Cell, Held, cell_sort, unset, number_part, parts_of, push, local_cell, increased_cell, acted_on, acted}
-use Rattle.pv_runs.specs.Clean.{IsClean}
-use Rattle.pv_runs.proofs.Cited.{IsSimple, lists_found, mapped, moved_both, popped_both, taken_found}
-use Rattle.pv_outcomes.specs.Matches.{InRange, StackIs, LocalIs, Matches}
 use Rattle.pv_outcomes.proofs.Ranges.{shown_range}
 use Rattle.pv_outcomes.proofs.Locals.{set_local_is, room_as, local_is, set_is}
 use Rattle.pv_outcomes.proofs.Values.{numbers_of, parts_are, computes}

@@ -1,36 +1,11 @@
 -- What a call does at the end of a block.
 use Rattle.std.proofs.Common.{◌≡◌, ℕ, suc, true, false, List, [], ◌∷◌, Option, Some, None, refl, ap, sym, subst, ◌∙◌}
-use Rattle.std.specs.Prelude.{option_map}
-use Rattle.pv_value.specs.declared.number.Num.{Num}
-use Rattle.pv_value.specs.declared.name.Sym.{Sym}
-use Rattle.pv_value.specs.declared.heap.Heap.{Heap}
-use Rattle.pv_value.specs.declared.descriptor.JType.{JType}
-use Rattle.pv_value.specs.declared.descriptor.Descriptor.{Descriptor}
-use Rattle.pv_value.specs.declared.world.World.{World}
-use Rattle.pv_value.specs.declared.outcome.Input.{Input}
-use Rattle.pv_value.specs.declared.outcome.Fault.{Fault}
+use Rattle.pv_outcomes.proofs.Words.{option_map, Num, Sym, Heap, JType, Descriptor, World, Input, Fault, Outcome, Returned, Threw, Val, bind, method_type, method_type_once, method_spelled, IsMethodType, IsOfResult, IsWorld, sort_of_type, Program, State, called, of_sort_type, reply_result, result_part, Part, Of, NoPart, More, call_token, Throw, Chain, Leave, PartIs, PartsAre, Waits, Cell, Held, call_parts, after_call, with_result, StackIs, to, throw, fault_part, unless_thrown}
 use Rattle.pv_value.specs.declared.outcome.Fault.TheVariants as fault
-use Rattle.pv_value.specs.declared.outcome.Outcome.{Outcome}
-use Rattle.pv_value.specs.declared.outcome.Outcome.TheVariants.{Returned, Threw}
-use Rattle.pv_value.specs.declared.outcome.Val.{Val}
 use Rattle.pv_value.specs.declared.outcome.Val.TheVariants as val
-use Rattle.pv_value.specs.Spelled.{bind, method_type}
-use Rattle.pv_value.proofs.Cited.{method_type_once, method_spelled}
-use Rattle.pv_value.specs.Descriptors.{IsMethodType}
-use Rattle.pv_value.specs.Inputs.{IsOfResult}
 use Rattle.pv_value.specs.Worlds as worlds
-use Rattle.pv_value.specs.Worlds.{IsWorld}
-use Rattle.pv_frame.specs.Effects.{sort_of_type}
-use Rattle.pv_frame.specs.declared.program.Program.{Program}
-use Rattle.pv_machine.specs.Machine.{State, called}
-use Rattle.pv_machine.proofs.Cited.{of_sort_type}
 use Rattle.pv_graph.specs.declared.node.Op.TheVariants as op
-use Rattle.pv_denote.specs.Denote.{strict, reply_result, end_part, result_part, fault_part as fault_of_reply, heap_part, over_call}
-use Rattle.pv_equations.specs.Flow.{Part, Of, NoPart, More, call_token, Throw, Chain, Leave}
-use Rattle.pv_conversion.specs.Runs.{PartIs, PartsAre, Waits}
-use Rattle.pv_runs.specs.Held.{Cell, Held, call_parts, after_call, with_result}
-use Rattle.pv_outcomes.specs.Matches.{StackIs}
-use Rattle.pv_runs.specs.Chains.{to, throw, fault_part, unless_thrown}
+use Rattle.pv_denote.specs.Denote.{strict, end_part, fault_part as fault_of_reply, heap_part, over_call}
 use Rattle.pv_outcomes.proofs.Ranges.{sort_range}
 use Rattle.pv_outcomes.proofs.Once.{parts_once}
 use Rattle.pv_outcomes.proofs.Values.{numbers_of, numbers_back, parts_are}

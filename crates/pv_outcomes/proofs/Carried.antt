@@ -1,47 +1,16 @@
 -- The blocks of a method's flow are carried by the machine.
 use Rattle.std.proofs.Common.{◌≡◌, ℕ, zero, suc, List, Option, refl, ap, sym, subst, ◌∙◌, None, Some, inl, inr, ◌⊎◌}
-use Rattle.std.specs.Prelude.{unwrap_or, slice_get, Contains}
+use Rattle.pv_outcomes.proofs.Words.{unwrap_or, slice_get, Contains, World, Input, Outcome, Val, Sym, Descriptor, IsWorld, ◌>>=◌, Sort, Action, Program, Frame, Taken, IsAt, IsFrameAt, GoesOn, AreFrames, some_of, State, Now, running, ended, step, IsTypedState, IsSound, stays_typed, Block, Begins, IsBlockAt, IsFlow, target_or_next, goes_to_successors, Forest, Kind, Dest, To, End, Exit, Chain, Leave, InChain, Flow, Parts, call_token, PartIs, Chooses, Steps, PartsAre, Waits, IsOutcome, Next, Stops, after, MachineEnds, chooses_in, after_rest, Held, held_at, to, flow_of, IsClean, EndsWell, IsCleanProgram, Chained, Departs, IsBlock, chain_at, chained, exit_departs, goes_place, has_exits, in_numbered, number_is, Matches}
 use mathlib.Core.Path.{fun_ext}
-use Rattle.pv_value.specs.declared.world.World.{World}
-use Rattle.pv_value.specs.declared.outcome.Input.{Input}
-use Rattle.pv_value.specs.declared.outcome.Outcome.{Outcome}
-use Rattle.pv_value.specs.declared.outcome.Val.{Val}
-use Rattle.pv_value.specs.declared.name.Sym.{Sym}
-use Rattle.pv_value.specs.declared.descriptor.Descriptor.{Descriptor}
-use Rattle.pv_value.specs.Worlds.{IsWorld}
-use Rattle.pv_pool.specs.Readers.{◌>>=◌}
-use Rattle.pv_frame.specs.declared.sort.Sort.{Sort}
-use Rattle.pv_frame.specs.declared.action.Action.{Action}
 use Rattle.pv_frame.specs.declared.action.Action.TheVariants as act
-use Rattle.pv_frame.specs.declared.program.Program.{Program}
-use Rattle.pv_frame.specs.declared.frame.Frame.{Frame}
-use Rattle.pv_frame.specs.Stacks.{Taken}
-use Rattle.pv_frame.specs.Programs.{IsAt}
-use Rattle.pv_frame.specs.Frames.{IsFrameAt, GoesOn, AreFrames}
 use Rattle.pv_frame.specs.Frames as frames-of
-use Rattle.pv_frame.proofs.Cited.{some_of}
 use Rattle.pv_machine.specs.Machine as machine
-use Rattle.pv_machine.specs.Machine.{State, Now, running, ended, step}
-use Rattle.pv_machine.specs.Runs.{IsTypedState}
-use Rattle.pv_machine.proofs.Cited.{IsSound, stays_typed}
-use Rattle.pv_flow.specs.declared.block.Block.{Block}
-use Rattle.pv_flow.specs.Blocks.{Begins, IsBlockAt, IsFlow}
 use Rattle.pv_flow.specs.Blocks as blocks-of
 use Rattle.pv_flow.specs.Exits.{departures}
-use Rattle.pv_flow.proofs.Cited.{target_or_next, goes_to_successors}
-use Rattle.pv_loops.specs.declared.forest.Forest.{Forest}
 use Rattle.pv_equations.specs.Flow as flows
-use Rattle.pv_equations.specs.Flow.{Kind, Dest, To, End, Exit, Chain, Leave, InChain, Flow, Parts, call_token}
-use Rattle.pv_conversion.specs.Runs.{PartIs, Chooses, Steps, PartsAre, Ends, Waits}
-use Rattle.pv_conversion.specs.Outcomes.{IsOutcome, Next, Goes as Onward, Stops, then as followed, after, MachineEnds, Carries}
-use Rattle.pv_conversion.proofs.Cited.{chooses_in, after_rest}
-use Rattle.pv_runs.specs.Held.{Held, held_at}
-use Rattle.pv_runs.specs.Chains.{to}
+use Rattle.pv_conversion.specs.Runs.{Ends}
+use Rattle.pv_conversion.specs.Outcomes.{Goes as Onward, then as followed, Carries}
 use Rattle.pv_runs.specs.Blocks.{number_at, numbered_dest, numbered_exit, numbered}
-use Rattle.pv_runs.specs.Methods.{flow_of}
-use Rattle.pv_runs.specs.Clean.{IsClean, EndsWell, IsCleanProgram}
-use Rattle.pv_runs.proofs.Cited.{Chained, Departs, IsBlock, chain_at, chained, exit_departs, goes_place, has_exits, in_numbered, number_is}
-use Rattle.pv_outcomes.specs.Matches.{Matches}
 use Rattle.pv_outcomes.proofs.States.{At, next_of, steps}
 use Rattle.pv_outcomes.proofs.Tokens.{token_arguments}
 use Rattle.pv_outcomes.proofs.Once.{part_once, chooses_once, waits_on}

@@ -1,43 +1,20 @@
 -- A method's equations have the outcomes of its runs.
 use Rattle.std.proofs.Common.{◌≡◌, ℕ, zero, suc, ◌<◌, List, [], ◌∷◌, length, Option, Some, sym, subst, ap, ◌∙◌, ◌↔◌, ◌⊎◌, inl, inr, arith}
-use Rattle.std.specs.List.{AllByRecursion}
-use Rattle.pv_value.specs.declared.world.World.{World}
-use Rattle.pv_value.specs.declared.outcome.Input.{Input}
-use Rattle.pv_value.specs.declared.outcome.Outcome.{Outcome}
-use Rattle.pv_value.specs.declared.outcome.Val.{Val}
+use Rattle.pv_outcomes.proofs.Words.{AllByRecursion, World, Input, Outcome, Val, IsWorld, Fits, Program, Frame, AreFrames, one_program, State, start, IsProgram, RunEnds, Ends, Block, IsFlow, entry_block, Forest, Index, To, Exit, Flow, Steps, Left, Waits, Runnable, after, MachineEnds, Finishes, graph_machine, IsCleanProgram, flow_of, method_ranked, program_clean}
 use Rattle.pv_value.specs.declared.outcome.Val.TheVariants as val
-use Rattle.pv_value.specs.Worlds.{IsWorld}
-use Rattle.pv_value.specs.Inputs.{Fits}
 use Rattle.pv_class.specs.declared.file.ClassFile.{ClassFile}
 use Rattle.pv_class.specs.declared.file.Method.{Method}
 use Rattle.pv_class.specs.declared.file.Code.{Code}
 use Rattle.pv_insn.proofs.Cited.{IsBytes}
-use Rattle.pv_frame.specs.declared.program.Program.{Program}
-use Rattle.pv_frame.specs.declared.frame.Frame.{Frame}
-use Rattle.pv_frame.specs.Frames.{AreFrames}
-use Rattle.pv_frame.proofs.Cited.{one_program}
 use Rattle.pv_machine.specs.Machine as machine
-use Rattle.pv_machine.specs.Machine.{State, start, IsProgram, RunEnds, Ends}
-use Rattle.pv_flow.specs.declared.block.Block.{Block}
-use Rattle.pv_flow.specs.Blocks.{IsFlow}
-use Rattle.pv_flow.proofs.Cited.{entry_block}
-use Rattle.pv_loops.specs.declared.forest.Forest.{Forest}
 use Rattle.pv_loops.specs.declared.forest.TheConstants.{MAX_DEPTH}
-use Rattle.pv_denote.specs.Denote.{Index}
 use Rattle.pv_denote.specs.Meaning.{Value}
 use Rattle.pv_graph.specs.Unfold.{UnfoldsAs}
 use Rattle.pv_graph.specs.Graphs.{Graph, form_at}
 use Rattle.pv_equations.specs.Exp.{Exp}
-use Rattle.pv_equations.specs.Flow.{To, Exit, Flow}
-use Rattle.pv_conversion.specs.Runs.{Steps, Left, Waits, Runnable}
 use Rattle.pv_equations.specs.Equations.{Values, form_of, AreEquations}
 use Rattle.pv_equations.specs.Root.{root_of}
-use Rattle.pv_conversion.specs.Outcomes.{after, MachineEnds, Finishes}
-use Rattle.pv_conversion.proofs.Cited.{graph_machine}
-use Rattle.pv_runs.specs.Clean.{IsCleanProgram}
-use Rattle.pv_runs.specs.Methods.{flow_of}
 use Rattle.pv_runs.specs.Laws.{IsRanked}
-use Rattle.pv_runs.proofs.Cited.{method_ranked, program_clean}
 use Rattle.pv_outcomes.specs.Laws.{MethodConverts}
 use Rattle.pv_outcomes.proofs.States.{At, next_of, steps}
 use Rattle.pv_outcomes.proofs.Starts.{entry_slots, entry_starts, entry_at}

@@ -1,55 +1,21 @@
 -- The last action of a block, whatever it is.
 use Rattle.std.proofs.Common.{◌≡◌, ℕ, zero, suc, ℤ, pos, Bool, false, List, [], ◌∷◌, Option, Some, None, refl, ap, sym, subst, ◌∙◌, lit<, lit≤, if◌then◌else◌}
-use Rattle.std.specs.Prelude.{map, option_map}
-use Rattle.std.specs.Int.{w8, w16, w32, int_wrap}
-use Rattle.std.proofs.lemmas.Int.{SFits-int_wrap}
-use Rattle.pv_pool.specs.Readers.{◌>>=◌}
-use Rattle.pv_value.specs.declared.number.Num.{Num}
+use Rattle.pv_outcomes.proofs.Words.{map, option_map, w8, w16, w32, int_wrap, SFits-int_wrap, ◌>>=◌, Num, Sym, Elem, JType, Descriptor, ScalarOp, I2b, I2c, I2s, World, Input, Returned, Val, scalar_exact, read, written, IsWorld, shown, kept, as_type, field_place, element_type, Sort, Action, Taken, popped, sort_of, sort_of_type, sort_of_word, sort_of_kind, sorts_of_result, takes, Program, some_of, State, Now, ended, next, pushes, branches, given, done, performed, Gives, shown_gives, kept_some, element_sort, as_type_gives, no_nums, wider, low_fits, Part, Of, NoPart, More, Exit, Chain, Leave, PartIs, Cell, Held, cell_sort, unit_part, null_part, acted_on, with_result, IsClean, EndsWell, InRange, to, throw, give, aeq, is_zero, test_part, branch, narrowed_part, unless_thrown, unless_null, within, unless_other, asks_class, stores_ref, chain_with, given_chain, last_chain, ends_method, chain_of, IsSimple, bound}
 use Rattle.pv_value.specs.declared.number.Num.TheVariants as num
-use Rattle.pv_value.specs.declared.name.Sym.{Sym}
 use Rattle.pv_value.specs.declared.heap.Kind.{Kind as ElementKind}
 use Rattle.pv_value.specs.declared.heap.Kind.TheVariants as kind
-use Rattle.pv_value.specs.declared.heap.Loc.TheVariants.{Elem}
-use Rattle.pv_value.specs.declared.descriptor.JType.{JType}
 use Rattle.pv_value.specs.declared.descriptor.JType.TheVariants as jtype
-use Rattle.pv_value.specs.declared.descriptor.Descriptor.{Descriptor}
-use Rattle.pv_value.specs.declared.operation.ScalarOp.{ScalarOp}
-use Rattle.pv_value.specs.declared.operation.ScalarOp.TheVariants.{I2b, I2c, I2s}
-use Rattle.pv_value.specs.declared.world.World.{World}
-use Rattle.pv_value.specs.declared.outcome.Input.{Input}
 use Rattle.pv_value.specs.declared.outcome.Fault.TheVariants as fault
-use Rattle.pv_value.specs.declared.outcome.Outcome.TheVariants.{Returned}
-use Rattle.pv_value.specs.declared.outcome.Val.{Val}
 use Rattle.pv_value.specs.declared.outcome.Val.TheVariants as val
-use Rattle.pv_value.proofs.Cited.{scalar_exact}
 use Rattle.pv_value.specs.Operations as operation
-use Rattle.pv_value.specs.Heaps.{read, written}
 use Rattle.pv_value.specs.Worlds as worlds
-use Rattle.pv_value.specs.Worlds.{IsWorld}
-use Rattle.pv_value.specs.Narrowing.{shown, kept, as_type, field_place, element_type}
-use Rattle.pv_frame.specs.declared.sort.Sort.{Sort}
 use Rattle.pv_frame.specs.declared.sort.Sort.TheVariants as sort
 use Rattle.pv_frame.specs.declared.action.Test.{Test}
-use Rattle.pv_frame.specs.declared.action.Action.{Action}
 use Rattle.pv_frame.specs.declared.action.Action.TheVariants as act
-use Rattle.pv_frame.specs.Stacks.{Taken, popped}
-use Rattle.pv_frame.specs.Effects.{sort_of, sort_of_type, sort_of_word, sort_of_kind, sorts_of_result, takes}
-use Rattle.pv_frame.specs.declared.program.Program.{Program}
-use Rattle.pv_frame.proofs.Cited.{some_of}
-use Rattle.pv_machine.specs.Machine.{State, Now, ended, next, pushes, branches, given, done, performed}
-use Rattle.pv_machine.proofs.Cited.{Gives, shown_gives, kept_some, element_sort, as_type_gives, no_nums}
 use Rattle.pv_graph.specs.declared.node.Op.TheVariants as op
 use Rattle.pv_denote.specs.Denote.{strict}
-use Rattle.pv_denote.proofs.Cited.{wider, low_fits}
 use Rattle.pv_equations.specs.Flow as flow
-use Rattle.pv_equations.specs.Flow.{Part, Of, NoPart, More, Exit, Chain, Leave}
-use Rattle.pv_conversion.specs.Runs.{PartIs}
-use Rattle.pv_runs.specs.Held.{Cell, Held, cell_sort, unit_part, null_part, acted_on, with_result}
-use Rattle.pv_runs.specs.Clean.{IsClean, EndsWell}
-use Rattle.pv_outcomes.specs.Matches.{InRange}
 use Rattle.pv_outcomes.proofs.Ranges.{shown_range, length_range, boolean_is}
-use Rattle.pv_runs.specs.Chains.{to, throw, give, aeq, is_zero, test_part, branch, narrowed_part, unless_thrown, unless_null, within, unless_other, asks_class, stores_ref, chain_with, given_chain, last_chain, ends_method, chain_of}
-use Rattle.pv_runs.proofs.Cited.{IsSimple, bound}
 use Rattle.pv_outcomes.proofs.Acts.{M, Operands, takes_both, simple_goes, pushed_goes, heap_goes}
 use Rattle.pv_outcomes.proofs.Tests.{yes, no, same_test, suc_not_zero, null_tests, branch_asks}
 use Rattle.pv_outcomes.proofs.Calls.{call_leaves}

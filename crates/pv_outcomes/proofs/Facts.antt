@@ -1,38 +1,17 @@
 -- Casts, type tests and stores of references at the end of a block: what the world tells of types at the heap of the input decides.
 use Rattle.std.proofs.Common.{◌≡◌, ◌≢◌, ℕ, zero, suc, ℤ, pos, Bool, true, false, not, List, [], ◌∷◌, Option, Some, None, refl, ap, sym, subst, ◌∙◌, lit<, ◌==◌, if◌then◌else◌}
-use Rattle.std.specs.Prelude.{int_lt}
-use Rattle.pv_value.specs.declared.number.Num.{Num}
+use Rattle.pv_outcomes.proofs.Words.{int_lt, Num, Sym, Heap, JType, Descriptor, World, Input, Outcome, Returned, Threw, Val, bind, IsMethodType, IsOfResult, IsWorld, length_of, literal_of, reply, method_type_once, method_spelled, Program, State, Now, throws, pushes, element_fault, store_fault, unless, cast, result_part, reply_result, truth, Part, Parts, Of, NoPart, More, Exit, Chain, Leave, PartIs, PartsAre, Chooses, Held, null_part, int_part, push, to, throw, two_parts, ieq, ilt, aeq, start_part, is_part, fits_part, thrown_literal, with_held, unless_other, asks_class, unless_unfit, stores_ref}
 use Rattle.pv_value.specs.declared.number.Num.TheVariants as num
-use Rattle.pv_value.specs.declared.name.Sym.{Sym}
-use Rattle.pv_value.specs.declared.heap.Heap.{Heap}
-use Rattle.pv_value.specs.declared.descriptor.JType.{JType}
 use Rattle.pv_value.specs.declared.descriptor.JType.TheVariants.{Z}
-use Rattle.pv_value.specs.declared.descriptor.Descriptor.{Descriptor}
-use Rattle.pv_value.specs.declared.world.World.{World}
-use Rattle.pv_value.specs.declared.outcome.Input.{Input}
 use Rattle.pv_value.specs.declared.outcome.Fault.TheVariants as fault
-use Rattle.pv_value.specs.declared.outcome.Outcome.{Outcome}
-use Rattle.pv_value.specs.declared.outcome.Outcome.TheVariants.{Returned, Threw}
-use Rattle.pv_value.specs.declared.outcome.Val.{Val}
 use Rattle.pv_value.specs.declared.outcome.Val.TheVariants as val
-use Rattle.pv_value.specs.Spelled.{bind}
-use Rattle.pv_value.specs.Descriptors.{IsMethodType}
-use Rattle.pv_value.specs.Inputs.{IsOfResult}
-use Rattle.pv_value.specs.Worlds.{IsWorld, length_of, literal_of, reply}
-use Rattle.pv_value.proofs.Cited.{method_type_once, method_spelled}
 use Rattle.pv_types.specs.Facts as types
 use Rattle.pv_types.specs.Facts.{IsTold, tells}
 use Rattle.pv_types.proofs.Cited.{is_told, fits_told}
 use Rattle.pv_frame.specs.declared.sort.Sort.TheVariants as sort
-use Rattle.pv_frame.specs.declared.program.Program.{Program}
-use Rattle.pv_machine.specs.Machine.{State, Now, throws, pushes, element_fault, store_fault, unless, cast}
 use Rattle.pv_graph.specs.declared.node.Op.TheVariants as op
-use Rattle.pv_denote.specs.Denote.{strict, result_part, reply_result, truth}
+use Rattle.pv_denote.specs.Denote.{strict}
 use Rattle.pv_equations.specs.Flow as flow
-use Rattle.pv_equations.specs.Flow.{Part, Parts, Of, NoPart, More, Exit, Chain, Leave}
-use Rattle.pv_conversion.specs.Runs.{PartIs, PartsAre, Chooses}
-use Rattle.pv_runs.specs.Held.{Held, null_part, int_part, push}
-use Rattle.pv_runs.specs.Chains.{to, throw, two_parts, ieq, ilt, aeq, start_part, is_part, fits_part, thrown_literal, with_held, unless_other, asks_class, unless_unfit, stores_ref}
 use Rattle.pv_outcomes.proofs.Values.{numbers_of, numbers_back}
 use Rattle.pv_outcomes.proofs.Acts.{M, Goes, pushed_goes}
 use Rattle.pv_outcomes.proofs.Tests.{Tests, yes, no, same_test, suc_not_zero, ilt_tests, not_less_tests, null_tests, int_is}

@@ -1,43 +1,15 @@
 -- What the last action of a block does: the machine takes the exit that the tests choose.
 use Rattle.std.proofs.Common.{◌≡◌, ◌≢◌, ℕ, zero, suc, ℤ, pos, Bool, true, false, not, List, [], ◌∷◌, Option, Some, None, refl, ap, sym, subst, ◌∙◌, ◌==◌, if◌then◌else◌}
-use Rattle.std.specs.Prelude.{int_lt}
-use Rattle.std.specs.Ordering.{int_eq}
+use Rattle.pv_outcomes.proofs.Words.{int_lt, int_eq, Num, Sym, Heap, Elem, JType, ScalarOp, World, Input, Fault, Outcome, Returned, Threw, Val, field_type, read, written, length_of, shown, kept, field_place, element_type, Case, sort_of, sort_of_word, Program, some_of, State, Now, running, ended, goes, throws, pushes, number_of, value_of, divided, branches, target_of, element_fault, unless, Part, Slot, Of, NoPart, More, Kind, Return, Throw, Dest, To, End, Exit, Chain, Leave, PartIs, Chooses, Waits, IsOutcome, slots, Cell, Held, unit_part, null_part, int_part, parts_of, push, StackIs, to, throw, give, end_slots, ieq, ilt, aeq, is_zero, branch, switch, unless_null, within}
 use Rattle.std.proofs.lemmas.Cmp.{int_eq_equiv}
-use Rattle.pv_value.specs.declared.number.Num.{Num}
 use Rattle.pv_value.specs.declared.number.Num.TheVariants as num
-use Rattle.pv_value.specs.declared.name.Sym.{Sym}
-use Rattle.pv_value.specs.declared.heap.Heap.{Heap}
 use Rattle.pv_value.specs.declared.heap.Kind.{Kind as ElementKind}
-use Rattle.pv_value.specs.declared.heap.Loc.TheVariants.{Elem}
-use Rattle.pv_value.specs.declared.descriptor.JType.{JType}
-use Rattle.pv_value.specs.declared.operation.ScalarOp.{ScalarOp}
-use Rattle.pv_value.specs.declared.world.World.{World}
-use Rattle.pv_value.specs.declared.outcome.Input.{Input}
-use Rattle.pv_value.specs.declared.outcome.Fault.{Fault}
 use Rattle.pv_value.specs.declared.outcome.Fault.TheVariants as fault
-use Rattle.pv_value.specs.declared.outcome.Outcome.{Outcome}
-use Rattle.pv_value.specs.declared.outcome.Outcome.TheVariants.{Returned, Threw}
-use Rattle.pv_value.specs.declared.outcome.Val.{Val}
 use Rattle.pv_value.specs.declared.outcome.Val.TheVariants as val
 use Rattle.pv_value.specs.Operations as operation
-use Rattle.pv_value.specs.Spelled.{field_type}
-use Rattle.pv_value.specs.Heaps.{read, written}
-use Rattle.pv_value.specs.Worlds.{length_of}
-use Rattle.pv_value.specs.Narrowing.{shown, kept, field_place, element_type}
-use Rattle.pv_insn.specs.declared.insn.Case.{Case}
-use Rattle.pv_frame.specs.Effects.{sort_of, sort_of_word}
-use Rattle.pv_frame.specs.declared.program.Program.{Program}
-use Rattle.pv_frame.proofs.Cited.{some_of}
-use Rattle.pv_machine.specs.Machine.{State, Now, running, ended, goes, throws, pushes, number_of, value_of, divided, branches, target_of, element_fault, unless}
 use Rattle.pv_graph.specs.declared.node.Op.TheVariants as op
 use Rattle.pv_denote.specs.Denote.{strict}
 use Rattle.pv_equations.specs.Flow as flow
-use Rattle.pv_equations.specs.Flow.{Part, Slot, Of, NoPart, More, Kind, Return, Throw, Dest, To, End, Exit, Chain, Leave}
-use Rattle.pv_conversion.specs.Runs.{PartIs, Chooses, Waits}
-use Rattle.pv_conversion.specs.Outcomes.{IsOutcome}
-use Rattle.pv_runs.specs.Held.{slots, Cell, Held, unit_part, null_part, int_part, parts_of, push}
-use Rattle.pv_outcomes.specs.Matches.{StackIs}
-use Rattle.pv_runs.specs.Chains.{to, throw, give, end_slots, ieq, ilt, aeq, is_zero, branch, switch, unless_null, within}
 use Rattle.pv_outcomes.proofs.Values.{numbers_of, computes_two, Computes}
 use Rattle.pv_outcomes.proofs.Acts.{M, Goes, scalar_goes, scalar_strict}
 use Rattle.pv_outcomes.proofs.Tests.{Tests, yes, no, same_test, suc_not_zero, ieq_tests, ilt_tests, null_tests, zero_tests, int_is}

@@ -1,4 +1,5 @@
 -- states of the machine, and what their cells hold
+mod Words
 pub mod States
 pub mod Ranges
 pub mod Locals

@@ -1,22 +1,8 @@
 -- Stores into locals, and reading them, by the machine and by the block.
 use Rattle.std.proofs.Common.{◌≡◌, ℕ, zero, suc, Bool, true, false, List, [], ◌∷◌, length, Option, Some, None, refl, ap, sym, subst, ◌∙◌, inl, inr}
-use Rattle.std.specs.Prelude.{◌⊎◌, if◌then◌else◌, slice_get, slice_set, nat_lt}
-use Rattle.std.specs.List.{AllZip}
-use Rattle.pv_pool.specs.Readers.{◌>>=◌}
-use Rattle.pv_value.specs.declared.number.Num.{Num}
-use Rattle.pv_value.specs.declared.world.World.{World}
-use Rattle.pv_value.specs.declared.outcome.Input.{Input}
-use Rattle.pv_value.specs.declared.outcome.Val.{Val}
+use Rattle.pv_outcomes.proofs.Words.{◌⊎◌, if◌then◌else◌, slice_get, slice_set, nat_lt, AllZip, ◌>>=◌, Num, World, Input, Val, Sort, fits, is_wide, last_local, has_room, first_cleared, set_local, sort_of_local, fits_same, of_sort, PartIs, Cell, cell_sort, unset, of_cell, InRange, StackIs, LocalIs}
 use Rattle.pv_value.specs.declared.outcome.Val.TheVariants as val
-use Rattle.pv_frame.specs.declared.sort.Sort.{Sort}
 use Rattle.pv_frame.specs.declared.sort.Sort.TheVariants as sort
-use Rattle.pv_frame.specs.Stacks.{fits, is_wide, last_local, has_room, first_cleared, set_local}
-use Rattle.pv_frame.specs.Effects.{sort_of_local}
-use Rattle.pv_frame.proofs.Cited.{fits_same}
-use Rattle.pv_machine.specs.Machine.{of_sort}
-use Rattle.pv_conversion.specs.Runs.{PartIs}
-use Rattle.pv_runs.specs.Held.{Cell, cell_sort, unset, of_cell}
-use Rattle.pv_outcomes.specs.Matches.{InRange, StackIs, LocalIs}
 use Rattle.pv_denote.specs.Denote.{strict}
 
 module _ (w : World) (x : Input) (σ : ℕ → Val) where

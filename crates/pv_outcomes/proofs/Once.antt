@@ -1,11 +1,6 @@
 -- A part has one value, and the tests choose one exit; where a block waits they choose none with a token.
 use Rattle.std.proofs.Common.{◌≡◌, ℕ, true, false, List, ◌∷◌, Some, ◌⊎◌, ap, sym, subst, ◌∙◌, inl, inr}
-use Rattle.pv_value.specs.declared.world.World.{World}
-use Rattle.pv_value.specs.declared.outcome.Input.{Input}
-use Rattle.pv_value.specs.declared.outcome.Val.{Val}
-use Rattle.pv_denote.specs.Denote.{strict, truth}
-use Rattle.pv_equations.specs.Flow.{Part, Parts, Slot, Of, NoPart, More, Exit, Chain, Leave, Test}
-use Rattle.pv_conversion.specs.Runs.{PartIs, PartsAre, Chooses, Waits}
+use Rattle.pv_outcomes.proofs.Words.{World, Input, Val, strict, truth, Part, Parts, Slot, Of, NoPart, More, Exit, Chain, Leave, Test, PartIs, PartsAre, Chooses, Waits}
 
 module _ (w : World) (x : Input) (σ : ℕ → Val) where
   mutual

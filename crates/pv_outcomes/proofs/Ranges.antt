@@ -1,28 +1,13 @@
 -- Ints in a run are in the range of ints; and the lowest bit of an int.
 use Rattle.std.proofs.Common.{◌≡◌, ℕ, suc, ◌<◌, ◌-◌, ℤ, pos, negsuc, Option, Some, None, refl, ap, sym, subst, ◌∙◌, arith, lit<, lit≤}
-use Rattle.std.specs.Prelude.{option_map, FitsSigned, unwrap_or, ◌%◌, bit_and}
-use Rattle.std.specs.Int.{w8, w16, w32, int_wrap, int_bit_and, int_rem_euclid, cast_signed}
+use Rattle.pv_outcomes.proofs.Words.{option_map, FitsSigned, unwrap_or, ◌%◌, bit_and, w8, w16, w32, int_wrap, int_bit_and, int_rem_euclid, cast_signed, SFits-int_wrap, ints, Num, JType, ScalarOp, Iand, World, scalar_fits, scalar_exact, type_num, narrowed, shown, IsOfType, IsOfSort, IsWorld, length_of, some_of, no_some, num_of, value_of, wider, low_fits, InRange}
 use Rattle.std.specs.FinMap.{get}
-use Rattle.std.proofs.lemmas.Int.{SFits-int_wrap, ints}
 use Rattle.std.proofs.lemmas.Nat.{and_mask}
 use Rattle.std.proofs.Math.Nat.{mod-lt}
-use Rattle.pv_value.specs.declared.number.Num.{Num}
 use Rattle.pv_value.specs.declared.number.Num.TheVariants as num
-use Rattle.pv_value.specs.declared.descriptor.JType.{JType}
 use Rattle.pv_value.specs.declared.descriptor.JType.TheVariants as jtype
-use Rattle.pv_value.specs.declared.operation.ScalarOp.{ScalarOp}
-use Rattle.pv_value.specs.declared.operation.ScalarOp.TheVariants.{Iand}
-use Rattle.pv_value.specs.declared.world.World.{World}
 use Rattle.pv_value.specs.Operations as operation
-use Rattle.pv_value.proofs.Cited.{scalar_fits, scalar_exact, type_num}
-use Rattle.pv_value.specs.Narrowing.{narrowed, shown}
-use Rattle.pv_value.specs.Inputs.{IsOfType, IsOfSort}
 use Rattle.pv_value.specs.Numbers.{IsNum}
-use Rattle.pv_value.specs.Worlds.{IsWorld, length_of}
-use Rattle.pv_frame.proofs.Cited.{some_of, no_some}
-use Rattle.pv_machine.specs.Machine.{num_of, value_of}
-use Rattle.pv_denote.proofs.Cited.{wider, low_fits}
-use Rattle.pv_outcomes.specs.Matches.{InRange}
 
 -- ---- where ints come from
 

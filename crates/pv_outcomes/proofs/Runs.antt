@@ -1,35 +1,12 @@
 -- A block of a program, run by the machine.
 use Rattle.std.proofs.Common.{◌≡◌, ℕ, zero, suc, ◌+◌, ◌<◌, Bool, true, false, List, [], ◌∷◌, length, Option, refl, ap, sym, subst, ◌∙◌, arith, ◌==◌, if◌then◌else◌}
-use Rattle.std.specs.Prelude.{◌⊎◌, map, unwrap_or}
-use Rattle.std.specs.List.{AllZip, AllByRecursion}
-use Rattle.std.proofs.lemmas.Bool.Decides.{nat_tests}
+use Rattle.pv_outcomes.proofs.Words.{◌⊎◌, map, unwrap_or, AllZip, AllByRecursion, nat_tests, Num, World, Input, Val, IsWorld, Sort, Action, sort_of, sort_of_local, Program, IsAt, Frame, Flows, State, Now, running, step, perform_at, performed, frame_of, Part, Exit, Chain, InChain, PartIs, after, local_slot, stack_slot, by_turns, slots, Cell, Held, local_part, stack_part, local_cells, stack_cells, held_at, slots_of, EndsWell, IsCleanProgram, InRange, StackIs, LocalIs, Matches, chain_of, IsBlock, ends, goes_on, turns_both, turns_local, turns_stack}
 use Rattle.std.proofs.lemmas.List.{length-map}
-use Rattle.pv_value.specs.declared.number.Num.{Num}
-use Rattle.pv_value.specs.declared.world.World.{World}
-use Rattle.pv_value.specs.declared.outcome.Input.{Input}
 use Rattle.pv_value.specs.declared.outcome.Fault.TheVariants as fault
-use Rattle.pv_value.specs.declared.outcome.Val.{Val}
 use Rattle.pv_value.specs.declared.outcome.Val.TheVariants as val
-use Rattle.pv_value.specs.Worlds.{IsWorld}
-use Rattle.pv_frame.specs.declared.sort.Sort.{Sort}
 use Rattle.pv_frame.specs.declared.sort.Sort.TheVariants as sort
-use Rattle.pv_frame.specs.declared.action.Action.{Action}
-use Rattle.pv_frame.specs.Effects.{sort_of, sort_of_local}
-use Rattle.pv_frame.specs.declared.program.Program.{Program}
-use Rattle.pv_frame.specs.Programs.{IsAt}
-use Rattle.pv_frame.specs.declared.frame.Frame.{Frame}
-use Rattle.pv_frame.specs.Frames.{Flows}
-use Rattle.pv_machine.specs.Machine.{State, Now, running, step, perform_at, performed}
-use Rattle.pv_machine.specs.Runs.{frame_of}
 use Rattle.pv_denote.specs.Denote.{strict}
-use Rattle.pv_equations.specs.Flow.{Part, Exit, Chain, InChain}
-use Rattle.pv_conversion.specs.Runs.{PartIs}
-use Rattle.pv_conversion.specs.Outcomes.{Goes as Onward, then as followed, after}
-use Rattle.pv_runs.specs.Held.{local_slot, stack_slot, by_turns, slots, Cell, Held, local_part, stack_part, local_cells, stack_cells, held_at, slots_of}
-use Rattle.pv_runs.specs.Clean.{EndsWell, IsCleanProgram}
-use Rattle.pv_outcomes.specs.Matches.{InRange, StackIs, LocalIs, Matches}
-use Rattle.pv_runs.specs.Chains.{chain_of}
-use Rattle.pv_runs.proofs.Cited.{IsBlock, ends, goes_on, turns_both, turns_local, turns_stack}
+use Rattle.pv_conversion.specs.Outcomes.{Goes as Onward, then as followed}
 use Rattle.pv_outcomes.proofs.States.{LocalsHeld, StackHeld, next_of, steps}
 use Rattle.pv_outcomes.proofs.Acts.{M, steps_on}
 use Rattle.pv_outcomes.proofs.Lasts.{Leaves}

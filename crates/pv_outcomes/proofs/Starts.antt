@@ -1,38 +1,18 @@
 -- The slots at the entry, and the state in which a method starts.
 use Rattle.std.proofs.Common.{◌≡◌, ℕ, zero, suc, Bool, true, false, List, [], ◌∷◌, ◌++◌, length, Option, Some, None, refl, ap, sym, subst, ◌∙◌, append_assoc, length-append, arith}
-use Rattle.std.specs.Prelude.{slice_get, replicate}
-use Rattle.std.specs.List.{AllZip, AllByRecursion, flat_map}
-use Rattle.pv_value.specs.declared.number.Num.{Num}
+use Rattle.pv_outcomes.proofs.Words.{slice_get, replicate, AllZip, AllByRecursion, flat_map, Num, JType, World, Input, Val, IsOfType, Fits, Program, Frame, Agrees, some_of, locals_of, passed, padded, start, starts, param_of, Starts, local_slot, flow_of, InRange, Block, Forest, turns_both, turns_local}
 use Rattle.pv_value.specs.declared.number.Num.TheVariants as num
-use Rattle.pv_value.specs.declared.descriptor.JType.{JType}
 use Rattle.pv_value.specs.declared.descriptor.JType.TheVariants as jtype
-use Rattle.pv_value.specs.declared.world.World.{World}
-use Rattle.pv_value.specs.declared.outcome.Input.{Input}
 use Rattle.pv_value.specs.declared.outcome.Fault.TheVariants as fault
-use Rattle.pv_value.specs.declared.outcome.Val.{Val}
 use Rattle.pv_value.specs.declared.outcome.Val.TheVariants as val
-use Rattle.pv_value.specs.Inputs.{IsOfType, Fits}
-use Rattle.pv_frame.specs.declared.program.Program.{Program}
-use Rattle.pv_frame.specs.declared.frame.Frame.{Frame}
-use Rattle.pv_frame.specs.Frames.{Agrees}
-use Rattle.pv_frame.proofs.Cited.{some_of}
-use Rattle.pv_machine.specs.Machine.{locals_of, passed, padded, start}
-use Rattle.pv_machine.proofs.Cited.{starts}
 use Rattle.pv_graph.specs.declared.node.Op.{Op}
 use Rattle.pv_graph.specs.declared.node.Op.TheVariants as op
 use Rattle.pv_graph.specs.declared.node.OpSort.{OpSort}
 use Rattle.pv_graph.specs.declared.node.OpSort.TheVariants as opsort
-use Rattle.pv_denote.specs.Denote.{strict, number_of, param_of}
-use Rattle.pv_conversion.specs.Runs.{Starts}
-use Rattle.pv_runs.specs.Held.{local_slot}
+use Rattle.pv_denote.specs.Denote.{strict, number_of}
 use Rattle.pv_outcomes.proofs.States.{LocalsHeld, At}
 use Rattle.pv_runs.specs.Entries.{param_ops, passed_ops, op_at, start_op}
-use Rattle.pv_runs.specs.Methods.{flow_of}
-use Rattle.pv_outcomes.specs.Matches.{InRange}
 use Rattle.pv_outcomes.proofs.Ranges.{type_range}
-use Rattle.pv_flow.specs.declared.block.Block.{Block}
-use Rattle.pv_loops.specs.declared.forest.Forest.{Forest}
-use Rattle.pv_runs.proofs.Cited.{turns_both, turns_local}
 use Rattle.pv_outcomes.proofs.Runs.{moved_on, moved_sum}
 
 abbrev value_of : Input → Op → Val

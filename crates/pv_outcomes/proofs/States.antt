@@ -1,17 +1,6 @@
 -- States of the machine where a block begins, and its steps.
-use Rattle.std.specs.Prelude.{◌≡◌, ℕ, suc, List, [], ◌∷◌, length, Option, Some}
-use Rattle.pv_value.specs.declared.number.Num.{Num}
-use Rattle.pv_value.specs.declared.world.World.{World}
-use Rattle.pv_value.specs.declared.outcome.Input.{Input}
-use Rattle.pv_value.specs.declared.outcome.Val.{Val}
+use Rattle.pv_outcomes.proofs.Words.{◌≡◌, ℕ, suc, List, [], ◌∷◌, length, Option, Some, Num, World, Input, Val, Program, Frame, State, Now, running, ended, step, IsTypedState, Next, Goes, Stops, local_slot, stack_slot, InRange}
 use Rattle.pv_value.specs.declared.outcome.Val.TheVariants as val
-use Rattle.pv_frame.specs.declared.program.Program.{Program}
-use Rattle.pv_frame.specs.declared.frame.Frame.{Frame}
-use Rattle.pv_machine.specs.Machine.{State, Now, running, ended, step}
-use Rattle.pv_machine.specs.Runs.{IsTypedState}
-use Rattle.pv_conversion.specs.Outcomes.{Next, Goes, Stops}
-use Rattle.pv_runs.specs.Held.{local_slot, stack_slot}
-use Rattle.pv_outcomes.specs.Matches.{InRange}
 
 -- locals from local k on: each that holds a value has it in its slot
 abbrev pub LocalsHeld : (ℕ → Val) → ℕ → List (Option Num) → Type 0

@@ -1,33 +1,17 @@
 -- Tests: what their parts say where their operands have values.
 use Rattle.std.proofs.Common.{◌≡◌, ℕ, suc, ℤ, pos, Bool, true, false, not, List, [], ◌∷◌, Some, refl, subst, inl, inr, arith, ◌==◌, if◌then◌else◌}
-use Rattle.std.specs.Prelude.{int_lt, map}
-use Rattle.std.specs.Int.{w32, int_wrap}
-use Rattle.std.specs.Ordering.{int_eq}
-use Rattle.std.specs.List.{AllZip}
-use Rattle.std.proofs.lemmas.Bool.Decides.{nat_tests}
-use Rattle.pv_value.specs.declared.number.Num.{Num}
+use Rattle.pv_outcomes.proofs.Words.{int_lt, map, w32, int_eq, AllZip, nat_tests, Num, World, Input, Fault, Val, sort_of, sort_of_word, test_takes, some_of, number_of, compares, tested, truth, is_clear, Part, Of, NoPart, More, Exit, Chain, PartIs, Chooses, Cell, null_part, int_part, StackIs, ieq, ilt, aeq, is_zero, compared, test_part}
+use Rattle.std.specs.Int.{int_wrap}
 use Rattle.pv_value.specs.declared.number.Num.TheVariants as num
-use Rattle.pv_value.specs.declared.world.World.{World}
-use Rattle.pv_value.specs.declared.outcome.Input.{Input}
-use Rattle.pv_value.specs.declared.outcome.Fault.{Fault}
-use Rattle.pv_value.specs.declared.outcome.Val.{Val}
 use Rattle.pv_value.specs.declared.outcome.Val.TheVariants as val
 use Rattle.pv_value.specs.Operations as operation
 use Rattle.pv_frame.specs.declared.action.Comparison.{Comparison}
 use Rattle.pv_frame.specs.declared.action.Comparison.TheVariants as comparison
 use Rattle.pv_frame.specs.declared.action.Test.{Test}
 use Rattle.pv_frame.specs.declared.action.Test.TheVariants as test
-use Rattle.pv_frame.specs.Effects.{sort_of, sort_of_word, test_takes}
-use Rattle.pv_frame.proofs.Cited.{some_of}
-use Rattle.pv_machine.specs.Machine.{number_of, compares, tested}
 use Rattle.pv_graph.specs.declared.node.Op.TheVariants as op
-use Rattle.pv_denote.specs.Denote.{strict, truth, is_clear}
+use Rattle.pv_denote.specs.Denote.{strict}
 use Rattle.pv_equations.specs.Flow as flow
-use Rattle.pv_equations.specs.Flow.{Part, Of, NoPart, More, Exit, Chain}
-use Rattle.pv_conversion.specs.Runs.{PartIs, Chooses}
-use Rattle.pv_runs.specs.Held.{Cell, null_part, int_part}
-use Rattle.pv_outcomes.specs.Matches.{StackIs}
-use Rattle.pv_runs.specs.Chains.{ieq, ilt, aeq, is_zero, compared, test_part}
 
 twice : (b : Bool) → b ≡ not (not b)
 twice true = refl

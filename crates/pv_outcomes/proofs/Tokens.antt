@@ -1,27 +1,9 @@
 -- The tokens at the exits of a block: each has a value, or is that of a call whose arguments have values.
 use Rattle.std.proofs.Common.{◌≡◌, ℕ, suc, Bool, true, false, List, [], ◌∷◌, Option, Some, None, refl, ap, sym, subst, ◌∙◌, inl, inr, if◌then◌else◌}
-use Rattle.std.specs.Prelude.{◌⊎◌}
-use Rattle.pv_pool.specs.Readers.{◌>>=◌}
-use Rattle.pv_value.specs.declared.name.Sym.{Sym}
-use Rattle.pv_value.specs.declared.descriptor.JType.{JType}
-use Rattle.pv_value.specs.declared.world.World.{World}
-use Rattle.pv_value.specs.declared.outcome.Input.{Input}
-use Rattle.pv_value.specs.declared.outcome.Val.{Val}
+use Rattle.pv_outcomes.proofs.Words.{◌⊎◌, ◌>>=◌, Sym, JType, World, Input, Val, Case, Action, Taken, popped, takes, Program, some_of, State, Part, Parts, Of, NoPart, More, call_token, Exit, Chain, Leave, InChain, PartIs, PartsAre, Cell, Held, cell_sort, call_parts, acted_on, to, branch, switch, unless_thrown, test_part, chain_with, given_chain, last_chain, ends_method, chain_of, Kept, acted_token, bound, mapped}
 use Rattle.pv_value.specs.declared.outcome.Val.TheVariants as val
-use Rattle.pv_insn.specs.declared.insn.Case.{Case}
-use Rattle.pv_frame.specs.declared.action.Action.{Action}
 use Rattle.pv_frame.specs.declared.action.Action.TheVariants as act
-use Rattle.pv_frame.specs.Stacks.{Taken, popped}
-use Rattle.pv_frame.specs.Effects.{takes}
-use Rattle.pv_frame.specs.declared.program.Program.{Program}
-use Rattle.pv_frame.proofs.Cited.{some_of}
-use Rattle.pv_machine.specs.Machine.{State}
 use Rattle.pv_equations.specs.Flow as flow
-use Rattle.pv_equations.specs.Flow.{Part, Parts, Of, NoPart, More, call_token, Exit, Chain, Leave, InChain}
-use Rattle.pv_conversion.specs.Runs.{PartIs, PartsAre}
-use Rattle.pv_runs.specs.Held.{Cell, Held, cell_sort, call_parts, acted_on}
-use Rattle.pv_runs.specs.Chains.{to, branch, switch, unless_thrown, test_part, chain_with, given_chain, last_chain, ends_method, chain_of}
-use Rattle.pv_runs.proofs.Cited.{Kept, acted_token, bound, mapped}
 use Rattle.pv_outcomes.proofs.Values.{numbers_of, parts_are}
 use Rattle.pv_outcomes.proofs.Acts.{M, takes_both}
 

@@ -1,26 +1,11 @@
 -- Operations on numbers give the same by the machine and by the graph.
 use Rattle.std.proofs.Common.{◌≡◌, ℕ, ℤ, pos, List, [], ◌∷◌, Option, Some, refl, ap, ◌∙◌, inl, inr}
-use Rattle.std.specs.Prelude.{map}
-use Rattle.std.specs.List.{AllZip}
-use Rattle.pv_value.specs.declared.number.Num.{Num}
+use Rattle.pv_outcomes.proofs.Words.{map, AllZip, Num, ScalarOp, World, Input, Val, bind, sort_of, sort_of_word, number_of, value_of, computed, shape, value_sort, Sort, numbers, operand, scalar_on, scalar_value, PartsAre, Cell, cell_sort, parts_of, InRange, StackIs}
 use Rattle.pv_value.specs.declared.number.Num.TheVariants as num
-use Rattle.pv_value.specs.declared.operation.ScalarOp.{ScalarOp}
-use Rattle.pv_value.specs.declared.world.World.{World}
-use Rattle.pv_value.specs.declared.outcome.Input.{Input}
-use Rattle.pv_value.specs.declared.outcome.Val.{Val}
 use Rattle.pv_value.specs.declared.outcome.Val.TheVariants as val
 use Rattle.pv_value.specs.Operations as operation
-use Rattle.pv_value.specs.Spelled.{bind}
-use Rattle.pv_frame.specs.Effects.{sort_of, sort_of_word}
 use Rattle.pv_machine.specs.Machine as machine
-use Rattle.pv_machine.specs.Machine.{number_of, value_of, computed}
-use Rattle.pv_machine.proofs.Cited.{shape, value_sort}
-use Rattle.pv_frame.specs.declared.sort.Sort.{Sort}
 use Rattle.pv_denote.specs.Denote as denote
-use Rattle.pv_denote.specs.Denote.{numbers, operand, scalar_on, scalar_value}
-use Rattle.pv_conversion.specs.Runs.{PartsAre}
-use Rattle.pv_runs.specs.Held.{Cell, cell_sort, parts_of}
-use Rattle.pv_outcomes.specs.Matches.{InRange, StackIs}
 use Rattle.pv_outcomes.proofs.Ranges.{value_range}
 
 abbrev pub numbers_of : List Num → List Val

@@ -1,12 +1,6 @@
 -- The actions of a block one by one.
-use Rattle.std.specs.Prelude.{◌≡◌, ℕ, suc, Some}
-use Rattle.pv_frame.specs.declared.action.Action.{Action}
+use Rattle.pv_runs.proofs.Words.{◌≡◌, ℕ, suc, Some, Action, Program, IsAt, Chain, Held, acted, chain_of}
 use Rattle.pv_frame.specs.declared.action.Action.TheVariants as act
-use Rattle.pv_frame.specs.declared.program.Program.{Program}
-use Rattle.pv_frame.specs.Programs.{IsAt}
-use Rattle.pv_equations.specs.Flow.{Chain}
-use Rattle.pv_runs.specs.Held.{Held, acted}
-use Rattle.pv_runs.specs.Chains.{chain_of}
 
 -- it only goes on to the next place
 abbrev pub IsSimple : Action → Type 0

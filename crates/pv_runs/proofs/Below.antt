@@ -1,33 +1,15 @@
 -- What a block computes names only the slots of what is held at its beginning.
 use Rattle.std.proofs.Common.{◌≡◌, ℕ, zero, suc, pos, ◌+◌, ◌*◌, ◌<◌, ◌≤◌, Bool, true, false, List, [], ◌∷◌, length, Option, Some, None, refl, ap, subst, inl, inr, arith, if◌then◌else◌}
-use Rattle.std.specs.Prelude.{◌==◌, slice_get, slice_set}
-use Rattle.std.specs.List.{AllZip, AllByRecursion}
-use Rattle.pv_pool.specs.Readers.{◌>>=◌}
-use Rattle.pv_value.specs.declared.name.Sym.{Sym}
+use Rattle.pv_runs.proofs.Words.{◌==◌, slice_get, slice_set, AllZip, AllByRecursion, ◌>>=◌, Sym, JType, Case, Sort, Comparison, Test, Action, Program, Frame, fits, is_wide, popped, moved, has_room, first_cleared, set_local, takes, some_of, no_some, if_some, Part, Parts, Slot, Exit, Chain, Leave, InChain, NamesBelow, AllBelow, InTests, local_place, stack_place, local_slot, stack_slot, Cell, Held, cell_sort, number_part, parts_of, unset, local_part, stack_part, local_cells, stack_cells, held_at, int_part, push, of_cell, local_cell, increased_cell, unit_part, clear_part, after_call, with_result, acted_on, acted, to, throw, give, compared, branch, switch, test_part, end_slots, fault_part, is_zero, narrowed_part, unless_thrown, unless_null, within, with_held, stores_ref, chain_with, given_chain, last_chain, ends_method, chain_of, acted_along}
 use Rattle.pv_value.specs.declared.number.Num.{Num}
 use Rattle.pv_value.specs.declared.number.Num.TheVariants as num
-use Rattle.pv_value.specs.declared.descriptor.JType.{JType}
 use Rattle.pv_value.specs.declared.descriptor.JType.TheVariants as jtype
 use Rattle.pv_value.specs.Operations as operation
-use Rattle.pv_insn.specs.declared.insn.Case.{Case}
-use Rattle.pv_frame.specs.declared.sort.Sort.{Sort}
 use Rattle.pv_frame.specs.declared.sort.Sort.TheVariants as sort
-use Rattle.pv_frame.specs.declared.action.Comparison.{Comparison}
 use Rattle.pv_frame.specs.declared.action.Comparison.TheVariants as comparison
-use Rattle.pv_frame.specs.declared.action.Test.{Test}
 use Rattle.pv_frame.specs.declared.action.Test.TheVariants as test
-use Rattle.pv_frame.specs.declared.action.Action.{Action}
 use Rattle.pv_frame.specs.declared.action.Action.TheVariants as act
-use Rattle.pv_frame.specs.declared.program.Program.{Program}
-use Rattle.pv_frame.specs.declared.frame.Frame.{Frame}
-use Rattle.pv_frame.specs.Stacks.{fits, is_wide, popped, moved, has_room, first_cleared, set_local}
-use Rattle.pv_frame.specs.Effects.{takes}
-use Rattle.pv_frame.proofs.Cited.{some_of, no_some, if_some}
 use Rattle.pv_equations.specs.Flow as flow
-use Rattle.pv_equations.specs.Flow.{Part, Parts, Slot, Exit, Chain, Leave, InChain, NamesBelow, AllBelow, InTests}
-use Rattle.pv_runs.specs.Held.{local_place, stack_place, local_slot, stack_slot, Cell, Held, cell_sort, number_part, parts_of, unset, local_part, stack_part, local_cells, stack_cells, held_at, int_part, push, of_cell, local_cell, increased_cell, unit_part, clear_part, after_call, with_result, acted_on, acted}
-use Rattle.pv_runs.specs.Chains.{to, throw, give, compared, branch, switch, test_part, end_slots, fault_part, is_zero, narrowed_part, unless_thrown, unless_null, within, with_held, stores_ref, chain_with, given_chain, last_chain, ends_method, chain_of}
-use Rattle.pv_runs.specs.Blocks.{acted_along}
 use Rattle.pv_runs.proofs.Options.{mapped, bound}
 use Rattle.pv_runs.proofs.Related.{popped_both, moved_both, taken_found, lists_found}
 use Rattle.pv_runs.proofs.Turns.{turns_both}

@@ -1,18 +1,13 @@
 -- The actions of a program are clean.
 use Rattle.std.proofs.Common.{◌≡◌, ℕ, zero, suc, ◌+◌, ◌-◌, ◌≤◌, pos, negsuc, Bool, arith, true, false, List, [], ◌∷◌, Option, Some, None, refl, sym, subst, inl, inr, lit<, lit≤}
+use Rattle.pv_runs.proofs.Words.{cases_lt, ltb-true, ◌==◌, ◌||◌, FitsSigned, option_map, if◌then◌else◌, slice_get, AllZip, AllByRecursion, Sym, JType, ◌>>=◌, constant_of, constant_under, class_name_under, member_under, Action, Program, IsAt, Does, IsProgramOf, ClassFile, Method, some_of, no_some, IsClean}
 use Rattle.std.specs.Int.{w8, w16, w32, cast_signed}
 use Rattle.std.proofs.Math.Facts.{sfits_to_z}
 use Rattle.std.proofs.Math.Dec.{ltb}
-use Rattle.std.proofs.lemmas.Bool.{cases_lt, ltb-true}
 use mir.Val.{sel}
-use Rattle.std.specs.Prelude.{◌==◌, ◌||◌, FitsSigned, option_map, if◌then◌else◌, slice_get}
-use Rattle.std.specs.List.{AllZip, AllByRecursion}
-use Rattle.pv_value.specs.declared.name.Sym.{Sym}
-use Rattle.pv_value.specs.declared.descriptor.JType.{JType}
 use Rattle.pv_pool.specs.declared.entry.Entry.{Entry}
 use Rattle.pv_pool.specs.declared.entry.Entry.TheVariants as entry
 use Rattle.pv_pool.specs.Pools.{entry_under}
-use Rattle.pv_pool.specs.Readers.{◌>>=◌, constant_of, constant_under, class_name_under, member_under}
 use Rattle.pv_pool.specs.declared.constant.Constant.{Constant}
 use Rattle.pv_pool.specs.declared.constant.Constant.TheVariants as constant
 use Rattle.pv_pool.specs.declared.constant.Member.{Member}
@@ -26,17 +21,10 @@ use Rattle.pv_insn.specs.Pieces.{instruction, Widened, AfterOpcode}
 use Rattle.pv_insn.specs.Codes.{AreFrom, Resolves, IsPlaced}
 use Rattle.pv_frame.specs.declared.used.Use.{Use}
 use Rattle.pv_frame.specs.declared.used.Use.TheVariants as used
-use Rattle.pv_frame.specs.declared.action.Action.{Action}
 use Rattle.pv_frame.specs.Actions.{plain_rows, local_rows, branch_rows, field_rows, class_rows, row_of, loads_narrow, loads_wide, names_class, use_of_constant, use_of_class, use_of_member, use_of, IsUse, IsFloatless, LoadsConstant, UsesMember, ActsWith, Acts}
-use Rattle.pv_frame.specs.declared.program.Program.{Program}
-use Rattle.pv_frame.specs.Programs.{IsAt, Does, IsProgramOf}
-use Rattle.pv_class.specs.declared.file.ClassFile.{ClassFile}
-use Rattle.pv_class.specs.declared.file.Method.{Method}
-use Rattle.pv_frame.proofs.Cited.{some_of, no_some}
 use Rattle.pv_value.specs.Spelled.{field_type}
 use Rattle.pv_value.proofs.Cited.{field_spelled, receivers_apart}
 use Rattle.pv_denote.proofs.Cited.{wider}
-use Rattle.pv_runs.specs.Clean.{IsClean}
 
 -- a number read in two's complement, also one that has more than 32 bits
 signed_range : (n : ℕ) → FitsSigned w32 (cast_signed w32 n)

@@ -1,27 +1,11 @@
 -- The exits of a block's chain are the departures of its last action, in their order.
 use Rattle.std.proofs.Common.{◌≡◌, ℕ, suc, pos, Bool, true, false, List, [], ◌∷◌, ◌++◌, map, Option, Some, None, refl, ap, sym, subst, ◌∙◌, inl, inr, if◌then◌else◌}
-use Rattle.std.specs.Prelude.{◌⊎◌, Contains}
-use Rattle.std.specs.List.{AllZip}
-use Rattle.pv_pool.specs.Readers.{◌>>=◌}
-use Rattle.pv_value.specs.declared.name.Sym.{Sym}
-use Rattle.pv_value.specs.declared.descriptor.JType.{JType}
-use Rattle.pv_insn.specs.declared.insn.Case.{Case}
-use Rattle.pv_frame.specs.declared.sort.Sort.{Sort}
+use Rattle.pv_runs.proofs.Words.{◌⊎◌, Contains, AllZip, ◌>>=◌, Sym, JType, Case, Sort, Comparison, Test, Action, popped, takes, some_of, contains_first, contains_more, contains_cases, contains_none, Departure, Goes, Returns, Throws, branches_on_no, branched, departures, Part, Exit, Chain, Leave, InChain, Cell, Held, cell_sort, int_part, push, after_call, acted_on, to, throw, give, compared, branch, switch, test_part, chain_with, given_chain, last_chain, ends_method, chain_of}
 use Rattle.pv_frame.specs.declared.sort.Sort.TheVariants as sort
-use Rattle.pv_frame.specs.declared.action.Comparison.{Comparison}
 use Rattle.pv_frame.specs.declared.action.Comparison.TheVariants as comparison
-use Rattle.pv_frame.specs.declared.action.Test.{Test}
 use Rattle.pv_frame.specs.declared.action.Test.TheVariants as test
-use Rattle.pv_frame.specs.declared.action.Action.{Action}
 use Rattle.pv_frame.specs.declared.action.Action.TheVariants as act
-use Rattle.pv_frame.specs.Stacks.{popped}
-use Rattle.pv_frame.specs.Effects.{takes}
-use Rattle.pv_frame.proofs.Cited.{some_of, contains_first, contains_more, contains_cases, contains_none}
-use Rattle.pv_flow.specs.Exits.{Departure, Goes, Returns, Throws, branches_on_no, branched, departures}
 use Rattle.pv_equations.specs.Flow as flow
-use Rattle.pv_equations.specs.Flow.{Part, Exit, Chain, Leave, InChain}
-use Rattle.pv_runs.specs.Held.{Cell, Held, cell_sort, int_part, push, after_call, acted_on}
-use Rattle.pv_runs.specs.Chains.{to, throw, give, compared, branch, switch, test_part, chain_with, given_chain, last_chain, ends_method, chain_of}
 use Rattle.pv_runs.proofs.Options.{mapped, bound}
 
 -- the exits of a chain, in the order of its tests

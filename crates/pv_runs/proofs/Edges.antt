@@ -1,29 +1,11 @@
 -- The exits of the blocks of a flow, by number, are its edges.
 use Rattle.std.proofs.Common.{◌≡◌, ℕ, zero, suc, ◌-◌, ◌<◌, true, false, List, [], ◌∷◌, Option, Some, None, refl, ap, sym, subst, ◌∙◌, inl, inr, arith, if◌then◌else◌}
-use Rattle.std.specs.Prelude.{◌⊎◌, ◌==◌, slice_get, unwrap_or, option_map, Contains}
-use Rattle.std.specs.List.{AllZip}
-use Rattle.std.proofs.lemmas.Bool.{eqb-true, eq-eqb}
+use Rattle.pv_runs.proofs.Words.{◌⊎◌, ◌==◌, slice_get, unwrap_or, option_map, Contains, AllZip, eqb-true, eq-eqb, ◌>>=◌, Action, Program, Frame, successors, IsAt, some_of, no_some, contains_cases, contains_none, Block, Departure, Goes, Returns, Throws, departures, IsBlockAt, IsExit, IsFlow, edges_of, goes_to_successors, edges_of_code, edges_within, Dest, To, End, Return, Exit, Chain, Leave, InChain, Held, to, chain_of, held_first, acted_along, place_chain, number_at, numbered_dest, numbered_exit, numbered, no_chain, block_chain}
 use Rattle.pv_list.proofs.Cited.{found}
-use Rattle.pv_pool.specs.Readers.{◌>>=◌}
-use Rattle.pv_frame.specs.declared.action.Action.{Action}
-use Rattle.pv_frame.specs.declared.program.Program.{Program}
-use Rattle.pv_frame.specs.declared.frame.Frame.{Frame}
-use Rattle.pv_frame.specs.Effects.{successors}
-use Rattle.pv_frame.specs.Programs.{IsAt}
-use Rattle.pv_frame.proofs.Cited.{some_of, no_some, contains_cases, contains_none}
 use Rattle.pv_flow.specs.declared.block.Exit as kinds
 use Rattle.pv_flow.specs.declared.block.Exit.TheVariants as exit
-use Rattle.pv_flow.specs.declared.block.Block.{Block}
-use Rattle.pv_flow.specs.Exits.{Departure, Goes, Returns, Throws, departures}
-use Rattle.pv_flow.specs.Blocks.{IsBlockAt, IsExit, IsFlow}
 use Rattle.pv_flow.specs.Edges as edges
-use Rattle.pv_flow.specs.Edges.{edges_of}
-use Rattle.pv_flow.proofs.Cited.{goes_to_successors, edges_of_code, edges_within}
 use Rattle.pv_equations.specs.Flow as flow
-use Rattle.pv_equations.specs.Flow.{Dest, To, End, Return, Exit, Chain, Leave, InChain}
-use Rattle.pv_runs.specs.Held.{Held}
-use Rattle.pv_runs.specs.Chains.{to, chain_of}
-use Rattle.pv_runs.specs.Blocks.{held_first, acted_along, place_chain, number_at, numbered_dest, numbered_exit, numbered, no_chain, block_chain}
 use Rattle.pv_runs.proofs.Options.{bound}
 use Rattle.pv_runs.proofs.Departures.{Departs, HasExits, has_exits, exit_departs, departs_exit}
 

@@ -1,21 +1,10 @@
 -- Inferred frames have as many locals as the method, and no more operands than its stack has room for.
 use Rattle.std.proofs.Common.{◌≡◌, ℕ, zero, suc, ◌-◌, ◌≤◌, true, false, List, [], ◌∷◌, length, replicate, Option, Some, None, refl, ap, sym, subst, ◌∙◌, inl, inr, arith, if◌then◌else◌}
-use Rattle.std.specs.Prelude.{option_map, Contains}
-use Rattle.std.specs.List.{AllByRecursion, sum_by}
-use Rattle.std.proofs.lemmas.List.{length-append, length-replicate}
+use Rattle.pv_runs.proofs.Words.{option_map, Contains, AllByRecursion, sum_by, length-append, length-replicate, ◌>>=◌, Sort, Action, Program, Frame, is_wide, width, popped, moved, has_room, first_cleared, set_local, takes, gives, successors, same, holds, pushed, padded_sorts, passed_to, frame_done, frame_after, IsFrameAt, LeadsTo, IsEnd, Reached, first, next, AreFrames, some_of, no_some, if_some, framed, contains_cases, contains_none}
 use Rattle.std.proofs.lemmas.List.Sums.{sum_by-cons}
 use Rattle.std.proofs.lemmas.Slice.Zip.{AllZip-long}
-use Rattle.pv_pool.specs.Readers.{◌>>=◌}
-use Rattle.pv_frame.specs.declared.sort.Sort.{Sort}
 use Rattle.pv_frame.specs.declared.sort.Sort.TheVariants as sort
-use Rattle.pv_frame.specs.declared.action.Action.{Action}
 use Rattle.pv_frame.specs.declared.action.Action.TheVariants as act
-use Rattle.pv_frame.specs.declared.program.Program.{Program}
-use Rattle.pv_frame.specs.declared.frame.Frame.{Frame}
-use Rattle.pv_frame.specs.Stacks.{is_wide, width, popped, moved, has_room, first_cleared, set_local}
-use Rattle.pv_frame.specs.Effects.{takes, gives, successors}
-use Rattle.pv_frame.specs.Frames.{same, holds, pushed, padded_sorts, passed_to, frame_done, frame_after, IsFrameAt, LeadsTo, IsEnd, Reached, first, next, AreFrames}
-use Rattle.pv_frame.proofs.Cited.{some_of, no_some, if_some, framed, contains_cases, contains_none}
 
 -- ---- an action leaves as many locals
 

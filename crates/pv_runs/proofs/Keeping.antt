@@ -1,26 +1,6 @@
 -- The tokens at the exits of a flow's blocks, and what its loops don't carry.
 use Rattle.std.proofs.Common.{◌≡◌, ℕ, zero, suc, ◌+◌, ◌-◌, ◌<◌, Bool, true, false, List, [], ◌∷◌, ◌++◌, length, Option, Some, None, refl, ap, sym, subst, ◌∙◌, inl, inr, arith}
-use Rattle.std.specs.Prelude.{◌⊎◌, not, nat_lt, slice_get, unwrap_or, option_map, Contains}
-use Rattle.std.specs.List.{list_any}
-use Rattle.std.proofs.lemmas.Bool.{or_parts, ltb-true}
-use Rattle.pv_pool.specs.Readers.{◌>>=◌}
-use Rattle.pv_frame.specs.declared.sort.Sort.{Sort}
-use Rattle.pv_frame.specs.declared.action.Action.{Action}
-use Rattle.pv_frame.specs.declared.program.Program.{Program}
-use Rattle.pv_frame.specs.declared.frame.Frame.{Frame}
-use Rattle.pv_frame.specs.Frames.{IsFrameAt, AreFrames}
-use Rattle.pv_frame.proofs.Cited.{some_of, no_some, contains_cases, contains_none}
-use Rattle.pv_flow.specs.declared.block.Block.{Block}
-use Rattle.pv_flow.specs.Exits.{Departure, Goes, Returns, Throws, departures}
-use Rattle.pv_flow.specs.Blocks.{IsFlow}
-use Rattle.pv_flow.specs.Edges.{edges_of}
-use Rattle.pv_loops.specs.declared.forest.Forest.{Forest}
-use Rattle.pv_loops.specs.Forests.{IsForest}
-use Rattle.pv_loops.specs.Ranks.{around}
-use Rattle.pv_equations.specs.Flow.{Part, Slot, To, Exit, InChain, TokenPart, kept, calls}
-use Rattle.pv_runs.specs.Held.{local_place, local_slot, by_turns, Cell, Held, local_part, stack_part, slots_of, local_cells, stack_cells, held_at, call_parts, acted_on}
-use Rattle.pv_runs.specs.Blocks.{held_first, block_chain}
-use Rattle.pv_runs.specs.Carrying.{writes_along, block_writes, always_carried, members_of, writes_in, carries}
+use Rattle.pv_runs.proofs.Words.{◌⊎◌, not, nat_lt, slice_get, unwrap_or, option_map, Contains, list_any, or_parts, ltb-true, ◌>>=◌, Sort, Action, Program, Frame, IsFrameAt, AreFrames, some_of, no_some, contains_cases, contains_none, Block, Departure, Goes, Returns, Throws, departures, IsFlow, edges_of, Forest, IsForest, around, Part, Slot, To, Exit, InChain, TokenPart, kept, calls, local_place, local_slot, by_turns, Cell, Held, local_part, stack_part, slots_of, local_cells, stack_cells, held_at, call_parts, acted_on, held_first, block_chain, writes_along, block_writes, always_carried, members_of, writes_in, carries}
 use Rattle.pv_runs.proofs.Turns.{turns_local}
 use Rattle.pv_runs.proofs.Tokens.{acted_token}
 use Rattle.pv_runs.proofs.Departures.{Departs, exit_departs}

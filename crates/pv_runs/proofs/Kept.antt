@@ -1,23 +1,8 @@
 -- What a block leaves as it is: the slots that none of its actions writes; and the tokens at its exits.
 use Rattle.std.proofs.Common.{◌≡◌, ℕ, zero, suc, ◌+◌, Bool, true, false, List, [], ◌∷◌, map, Option, Some, None, refl, ap, sym, subst, ◌∙◌, inl, inr, arith, if◌then◌else◌}
-use Rattle.std.specs.Prelude.{◌||◌, ◌&&◌, ◌==◌, slice_get, slice_set, unwrap_or, option_map}
-use Rattle.std.proofs.lemmas.Bool.{eq-eqb, or_parts}
-use Rattle.pv_pool.specs.Readers.{◌>>=◌}
-use Rattle.pv_value.specs.declared.name.Sym.{Sym}
-use Rattle.pv_value.specs.declared.descriptor.JType.{JType}
-use Rattle.pv_frame.specs.declared.sort.Sort.{Sort}
+use Rattle.pv_runs.proofs.Words.{◌||◌, ◌&&◌, ◌==◌, slice_get, slice_set, unwrap_or, option_map, eq-eqb, or_parts, ◌>>=◌, Sym, JType, Sort, Action, Program, is_wide, popped, moved, has_room, first_cleared, set_local, takes, IsAt, some_of, if_some, popped_sorts, Part, TokenPart, calls, local_slot, Cell, Held, cell_sort, local_cell, increased_cell, unset, local_part, stack_part, push, call_parts, with_result, slots_of, acted_on, acted, holds_wide, writes_local, writes_heap, writes, writes_along, acted_along}
 use Rattle.pv_frame.specs.declared.sort.Sort.TheVariants as sort
-use Rattle.pv_frame.specs.declared.action.Action.{Action}
 use Rattle.pv_frame.specs.declared.action.Action.TheVariants as act
-use Rattle.pv_frame.specs.declared.program.Program.{Program}
-use Rattle.pv_frame.specs.Stacks.{is_wide, popped, moved, has_room, first_cleared, set_local}
-use Rattle.pv_frame.specs.Effects.{takes}
-use Rattle.pv_frame.specs.Programs.{IsAt}
-use Rattle.pv_frame.proofs.Cited.{some_of, if_some, popped_sorts}
-use Rattle.pv_equations.specs.Flow.{Part, TokenPart, calls}
-use Rattle.pv_runs.specs.Held.{local_slot, Cell, Held, cell_sort, local_cell, increased_cell, unset, local_part, stack_part, push, call_parts, with_result, slots_of, acted_on, acted}
-use Rattle.pv_runs.specs.Carrying.{holds_wide, writes_local, writes_heap, writes, writes_along}
-use Rattle.pv_runs.specs.Blocks.{acted_along}
 use Rattle.pv_runs.proofs.Tokens.{Kept, acted_token}
 use Rattle.pv_runs.proofs.Options.{mapped, bound}
 use Rattle.pv_runs.proofs.Turns.{turns_local}

@@ -1,4 +1,5 @@
 -- what operands and slots have in common, whatever stands in them
+mod Words
 pub mod Options
 pub mod Related
 pub mod Turns

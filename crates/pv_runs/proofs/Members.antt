@@ -1,19 +1,12 @@
 -- A node is among the members of each loop around it.
 use Rattle.std.proofs.Common.{◌≡◌, ℕ, zero, suc, ◌<◌, true, false, Bool, List, [], ◌∷◌, ◌++◌, length, get_or, Option, Some, None, refl, ap, sym, subst, ◌∙◌, inl, inr, arith, if◌then◌else◌}
-use Rattle.std.specs.Prelude.{◌==◌, slice_get}
+use Rattle.pv_runs.proofs.Words.{◌==◌, slice_get, cases_lt, eqb-true, eq-eqb, get_or_past, slice_get-get_or, some_of, no_some, Forest, AreAround, outermost, inner, IsForest, header_and, around, members_of}
 use Rattle.std.specs.List.{Contains}
-use Rattle.std.proofs.lemmas.Bool.{cases_lt, eqb-true, eq-eqb}
-use Rattle.std.proofs.lemmas.List.{get_or_past}
-use Rattle.std.proofs.lemmas.Option.{slice_get-get_or}
-use Rattle.pv_frame.proofs.Cited.{some_of, no_some}
 use Rattle.pv_loops.specs.declared.forest.Loop.{Loop}
-use Rattle.pv_loops.specs.declared.forest.Forest.{Forest}
 use Rattle.pv_loops.specs.declared.forest.TheConstants.{MAX_DEPTH}
 use Rattle.pv_loops.specs.Loops.{Inside, EdgeOf, Way, edge, more, IsLargest, IsHeader, IsLoop}
 use Rattle.pv_loops.specs.Loops as loop
-use Rattle.pv_loops.specs.Forests.{AreAround, outermost, inner, IsForest}
-use Rattle.pv_loops.specs.Ranks.{header_and, headers_from, around}
-use Rattle.pv_runs.specs.Carrying.{members_of}
+use Rattle.pv_loops.specs.Ranks.{headers_from}
 
 -- ---- the loop with a header
 

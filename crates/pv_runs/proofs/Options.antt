@@ -1,8 +1,6 @@
 -- Options that have a value.
 use Rattle.std.proofs.Common.{◌≡◌, Option, Some, None, refl}
-use Rattle.std.specs.Prelude.{option_map}
-use Rattle.pv_pool.specs.Readers.{◌>>=◌}
-use Rattle.pv_frame.proofs.Cited.{some_of}
+use Rattle.pv_runs.proofs.Words.{option_map, ◌>>=◌, some_of}
 
 -- from where the value comes
 pub mapped : {A B : Type 0} (f : A → B) (o : Option A) (b : B) → option_map f o ≡ Some b → (a : A) × (o ≡ Some a) × (f a ≡ b)

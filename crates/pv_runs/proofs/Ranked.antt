@@ -1,27 +1,10 @@
 -- The flow of a method's blocks and loops is ranked, and finite.
 use Rattle.std.proofs.Common.{◌<◌, ◌≡◌, ℕ, zero, suc, ◌+◌, ◌*◌, ◌-◌, List, ◌∷◌, length, Option, Some, None, refl, sym, subst, arith}
-use Rattle.std.specs.Prelude.{slice_get, unwrap_or, option_map}
-use Rattle.std.proofs.lemmas.List.{length-map}
-use Rattle.std.proofs.lemmas.Option.{slice_get_within}
-use Rattle.pv_pool.specs.Readers.{◌>>=◌}
-use Rattle.pv_class.specs.declared.file.ClassFile.{ClassFile}
-use Rattle.pv_class.specs.declared.file.Method.{Method}
-use Rattle.pv_frame.specs.declared.program.Program.{Program}
-use Rattle.pv_frame.specs.declared.frame.Frame.{Frame}
-use Rattle.pv_frame.specs.Frames.{AreFrames}
-use Rattle.pv_flow.specs.declared.block.Block.{Block}
-use Rattle.pv_flow.specs.Blocks.{IsFlow}
-use Rattle.pv_flow.specs.Edges.{targets_of, edges_of}
-use Rattle.pv_flow.proofs.Cited.{entry_block, edges_within}
-use Rattle.pv_loops.specs.declared.forest.Forest.{Forest}
+use Rattle.pv_runs.proofs.Words.{slice_get, unwrap_or, option_map, length-map, slice_get_within, ◌>>=◌, ClassFile, Method, Program, Frame, AreFrames, Block, IsFlow, targets_of, edges_of, entry_block, edges_within, Forest, IsForest, around, IsRanking, Part, Flow, To, Exit, Chain, InChain, LeadsBack, turns, passes, Shape, Compact, NamesBelow, InTests, IsFinite, place_chain, numbered, no_chain, block_chain}
 use Rattle.pv_loops.specs.Shapes.{IsShape}
-use Rattle.pv_loops.specs.Forests.{IsForest}
 use Rattle.pv_loops.proofs.Cited.{ranking}
-use Rattle.pv_loops.specs.Ranks.{around, IsRanking}
 use Rattle.pv_loops.specs.Ranks as ranks
-use Rattle.pv_equations.specs.Flow.{Part, Flow, To, Exit, Chain, InChain, LeadsBack, turns, passes, Shape, Compact, NamesBelow, InTests, IsFinite}
 use Rattle.pv_equations.specs.Flow as flow
-use Rattle.pv_runs.specs.Blocks.{place_chain, numbered, no_chain, block_chain}
 use Rattle.pv_runs.specs.Methods.{flow_of, IsShaped}
 use Rattle.pv_runs.specs.Laws.{IsRanked}
 use Rattle.pv_runs.proofs.Clean.{program_clean}

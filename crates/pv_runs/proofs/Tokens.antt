@@ -1,15 +1,8 @@
 -- The token after an action: the one before, or that of a call.
 use Rattle.std.proofs.Common.{◌≡◌, List, [], ◌∷◌, Option, Some, None, refl, subst, inl, inr}
-use Rattle.std.specs.Prelude.{◌⊎◌, slice_set}
-use Rattle.pv_value.specs.declared.name.Sym.{Sym}
-use Rattle.pv_value.specs.declared.descriptor.JType.{JType}
+use Rattle.pv_runs.proofs.Words.{◌⊎◌, slice_set, Sym, JType, Action, moved, has_room, set_local, some_of, if_some, Part, call_token, Cell, Held, cell_sort, unset, increased_cell, local_cell, push, call_parts, with_result, acted_on}
 use Rattle.pv_frame.specs.declared.sort.Sort.TheVariants as sort
-use Rattle.pv_frame.specs.declared.action.Action.{Action}
 use Rattle.pv_frame.specs.declared.action.Action.TheVariants as act
-use Rattle.pv_frame.specs.Stacks.{moved, has_room, set_local}
-use Rattle.pv_frame.proofs.Cited.{some_of, if_some}
-use Rattle.pv_equations.specs.Flow.{Part, call_token}
-use Rattle.pv_runs.specs.Held.{Cell, Held, cell_sort, unset, increased_cell, local_cell, push, call_parts, with_result, acted_on}
 use Rattle.pv_runs.proofs.Options.{mapped}
 
 -- the token is the one before, or that of a call with these operands

@@ -1,6 +1,5 @@
 -- Slots that take turns, as locals and places of the operand stack do.
-use Rattle.std.specs.Prelude.{◌≡◌, ℕ, zero, suc, refl}
-use Rattle.pv_runs.specs.Held.{local_place, stack_place, by_turns}
+use Rattle.pv_runs.proofs.Words.{◌≡◌, ℕ, zero, suc, refl, local_place, stack_place, by_turns}
 
 pub turns_both : {A B : Type 0} (P : A → B → Type 0) (l s : ℕ → A) (k t : ℕ → B) → ((i : ℕ) → P (l i) (k i)) → ((i : ℕ) → P (s i) (t i)) → (n : ℕ) → P (by_turns l s n) (by_turns k t n)
 turns_both P l s k t f g zero = f 0

@@ -1,34 +1,12 @@
 -- In well_typed frames each block of a program has its chain, where divisions have two operands, as those of a method's program do.
 use Rattle.std.proofs.Common.{◌≡◌, ℕ, zero, suc, pos, ◌+◌, ◌-◌, ◌≤◌, Bool, true, false, List, [], ◌∷◌, Option, Some, None, refl, ap, sym, subst, ◌∙◌, inl, inr, arith, if◌then◌else◌}
-use Rattle.std.specs.Prelude.{map, option_map, slice_get, slice_set, Contains}
-use Rattle.std.specs.List.{AllByRecursion}
-use Rattle.pv_pool.specs.Readers.{◌>>=◌}
-use Rattle.pv_value.specs.declared.descriptor.JType.{JType}
+use Rattle.pv_runs.proofs.Words.{map, option_map, slice_get, slice_set, Contains, AllByRecursion, ◌>>=◌, JType, Sort, Test, Action, Program, Frame, IsAt, Taken, popped, moved, has_room, set_local, sort_of_type, sort_of_word, sorts_of_result, test_takes, takes, successors, same, holds, frame_done, frame_after, Flows, IsFrameAt, LeadsTo, IsEnd, Finds, GoesOn, Reached, AreFrames, some_of, no_some, if_some, fits_same, popped_sorts, flows_flows, goes_from, by_sorts, popped_map, moved_map, has_room_map, set_local_map, flows_itself, reached_frame, Block, ends_block, Begins, IsSpan, IsFlow, goes_on, Part, Exit, Chain, Cell, Held, cell_sort, unset, of_cell, int_part, push, increased_cell, local_cells, stack_cells, held_at, with_result, acted_on, acted, to, branch, test_part, chain_with, given_chain, last_chain, ends_method, chain_of, acted_along, place_chain, IsClean}
 use Rattle.pv_value.specs.declared.descriptor.Descriptor.{Descriptor}
-use Rattle.pv_frame.specs.declared.sort.Sort.{Sort}
 use Rattle.pv_frame.specs.declared.sort.Sort.TheVariants as sort
-use Rattle.pv_frame.specs.declared.action.Test.{Test}
 use Rattle.pv_frame.specs.declared.action.Test.TheVariants as test
-use Rattle.pv_frame.specs.declared.action.Action.{Action}
 use Rattle.pv_frame.specs.declared.action.Action.TheVariants as act
-use Rattle.pv_frame.specs.declared.program.Program.{Program}
-use Rattle.pv_frame.specs.declared.frame.Frame.{Frame}
-use Rattle.pv_frame.specs.Programs.{IsAt}
-use Rattle.pv_frame.specs.Stacks.{Taken, popped, moved, has_room, set_local}
-use Rattle.pv_frame.specs.Effects.{sort_of_type, sort_of_word, sorts_of_result, test_takes, takes, successors}
-use Rattle.pv_frame.specs.Frames.{same, holds, frame_done, frame_after, Flows, IsFrameAt, LeadsTo, IsEnd, Finds, GoesOn, Reached, AreFrames}
 use Rattle.pv_frame.specs.Frames as frame
-use Rattle.pv_frame.proofs.Cited.{some_of, no_some, if_some, fits_same, popped_sorts, flows_flows, goes_from, by_sorts, popped_map, moved_map, has_room_map, set_local_map, flows_itself, reached_frame}
-use Rattle.pv_flow.specs.declared.block.Block.{Block}
-use Rattle.pv_flow.specs.Exits.{ends_block}
-use Rattle.pv_flow.specs.Blocks.{Begins, IsSpan, IsFlow}
 use Rattle.pv_flow.specs.Blocks as blocks
-use Rattle.pv_flow.proofs.Cited.{goes_on}
-use Rattle.pv_equations.specs.Flow.{Part, Exit, Chain}
-use Rattle.pv_runs.specs.Held.{Cell, Held, cell_sort, unset, of_cell, int_part, push, increased_cell, local_cells, stack_cells, held_at, with_result, acted_on, acted}
-use Rattle.pv_runs.specs.Chains.{to, branch, test_part, chain_with, given_chain, last_chain, ends_method, chain_of}
-use Rattle.pv_runs.specs.Blocks.{acted_along, place_chain}
-use Rattle.pv_runs.specs.Clean.{IsClean}
 use Rattle.pv_runs.proofs.Frames.{no_successor, each_of}
 use Rattle.pv_runs.proofs.Actions as actions
 use Rattle.pv_runs.proofs.Actions.{IsSimple, IsBlock}

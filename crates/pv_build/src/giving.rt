@@ -236,7 +236,7 @@ fn sources(
     ensures sources { IfOk result (λ ks. AreSourcesFor walk.now.method.now g.new walk.now.made.now.names walk.now.at walk.now.target nodes.now ks.items) }
     ensures grows { GrowsIn (length (loops_at walk.now.method.now walk.now.at)) g.old g.new }
 {
-    let mut sources = Vec::new(alloc);
+    let mut sources = Vec::with_capacity(alloc, nodes.len())?;
     for node in nodes {
         let next = source(alloc, g, walk, *node)?;
         sources.push(next)?;

@@ -49,7 +49,7 @@ pub(crate) fn given_nodes(
 ) -> Result<Vec<NodeId>, Memory>
     ensures { IfOk result (λ given. given.items ≡ given_nodes sources.now (number slot)) }
 {
-    let mut given = Vec::new(alloc);
+    let mut given = Vec::with_capacity(alloc, sources.len())?;
     for source in sources {
         given.push(given_by(source, slot).unwrap_or(0))?;
     }

@@ -87,7 +87,7 @@ pub fn fold(
     ensures sort { IfOk result (λ made. FoldKeepsSort g.old tree.now given.now dead g.new made.items) }
     ensures grows { Grows g.old g.new }
 {
-    let mut made = Vec::new(alloc);
+    let mut made = Vec::with_capacity(alloc, tree.len())?;
     for i in 0..tree.len() {
         let next = one(alloc, g, tree, given, dead, &made, i)?;
         made.push(next)?;

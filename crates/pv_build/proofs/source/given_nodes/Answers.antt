@@ -4,7 +4,7 @@ use Rattle.pv_build.proofs.Lists.{map_more}
 use Rattle.pv_build.proofs.source.given_nodes.Goals as goal
 
 pub loop-source-init : goal.loop-source-init
-loop-source-init c = c.new-given.ensures.items
+loop-source-init c = c.in_ok-given.ensures.items
 
 pub loop-source-preserved : goal.loop-source-preserved
 loop-source-preserved c =

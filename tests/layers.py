@@ -22,7 +22,7 @@ LAYERS = [
     ("what it may answer", ["pv_heights"]),
     ("certificates read", ["pv_rules", "pv_check", "pv_lemmas", "pv_chain", "pv_cert", "pv_endings"]),
     ("axioms and steps", ["pv_axioms", "pv_steps", "pv_scalar", "pv_loopax", "pv_heapax", "pv_choiceax", "pv_pattern"]),
-    ("building graphs", ["pv_build", "pv_block", "pv_fold", "pv_terms", "pv_decide"]),
+    ("building graphs", ["pv_build", "pv_layout", "pv_block", "pv_fold", "pv_terms", "pv_decide"]),
     ("why they are right", ["pv_outcomes", "pv_conversion", "pv_runs", "pv_equations"]),
     ("methods", ["pv_refute", "pv_machine", "pv_flow", "pv_live", "pv_frame", "pv_loops"]),
     ("graphs", ["pv_counted", "pv_alike", "pv_denote", "pv_graph"]),

@@ -24,8 +24,8 @@ use Rattle.pv_build.specs.Stages.{IsMethod, IsLoopAt, flow_in, loops_at, loops_a
 use Rattle.pv_build.specs.Giving.{scope_at, IsTargetIn}
 use Rattle.pv_build.specs.Opening.{IsOuter}
 use Rattle.pv_build.specs.Building.{IsOwnLoop}
-use Rattle.pv_build.proofs.Trees.{ranked}
-use Rattle.pv_build.proofs.Headers as headers
+use Rattle.pv_layout.proofs.Cited.{ranked}
+use Rattle.pv_layout.proofs.Cited as layout
 
 -- ---- lists
 
@@ -90,7 +90,7 @@ module _ (m : Method) (is : IsMethod m) where
       go (Some p) e = let x = is.routine.shaped.loops.loops i l there in parent_low p l x.around x.outer e
 
   pub no_loops : loops_at m None ≡ []
-  no_loops = headers.up_none m.typed.now.program m.typed.now.frames m.flow.now.blocks m.forest.now is.routine
+  no_loops = layout.up_none m.typed.now.program m.typed.now.frames m.flow.now.blocks m.forest.now is.routine
 
   -- ---- loops around blocks
 
@@ -127,7 +127,7 @@ module _ (m : Method) (is : IsMethod m) where
 
   pub loop_of : (b h : ℕ) → In (loops_around m b) h → (i : ℕ) × (l : Loop) × (slice_get m.forest.now.loops.items i ≡ Some l) × (l.header ≡ h)
   loop_of b h i =
-      let q = headers.around_listed m.typed.now.program m.typed.now.frames m.flow.now.blocks m.forest.now is.routine b h (of_in (loops_around m b) h i) in
+      let q = layout.around_listed m.typed.now.program m.typed.now.frames m.flow.now.blocks m.forest.now is.routine b h (of_in (loops_around m b) h i) in
       (q.0, q.1, q.2, q.3)
 
   -- ---- regions
@@ -135,10 +135,10 @@ module _ (m : Method) (is : IsMethod m) where
   module _ (i : ℕ) (l : Loop) (there : slice_get m.forest.now.loops.items i ≡ Some l) where
     -- its own header, and those of the loops around it
     pub loops_own : loops_at m (Some i) ≡ l.header ∷ loops_at m l.parent
-    loops_own = headers.up_own m.typed.now.program m.typed.now.frames m.flow.now.blocks m.forest.now is.routine i l there
+    loops_own = layout.up_own m.typed.now.program m.typed.now.frames m.flow.now.blocks m.forest.now is.routine i l there
 
     pub header_own : loops_around m l.header ≡ l.header ∷ loops_at m l.parent
-    header_own = headers.around_header m.typed.now.program m.typed.now.frames m.flow.now.blocks m.forest.now is.routine i l there
+    header_own = layout.around_header m.typed.now.program m.typed.now.frames m.flow.now.blocks m.forest.now is.routine i l there
 
     pub header_around : loops_around m l.header ≡ loops_at m (Some i)
     header_around = header_own ∙ sym loops_own

@@ -2,7 +2,7 @@
 use Rattle.std.proofs.Common.{◌≡◌, ℕ, ◌<◌, ◌≤◌, List, [], ◌∷◌, ◌++◌, length, Option, Some, None, slice_get, ◌⊎◌, inl, inr, ⊎_elim, sym, ap, ◌∙◌, subst, arith}
 use Rattle.pv_build.proofs.Words.{slice_get_within, OpSort, Node, get_front, get_last, node_of, In, Graph, Named, named, Opens, Keeps, IsOfSort, IsUnnamed, StayNames, same_node, Within, name_last, names_within, some_of, Theta, Head, Slot, number, IsBegun, Begins, AreNodes}
 use Rattle.pv_graph.specs.declared.node.Op.TheVariants as op
-use Rattle.pv_build.proofs.Lists.{push_cases}
+use Rattle.pv_layout.proofs.Cited.{push_cases}
 use Rattle.pv_build.proofs.Staged.{as_long}
 
 pub keeps_then : (a b c : Graph) → Keeps a b → Keeps b c → Keeps a c

@@ -3,7 +3,7 @@ use Rattle.std.proofs.Common.{◌≡◌, ◌≢◌, ℕ, zero, suc, ◌+◌, ◌
 use Rattle.pv_build.proofs.Words.{eqb_tells, slice_get_within, Sort, some_of, Frame, OpSort, R, T, H, Graph, IsOfSort, IsSortedCell, local_slot, stack_slot, Cell, State, known_by, node_of_cell, local_node, stack_node, slot_of, IsCellOf, IsStateOf, op_sort, number_in, IsKnown, AreCellsOf}
 use Rattle.pv_frame.specs.declared.sort.Sort.TheVariants as sort
 use Rattle.pv_build.specs.declared.slot.Part.TheVariants as part
-use Rattle.pv_build.proofs.Lists.{zip_first, zip_long}
+use Rattle.pv_layout.proofs.Cited.{zip_first, zip_long}
 use Rattle.pv_build.proofs.Slotted.{turn_local, turn_stack, turns, local_some, stack_some}
 
 -- ---- sorts that are known

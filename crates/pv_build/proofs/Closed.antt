@@ -5,7 +5,7 @@ use Rattle.pv_graph.specs.declared.node.Op.TheVariants as op
 use Rattle.pv_decide.specs.declared.tree.Target.TheVariants as target
 use Rattle.pv_build.specs.declared.method.Stage.TheVariants as stage
 use Rattle.pv_build.proofs.Persisting.{Persists, sort_on, stands_on, tied_on, opened_on, closed_on, done_on}
-use Rattle.pv_build.proofs.Headers.{one_loop}
+use Rattle.pv_layout.proofs.Cited.{one_loop}
 use Rattle.pv_build.proofs.Looped.{outer_other, outer_less}
 use Rattle.pv_build.proofs.Around.{solution, loops_own}
 use Rattle.pv_build.proofs.Ties.{base_tied}

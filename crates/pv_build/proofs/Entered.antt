@@ -3,7 +3,7 @@ use Rattle.std.proofs.Common.{◌≡◌, ◌≢◌, ℕ, ◌<◌, List, length, 
 use Rattle.pv_build.proofs.Words.{slice_get_within, Frame, IsFrameAt, Block, T, Op, Graph, Exp, Heads, Values, AreEquations, never_exp, tree_of, Target, Named, Reads, AreNames, GrowsBy, IsOfSort, depths, names_stand, State, Method, Given, FrameGives, FrameFolds, FrameFoldsToSome, ReadsStart, ReadsFrame, IsMethod, IsLoopAt, flow_in, loops_at, loops_around, IsGivenFor, IsOuter, IsEnteredBy}
 use Rattle.pv_equations.specs.Equations.{Node}
 use Rattle.pv_decide.specs.declared.tree.Target.TheVariants as target
-use Rattle.pv_build.proofs.Trees as trees
+use Rattle.pv_layout.proofs.Cited as layout
 use Rattle.pv_build.proofs.Frames as frames
 use Rattle.pv_build.proofs.GivenFor.{given_on}
 use Rattle.pv_build.proofs.Persisting.{grown}
@@ -36,13 +36,13 @@ module _ (m : Method) (is : IsMethod m) (b : ℕ) (block : Block) (here : slice_
   tree_entering : Heads (loops_around m b) b → (v : Values) → AreEquations (flow_in m) v → (s : ℕ) → tree_of (flow_in m) v (loops_at m at) (Node b) s ≡ Some (v.entering b s)
   tree_entering heads v eqs s = elim outer [
     | inl z ↦ absurd (z.1 heads)
-    | inr z ↦ trees.entering_tree m.typed.now.program m.typed.now.frames m.flow.now.blocks m.forest.now is.routine v eqs b s (loops_at m at) low later z
+    | inr z ↦ layout.entering_tree m.typed.now.program m.typed.now.frames m.flow.now.blocks m.forest.now is.routine v eqs b s (loops_at m at) low later z
   ]
 
   -- .. and that of another block
   tree_value : (Heads (loops_around m b) b → ⊥) → (v : Values) → AreEquations (flow_in m) v → (s : ℕ) → tree_of (flow_in m) v (loops_at m at) (Node b) s ≡ Some (v.value b s)
   tree_value none v eqs s = elim outer [
-    | inl z ↦ trees.value_tree m.typed.now.program m.typed.now.frames m.flow.now.blocks m.forest.now is.routine v eqs b s (loops_at m at) low later z.0 (λ heads. none (subst (λ (A : List ℕ). Heads A b) (sym z.0) heads))
+    | inl z ↦ layout.value_tree m.typed.now.program m.typed.now.frames m.flow.now.blocks m.forest.now is.routine v eqs b s (loops_at m at) low later z.0 (λ heads. none (subst (λ (A : List ℕ). Heads A b) (sym z.0) heads))
     | inr z ↦ absurd (none (loops_at m at, z))
   ]
 

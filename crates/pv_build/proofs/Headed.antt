@@ -4,7 +4,7 @@ use Rattle.pv_build.proofs.Words.{found, extends_stand, slice_get_within, slice_
 use Rattle.pv_graph.specs.declared.node.Op.TheVariants as op
 use Rattle.pv_build.specs.declared.method.Stage.TheVariants as stage
 use Rattle.pv_build.specs.declared.slot.Part.TheVariants as part
-use Rattle.pv_build.proofs.Lists.{zip_each, zip_first, zip_long}
+use Rattle.pv_layout.proofs.Cited.{zip_each, zip_first, zip_long}
 use Rattle.pv_build.proofs.Slotted.{turn_local, turn_stack}
 use Rattle.pv_build.proofs.Persisting.{Persists, grown, sort_on, reads_on, state_on}
 use Rattle.pv_build.proofs.Staged.{flat_beyond, stage_grown}

@@ -1,15 +1,8 @@
--- What `laid_out` and `convert` give, from what the layers below give.
+-- What `convert` gives, from what the layers below give.
 use Rattle.std.proofs.Common.{ℕ, List, Option, Err, inr, sym, subst}
-use Rattle.pv_build.proofs.Words.{ClassFile, Refused, Program, Frame, IsAccepted, AreNeeded, Block, Answers, Forest, Graph, IsShaped, needed_agree, MeetsShape, IsLaidOut, IsRoutine, IsBuilt, Structures, IsRootOf, Converts}
+use Rattle.pv_build.proofs.Words.{ClassFile, Refused, Program, Frame, IsAccepted, AreNeeded, Block, Forest, Graph, IsShaped, needed_agree, IsLaidOut, IsRoutine, IsBuilt, Structures, IsRootOf, Converts}
 use Rattle.pv_class.specs.declared.file.Method.{Method}
 use Rattle.pv_frame.specs.declared.cause.Refused.TheVariants as refused
-
--- too many blocks
-pub too_many_blocks : (p : Program) (e : Refused) → Answers p (Err e) → Structures p (Err e)
-too_many_blocks p (refused.Cause c) h = subst (MeetsShape p) (sym h.0) (MeetsShape.blocks h.1)
-too_many_blocks p refused.Memory h = tt
-
--- ---- the conversion
 
 module _ (file : ClassFile) (m : Method) (p : Program) (frames : List (Option Frame)) (blocks : List Block) (forest : Forest) (accepted : IsAccepted file m p) (needed : AreNeeded p frames) (laid : IsLaidOut p blocks forest) where
   shaped : IsShaped file m p frames blocks forest

@@ -6,7 +6,7 @@ use Rattle.pv_flow.specs.declared.block.Exit as kinds
 use Rattle.pv_flow.specs.declared.block.Exit.TheVariants as exit
 use Rattle.pv_build.specs.declared.slot.Part.TheVariants as part
 use Rattle.pv_build.proofs.Slotted.{turn_local, turn_stack, local_some, stack_some}
-use Rattle.pv_build.proofs.Lists.{zip_at, zip_long}
+use Rattle.pv_layout.proofs.Cited.{zip_at, zip_long}
 use Rattle.pv_build.proofs.Cells.{node_known}
 
 -- ---- the block to which an exit goes

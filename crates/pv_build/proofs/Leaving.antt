@@ -4,7 +4,7 @@ use Rattle.pv_build.proofs.Words.{Loop, Graph, Values, AreEquations, tree_of, Na
 use Rattle.pv_equations.specs.Equations.{Leaving}
 use Rattle.pv_decide.specs.declared.tree.Target.TheVariants as target
 use Rattle.pv_build.proofs.GivenFor.{folds_left}
-use Rattle.pv_build.proofs.Trees.{ending_tree}
+use Rattle.pv_layout.proofs.Cited.{ending_tree}
 use Rattle.pv_build.proofs.Looped.{loops_same}
 use Rattle.pv_build.proofs.Around.{solution, header_own, loops_own}
 

@@ -1,19 +1,11 @@
--- words and lists
+-- words
 pub mod Words
-pub mod Lists
--- layout: which methods are structured, the loops around their blocks, and an order of the blocks
-pub mod Structures
+-- a method that is laid out, and the loops around its blocks
 pub mod Laid
-pub mod Trees
-pub mod Headers
 pub mod Around
 pub mod Turns
--- what each loop carries
+-- what a block takes of its actions
 pub mod Plain
-pub mod Storing
-pub mod Writing
-pub mod Uniting
-pub mod Carries
 -- what is made so far stays as the graph grows
 pub mod Persisting
 pub mod Staged
@@ -58,5 +50,3 @@ pub mod Shut
 -- the root is over the folds of the ends
 pub mod Rooting
 pub mod Finished
--- what other crates cite
-pub mod Cited

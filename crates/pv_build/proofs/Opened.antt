@@ -4,8 +4,8 @@ use Rattle.pv_build.proofs.Words.{found, set_same, set_other, set_length, IsTrue
 use Rattle.pv_graph.specs.declared.node.Op.TheVariants as op
 use Rattle.pv_build.specs.declared.method.Stage.TheVariants as stage
 use Rattle.pv_build.specs.declared.slot.Slot.TheVariants as slot
-use Rattle.pv_build.proofs.Trees as trees
-use Rattle.pv_build.proofs.Headers.{one_loop, depth_is, header_low}
+use Rattle.pv_layout.proofs.Cited as layout
+use Rattle.pv_layout.proofs.Cited.{one_loop, depth_is, header_low}
 use Rattle.pv_build.proofs.Around.{parent_at, header_own, deep_at}
 use Rattle.pv_build.proofs.Persisting.{Persists, sort_on, reads_on, tied_on, opened_on, closed_on, done_on}
 use Rattle.pv_build.proofs.Staged.{as_long, old_node, theta_inside}
@@ -85,7 +85,7 @@ module _ (m : Method) (is : IsMethod m) (i : ℕ) (l : Loop) (there : slice_get 
   pub depth_right : IsTrue (is_depth l.depth)
   depth_right =
       let z = depth_own ∙ ap length around_own in
-      let w = (trees.ranked m.typed.now.program m.typed.now.frames m.flow.now.blocks m.forest.now is.routine).deep h in
+      let w = (layout.ranked m.typed.now.program m.typed.now.frames m.flow.now.blocks m.forest.now is.routine).deep h in
       let d = depth_own in
       depth_fits l.depth (omega (arith, z)) (omega (arith, w, d))
 

@@ -4,7 +4,7 @@ use Rattle.pv_build.proofs.Words.{AllZip, AllByRecursion, drop-cons, slice_get-g
 use Rattle.pv_frame.specs.declared.sort.Sort.TheVariants as sort
 use Rattle.pv_graph.specs.declared.node.OpSort.TheVariants as sorts
 use Rattle.pv_build.proofs.Persisting.{Persists, grown, reads_on, tied_on}
-use Rattle.pv_build.proofs.Lists.{each_push, zip_long, zip_map, all_map}
+use Rattle.pv_layout.proofs.Cited.{each_push, zip_long, zip_map, all_map}
 
 -- ---- lists
 

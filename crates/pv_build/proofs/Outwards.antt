@@ -14,7 +14,7 @@ use Rattle.pv_build.specs.declared.method.Method.{Method}
 use Rattle.pv_build.specs.declared.method.Made.{Made}
 use Rattle.pv_build.specs.Stages.{IsMethod, IsLoopAt, HasRun, IsStage, loops_at, loops_around}
 use Rattle.pv_build.specs.Building.{HasBlock, IsLast, IsStageFor}
-use Rattle.pv_build.proofs.Headers.{one_loop}
+use Rattle.pv_layout.proofs.Cited.{one_loop}
 use Rattle.pv_build.proofs.Around.{in_of, of_in, in_right, ranks, no_loops, loops_own, header_is, header_around, outward}
 use Rattle.pv_build.proofs.Turns.{done_same, loop_done}
 use Rattle.pv_build.proofs.Restaged.{stage_before, stage_for}

@@ -3,7 +3,7 @@ use Rattle.std.proofs.Common.{◌≡◌, ℕ, List, [], ◌∷◌, Option, Some,
 use Rattle.pv_build.proofs.Words.{Sort, Frame, Program, Op, OpSort, T, Node, In, Graph, Exp, Flow, put, Exit, Chain, Leave, Values, first_kid, depths, IsTiedName, Named, named, Reads, Stand, Within, GrowsBy, Opens, IsOfSort, IsMaybeOf, standing_reads, extends_stand, Cell, State, Ending, Leaving, Goes, Returns, Throws, Ran, Entry, StandsFor, ExitStands, RunsAlong, IsCellOf, FitsSort, IsStateOf, IsSortedEnding, IsSortedExit, IsTest, IsSortedRan, Method, Theta, Opened, Closed, number, flow_in, StandsAs, IsDone, HasBase, IsThetaOf, IsOpened, IsClosed}
 use Rattle.pv_equations.specs.Flow as flow
 use Rattle.pv_equations.specs.Flow.{Part}
-use Rattle.pv_build.proofs.Lists.{zip_map, all_map}
+use Rattle.pv_layout.proofs.Cited.{zip_map, all_map}
 
 -- nodes keep what they stand for, and their sorts
 pub record Persists (old new : Graph) : Type 0 where

@@ -6,7 +6,7 @@ pub use Rattle.pv_graph.proofs.Cited.{found as loop_there}
 use Rattle.pv_build.proofs.Around as around
 use Rattle.pv_build.proofs.Around.{split_in, scope_is}
 pub use Rattle.pv_build.proofs.Around.{ranks, loops_same, no_loops as none_at, loops_own as own_at, deep_at as region_deep}
-use Rattle.pv_build.proofs.Headers.{one_loop}
+use Rattle.pv_layout.proofs.Cited.{one_loop}
 
 pub contains_mid : (G : List ℕ) (h : ℕ) (B : List ℕ) → Contains (G ++ h ∷ B) h
 contains_mid G h B = Contains-append_right G (h ∷ B) h (contains_first h B)

@@ -2,8 +2,7 @@
 use Rattle.std.proofs.Common.{◌≡◌, ◌≢◌, ℕ, zero, suc, ◌+◌, ◌<◌, ◌≤◌, true, List, [], ◌∷◌, length, set, replicate, Option, Some, None, slice_get, ◌⊎◌, inl, inr, ⊎_elim, refl, sym, ap, ◌∙◌, subst, arith}
 use Rattle.pv_build.proofs.Words.{Contains, length-replicate, slice_get_within, same_Some, length-set, equal_or_not, get_set, get_set_other, Block, Loop, In, Graph, IsGraph, IsWellMade, Chain, place_chain, Named, named, AreNames, depths, State, Ran, entry_of, RanFor, IsSortedRan, Method, Made, Stage, IsMethod, flow_in, loops_at, loops_around, IsDone, HasRun, AreDone, IsAt, IsStage, KeepsFirst, HeldAs, IsOuter, IsLast, IsStageBefore, IsStageFor, IsNothing}
 use Rattle.pv_build.specs.declared.method.Stage.TheVariants as stage
-use Rattle.pv_build.proofs.Trees as trees
-use Rattle.pv_build.proofs.Headers as headers
+use Rattle.pv_layout.proofs.Cited as layout
 use Rattle.pv_build.proofs.Staged.{first_then}
 use Rattle.pv_build.proofs.Around.{in_of, of_in, nested, own_in, once_around, loop_of}
 use Rattle.pv_build.proofs.Turns.{block_low, placed}
@@ -38,7 +37,7 @@ module _ (m : Method) (g : Graph) (made : Made) (R Q : List ℕ) (to : (h : ℕ)
 pub is_done : (m : Method) (is : IsMethod m) (g new : Graph) (names : List Named) (b : ℕ) (block : Block) (c : State) (ran : Ran) → slice_get m.flow.now.blocks b ≡ Some block → AreNames (depths (flow_in m)) g.nodes names → HeldAs m g names c (λ v. v.value b)
     → ((x : Chain) → place_chain m.typed.now.program m.typed.now.frames block ≡ Some x → RanFor (entry_of g c) new.nodes ran x) → IsSortedRan new m.typed.now.program m.typed.now.frames ran → IsDone m new names b ran
 is_done m is g new names b block c ran at are reads stands sorted =
-    let chain = trees.chains m.typed.now.program m.typed.now.frames m.flow.now.blocks m.forest.now is.routine b block at in
+    let chain = layout.chains m.typed.now.program m.typed.now.frames m.flow.now.blocks m.forest.now is.routine b block at in
     record {
       block = block;
       there = at;
@@ -181,7 +180,7 @@ module _ (m : Method) (is : IsMethod m) (g : Graph) (made : Made) (b n : ℕ) (l
       ]
     where
       trees_low : (i : ℕ) (l : Loop) → slice_get m.forest.now.loops.items i ≡ Some l → l.header < length m.flow.now.blocks
-      trees_low i l there = headers.header_low m.typed.now.program m.typed.now.frames m.flow.now.blocks m.forest.now is.routine i l there
+      trees_low i l there = layout.header_low m.typed.now.program m.typed.now.frames m.flow.now.blocks m.forest.now is.routine i l there
 
       not_done : (k : ℕ) → ((x : ℕ) → x < length m.flow.now.blocks → Contains (loops_around m x) k → HasRun made x) → k ≡ h → ⊥
       not_done k all same =
@@ -253,7 +252,7 @@ first_none : (m : Method) (is : IsMethod m) (n : ℕ) → slice_get m.forest.now
 first_none m is n at o outer h i =
     let q = outer_in m is n o outer h i in
     let l = loop_of m is n h q.0 in
-    let p = placed m is h (subst (λ (k : ℕ). k < length m.flow.now.blocks) l.3 (headers.header_low m.typed.now.program m.typed.now.frames m.flow.now.blocks m.forest.now is.routine l.0 l.1 l.2)) in
+    let p = placed m is h (subst (λ (k : ℕ). k < length m.flow.now.blocks) l.3 (layout.header_low m.typed.now.program m.typed.now.frames m.flow.now.blocks m.forest.now is.routine l.0 l.1 l.2)) in
     let le : p.0 ≤ 0 = is.routine.arranged.headers p.0 0 h n p.1 at (of_in (loops_around m n) h q.0) in
     let first : p.0 ≡ 0 = omega (arith, le) in
     q.1 (same_Some h n (sym p.1 ∙ ap (slice_get m.forest.now.order.items) first ∙ at))

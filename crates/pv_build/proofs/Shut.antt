@@ -3,7 +3,7 @@ use Rattle.std.proofs.Common.{◌≡◌, ℕ, ◌<◌, length, Some, slice_get, 
 use Rattle.pv_build.proofs.Words.{with_item, slice_get_within, same_Some, Loop, Graph, I, T, set_same, set_other, set_length, Reads, IsOfSort, Method, Made, Closed, IsMethod, loops_at, IsStage, IsClosed, IsBeyond, StandsAs, AllHaveRun, TiesLoop}
 use Rattle.pv_build.specs.declared.method.Stage.TheVariants as stage
 use Rattle.pv_build.proofs.Persisting.{Persists, grown, sort_on, stands_on}
-use Rattle.pv_build.proofs.Headers.{depth_is}
+use Rattle.pv_layout.proofs.Cited.{depth_is}
 use Rattle.pv_build.proofs.Staged.{stage_grown}
 use Rattle.pv_build.proofs.Looped.{deep}
 use Rattle.pv_build.proofs.Closed.{closed_enters, closed_token, stage_closed}

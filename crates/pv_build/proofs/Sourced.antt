@@ -8,7 +8,7 @@ use Rattle.pv_decide.specs.declared.tree.Target.TheVariants as target
 use Rattle.pv_decide.specs.declared.tree.TreeNode.TheVariants as node
 use Rattle.pv_decide.specs.Walks as walks
 use Rattle.pv_build.specs.declared.source.Source.TheVariants as source
-use Rattle.pv_build.proofs.Lists.{each_push}
+use Rattle.pv_layout.proofs.Cited.{each_push}
 use Rattle.pv_build.proofs.Persisting.{Persists, grown, sort_on, reads_on, stands_on, exit_on}
 use Rattle.pv_build.proofs.Flowing as flowing
 use Rattle.pv_build.proofs.Flowing.{exit_numbered, test_numbered}

@@ -11,7 +11,7 @@ use Rattle.pv_build.proofs.Staged.{as_long, flat_inside, theta_inside, flat_beyo
 use Rattle.pv_build.proofs.Cells.{no_root}
 use Rattle.pv_build.proofs.Leading.{GoesInto, goes_into, cell_given}
 use Rattle.pv_build.proofs.GivenFor.{given_on, gives_slot, folds_slot}
-use Rattle.pv_build.proofs.Trees.{again_tree}
+use Rattle.pv_layout.proofs.Cited.{again_tree}
 use Rattle.pv_build.proofs.Looped.{loops_same}
 use Rattle.pv_build.proofs.Around.{solution, header_own, loops_own, scope_is}
 use Rattle.pv_build.proofs.Cycles.{apart, stays}

@@ -1,33 +1,28 @@
 -- The words of which the proofs here speak, and the laws of other crates that they cite, from one place.
 pub use Rattle.std.proofs.Math.ListN.{length-set}
 pub use Rattle.std.proofs.Math.Seq.{drop-cons}
-pub use Rattle.std.proofs.lemmas.Bool.{and_from, and_parts, and_right, cases_eq, cases_lt, eq-eqb, eqb-false, eqb-true, lt-ltb, ltb-true, or_right}
+pub use Rattle.std.proofs.lemmas.Bool.{cases_eq, cases_lt}
 pub use Rattle.std.proofs.lemmas.Bool.Decides.{eqb_tells, nat_tests}
-pub use Rattle.std.proofs.lemmas.List.{append_cancel_right, drop_all, get_or-set_other, get_or-set_same, length-map, length-replicate, replicate_more, take_more}
-pub use Rattle.std.proofs.lemmas.List.Elements.{Contains-append_cases, Contains-append_right, Contains-get_or}
-pub use Rattle.std.proofs.lemmas.List.Folds.{list_any_more}
+pub use Rattle.std.proofs.lemmas.List.{drop_all, length-map, length-replicate, replicate_more, take_more}
+pub use Rattle.std.proofs.lemmas.List.Elements.{Contains-append_right}
 pub use Rattle.std.proofs.lemmas.Option.{IfSome_then, get_or_from_slice_get, same_Some, slice_get-get_or, slice_get_read, slice_get_within}
 pub use Rattle.std.proofs.lemmas.Result.{IfOk-weaker}
 pub use Rattle.std.specs.List.{All, AllByRecursion, AllZip, Contains, flat_map, list_any}
-pub use Rattle.std.specs.Prelude.{IsTrue, Vec, if◌then◌else◌, nat_lt, not, option_map, slice_get, slice_index, slice_set, unwrap_or, ◌&&◌, ◌==◌, ◌||◌}
+pub use Rattle.std.specs.Prelude.{IsTrue, Vec, if◌then◌else◌, option_map, slice_get, slice_index, ◌==◌}
 pub use Rattle.std.specs.Vec.{with_item}
 pub use Rattle.std.specs.declared.alloc.Global.{Global}
 pub use Rattle.pv_value.specs.declared.descriptor.JType.{JType}
 pub use Rattle.pv_value.specs.declared.name.Sym.{Sym}
-pub use Rattle.pv_pool.specs.Readers.{◌>>=◌}
 pub use Rattle.pv_pool.specs.declared.constant.Constant.{Constant}
 pub use Rattle.pv_class.specs.declared.file.ClassFile.{ClassFile}
 pub use Rattle.pv_insn.specs.declared.insn.Insn.{Insn}
 pub use Rattle.pv_insn.specs.declared.insn.Placed.{Placed}
-pub use Rattle.pv_frame.proofs.Cited.{contains_cases, contains_first, contains_more, contains_none, equal_or_not, get_set, get_set_other, if_some, no_some, popped_sorts, reached_frame, some_of}
+pub use Rattle.pv_frame.proofs.Cited.{contains_first, equal_or_not, get_set, get_set_other, no_some, reached_frame, some_of}
 pub use Rattle.pv_frame.specs.Actions.{ActsWith, HasFloatlessResult, LoadsConstant, branch_rows, class_rows, field_rows, local_rows, plain_rows, row_of}
-pub use Rattle.pv_frame.specs.Causes.{IsAccepted, cause}
-pub use Rattle.pv_frame.specs.Effects.{takes}
+pub use Rattle.pv_frame.specs.Causes.{IsAccepted}
 pub use Rattle.pv_frame.specs.Frames.{IsFrameAt, LeadsTo, padded_sorts, passed_to, sorts_of, this_sorts}
 pub use Rattle.pv_frame.specs.Programs.{Does, IsProgramOf}
-pub use Rattle.pv_frame.specs.Stacks.{first_cleared, has_room, is_wide, last_local, moved, popped, set_local}
 pub use Rattle.pv_frame.specs.declared.action.Action.{Action}
-pub use Rattle.pv_frame.specs.declared.cause.Cause.{Cause}
 pub use Rattle.pv_frame.specs.declared.cause.Refused.{Refused}
 pub use Rattle.pv_frame.specs.declared.frame.Frame.{Frame}
 pub use Rattle.pv_frame.specs.declared.program.Program.{Program}
@@ -35,19 +30,14 @@ pub use Rattle.pv_frame.specs.declared.sort.Sort.{Sort}
 pub use Rattle.pv_frame.specs.declared.used.Use.{Use}
 pub use Rattle.pv_live.proofs.Cited.{needed_agree}
 pub use Rattle.pv_live.specs.Needed.{AreNeeded}
-pub use Rattle.pv_flow.proofs.Cited.{edges_reach, edges_within, entry_block, one_flow}
-pub use Rattle.pv_flow.specs.Answers.{Answers, HasTooMany}
+pub use Rattle.pv_flow.proofs.Cited.{edges_within, entry_block}
 pub use Rattle.pv_flow.specs.Blocks.{IsExit}
-pub use Rattle.pv_flow.specs.Edges.{FromEntry, along, edges_of, entry, targets_of}
+pub use Rattle.pv_flow.specs.Edges.{edges_of, targets_of}
 pub use Rattle.pv_flow.specs.Exits.{Departure, branched, branches_on_no, departures}
 pub use Rattle.pv_flow.specs.declared.block.Block.{Block}
-pub use Rattle.pv_flow.specs.declared.flow.TheConstants.{MOST_BLOCKS}
-pub use Rattle.pv_loops.specs.Forests.{HasDepth, IsForest, NestsUpTo}
-pub use Rattle.pv_loops.specs.Loops.{EdgeOf, IsLoop, Region, Way, Whole, edge, more}
-pub use Rattle.pv_loops.specs.Ranks.{Heads, IsOrdered, IsRanking, around}
-pub use Rattle.pv_loops.specs.Shapes.{Edge, IsShape}
-pub use Rattle.pv_loops.specs.Steps.{IsReducible, Stuck}
-pub use Rattle.pv_loops.specs.declared.fault.TStep.{TStep}
+pub use Rattle.pv_loops.specs.Forests.{IsForest}
+pub use Rattle.pv_loops.specs.Ranks.{Heads, IsOrdered}
+pub use Rattle.pv_loops.specs.Shapes.{IsShape}
 pub use Rattle.pv_loops.specs.declared.forest.Forest.{Forest}
 pub use Rattle.pv_loops.specs.declared.forest.Loop.{Loop}
 pub use Rattle.pv_loops.specs.declared.forest.TheConstants.{MAX_DEPTH}
@@ -64,20 +54,19 @@ pub use Rattle.pv_graph.specs.declared.node.Node.{Node}
 pub use Rattle.pv_graph.specs.declared.node.Op.{Op}
 pub use Rattle.pv_graph.specs.declared.node.OpSort.{OpSort}
 pub use Rattle.pv_graph.specs.declared.node.OpSort.TheVariants.{F, H, I, R, T}
-pub use Rattle.pv_equations.proofs.Cited.{IsNode, Walks, go, header_back, move, seen_once, seen_to, walk_around, walk_then}
-pub use Rattle.pv_equations.specs.Equations.{Again, AreEquations, AtPlace, Back, Ended, Finish, Gone, Header, IsChain, IsTree, Joins, On, Place, Returning, Seen, Values, first_kid, first_loops, first_of_region, leaf, never_exp, or_else, outs, token_out, token_outs, tree_of, unit_exp}
+pub use Rattle.pv_equations.specs.Equations.{AreEquations, Back, Finish, Returning, Values, first_kid, leaf, never_exp, or_else, outs, token_out, token_outs, tree_of, unit_exp}
 pub use Rattle.pv_equations.specs.Exp.{Exp, NoExp, Over, Then, three}
-pub use Rattle.pv_equations.specs.Flow.{Chain, Dest, End, Exit, Flow, InChain, Leave, Shape, Test, To, put}
-pub use Rattle.pv_runs.proofs.Cited.{Departs, bound, chain_at, chained, edge_exit, exits_of, frame_long, has_chain, mapped, method_ranked, number_is, program_clean, turns_local, typed_chain}
-pub use Rattle.pv_runs.specs.Blocks.{acted_along, block_chain, number_at, numbered, numbered_dest, numbered_exit, place_chain}
-pub use Rattle.pv_runs.specs.Carrying.{always_carried, block_writes, holds_wide, members_of, writes, writes_along, writes_heap, writes_in, writes_local}
+pub use Rattle.pv_equations.specs.Flow.{Chain, Dest, End, Exit, Flow, Leave, To, put}
+pub use Rattle.pv_runs.proofs.Cited.{Departs, chain_at, exits_of, frame_long, has_chain, method_ranked, number_is, program_clean, typed_chain}
+pub use Rattle.pv_runs.specs.Blocks.{block_chain, number_at, numbered, numbered_dest, numbered_exit, place_chain}
+pub use Rattle.pv_runs.specs.Carrying.{always_carried, members_of, writes_in}
 pub use Rattle.pv_runs.specs.Entries.{op_at, param_ops, passed_ops, start_op}
-pub use Rattle.pv_runs.specs.Held.{Held, acted, acted_on, by_turns, cell_sort, held_at, increased_cell, local_cell, local_cells, local_place, local_slot, push, stack_place, stack_slot, unset, with_result}
+pub use Rattle.pv_runs.specs.Held.{Held, by_turns, local_place, local_slot, stack_place, stack_slot}
 pub use Rattle.pv_runs.specs.Laws.{IsRanked}
 pub use Rattle.pv_runs.specs.Methods.{IsShaped, flow_of}
-pub use Rattle.pv_decide.proofs.Cited.{at_place, edge_of, inner_is, place_is, place_low, split_at, under}
+pub use Rattle.pv_decide.proofs.Cited.{inner_is, split_at, under}
 pub use Rattle.pv_decide.specs.Folds.{AreSound, Folds, IsAimedAt, IsExitOf, IsTestOf, NodeFits}
-pub use Rattle.pv_decide.specs.Sites.{AreOrdered, GoTo, GoesTo, Inside, IsAround, dest_of, exit_at, loops_of, place_of, test_at}
+pub use Rattle.pv_decide.specs.Sites.{GoTo, Inside, dest_of, exit_at, loops_of, test_at}
 pub use Rattle.pv_decide.specs.Trees.{AreForWalks, IsOver, IsSound, IsTreeOf, scope_by, scope_of}
 pub use Rattle.pv_decide.specs.Walks.{dead_of, exit_gives, inner, leaves_of, leaving, target_of, tests_of}
 pub use Rattle.pv_decide.specs.declared.aim.Scope.{Scope}
@@ -101,8 +90,8 @@ pub use Rattle.pv_block.specs.declared.ran.Leaving.{Leaving}
 pub use Rattle.pv_block.specs.declared.ran.Leaving.TheVariants.{Goes, Returns, Throws}
 pub use Rattle.pv_block.specs.declared.ran.Ran.{Ran}
 pub use Rattle.pv_block.specs.declared.ran.State.{State}
-pub use Rattle.pv_build.specs.Building.{Begun, CanOpen, HasBlock, IsBuiltOf, IsLast, IsNext, IsNothing, IsOwnLoop, IsStageBefore, IsStageFor}
-pub use Rattle.pv_build.specs.Carried.{Acts, AllRunThrough, AreBelow, AreWritten, IsCarried, IsOther, IsUnion, IsWritten, Knows, Marks, RunsThrough, Stores, Unites, Walked}
+pub use Rattle.pv_build.specs.Building.{Begun, CanOpen, IsBuiltOf, IsLast, IsNext, IsNothing, IsOwnLoop, IsStageBefore, IsStageFor}
+pub use Rattle.pv_layout.specs.Carried.{IsCarried}
 pub use Rattle.pv_build.specs.Closings.{AllHaveRun, AreTied, Closing, IsOpenAt, IsTiedTheta, MayTie, MayTieAll, TiesLoop, TiesOne, closing_of, dead_at, depth_of}
 pub use Rattle.pv_build.specs.Conversion.{Converts, IsRootOf}
 pub use Rattle.pv_build.specs.Ends.{AtEnds, EndsFold, EndsGive, ReadsRoot, default_of, default_sort}
@@ -111,17 +100,16 @@ pub use Rattle.pv_build.specs.Leaves.{AreSourcesFor, HasExitAt, HasLeft, HasTest
 pub use Rattle.pv_build.specs.Opening.{BeginsBlock, HeldAs, IsEnteredBy, IsOuter}
 pub use Rattle.pv_build.specs.Openings.{AreBegun, AreFirstKids, AreHeaderCells, AreNodes, Begins, CanBegin, HasTheta, IsBegun, IsHeaderCell, IsHeaderState, carried_at, first_at, node_or}
 pub use Rattle.pv_build.specs.Outs.{AreCellsOut, IsCellOut, IsEndOut, IsNodeOut, IsSortedState, IsStateOut, IsTokenOut, ReadsNodeOut}
-pub use Rattle.pv_build.specs.Reasons.{OnCause, Structures}
-pub use Rattle.pv_build.specs.Routine.{IsRoutine}
+pub use Rattle.pv_layout.specs.Reasons.{Structures}
+pub use Rattle.pv_layout.specs.Routine.{IsRoutine}
 pub use Rattle.pv_build.specs.Slots.{number, number_in}
 pub use Rattle.pv_build.specs.Sources.{FoldsTo, FoldsToOne, Gives, GivesAt, GivesOne, HasNodeFor, HasNodeOf, MaybeReads, MaybeSorted, ReadsAt, given_by, given_nodes}
 pub use Rattle.pv_build.specs.Stages.{AreDone, GrowsIn, HasBase, HasRun, HasSlotAt, IsAt, IsBeyond, IsClosed, IsDone, IsInside, IsLoopAt, IsMethod, IsOpened, IsStage, IsThetaOf, KeepsFirst, StandsAs, flow_in, loops_around, loops_at, region_at}
 pub use Rattle.pv_build.specs.States.{AreCellsOf, AreOpsOf, CellFoldsToOne, CellGives, CellReadsFold, CellsFold, CellsFoldToSome, CellsGive, CellsRead, FrameFolds, FrameFoldsToSome, FrameGives, HasSlot, IsFirstOp, IsKnown, ReadsFrame, ReadsStart, ReadsState, StartCellsRead, this_ops}
-pub use Rattle.pv_build.specs.Structure.{HasEdges, IsLaidOut, IsStructured, MeetsShape}
+pub use Rattle.pv_layout.specs.Structure.{IsLaidOut}
 pub use Rattle.pv_build.specs.Taken.{AreDeeper, AreLeft, AreSortedLoops, IsLeft, IsSortedLoop, ReadsOutOf, ReadsOutOfAll, ReadsValueOut, out_slots, outs_slots}
 pub use Rattle.pv_build.specs.Unfolded.{IsBuilt, none_of}
-pub use Rattle.pv_build.specs.declared.carrying.Walk.{Walk}
-pub use Rattle.pv_build.specs.declared.carrying.Writes.{Writes}
+pub use Rattle.pv_layout.specs.declared.carrying.Writes.{Writes}
 pub use Rattle.pv_build.specs.declared.method.Closed.{Closed}
 pub use Rattle.pv_build.specs.declared.method.Made.{Made}
 pub use Rattle.pv_build.specs.declared.method.Method.{Method}

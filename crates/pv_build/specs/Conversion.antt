@@ -14,7 +14,7 @@ use Rattle.pv_flow.specs.declared.flow.TheConstants.{MOST_BLOCKS}
 use Rattle.pv_loops.specs.declared.forest.Forest.{Forest}
 use Rattle.pv_graph.specs.Graphs.{Graph}
 use Rattle.pv_runs.specs.Methods.{IsShaped}
-use Rattle.pv_build.specs.Structure.{MeetsShape}
+use Rattle.pv_layout.specs.Structure.{MeetsShape}
 use Rattle.pv_build.specs.Unfolded.{IsBuilt}
 
 -- ---- why a method is refused

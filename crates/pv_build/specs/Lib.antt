@@ -1,12 +1,8 @@
 -- what public contracts and laws say
-pub mod Structure
 pub mod Unfolded
 pub mod Conversion
 pub mod Reasons
 -- the vocabulary of private functions
-pub mod Routine
-pub mod Carried
-pub mod Homes
 pub mod Slots
 pub mod Sources
 pub mod States

@@ -18,7 +18,7 @@ use Rattle.pv_block.specs.declared.ran.State.{State}
 use Rattle.pv_block.specs.Ran.{slot_of}
 use Rattle.pv_build.specs.declared.method.Theta.{Theta}
 use Rattle.pv_build.specs.declared.opening.Head.{Head}
-use Rattle.pv_build.specs.declared.carrying.Writes.{Writes}
+use Rattle.pv_layout.specs.declared.carrying.Writes.{Writes}
 use Rattle.pv_build.specs.declared.slot.Part.{Part}
 use Rattle.pv_build.specs.declared.slot.Part.TheVariants as part
 use Rattle.pv_build.specs.Slots.{number, number_in}

@@ -41,9 +41,9 @@ use Rattle.pv_build.specs.declared.method.Closed.{Closed}
 use Rattle.pv_build.specs.declared.method.Stage.{Stage}
 use Rattle.pv_build.specs.declared.method.Stage.TheVariants as stage
 use Rattle.pv_build.specs.declared.method.Made.{Made}
-use Rattle.pv_build.specs.Routine.{IsRoutine}
-use Rattle.pv_build.specs.Carried.{AreCarried}
-use Rattle.pv_build.specs.Homes.{up}
+use Rattle.pv_layout.specs.Routine.{IsRoutine}
+use Rattle.pv_layout.specs.Carried.{AreCarried}
+use Rattle.pv_layout.specs.Homes.{up}
 use Rattle.pv_build.specs.Slots.{number}
 use Rattle.pv_build.specs.States.{HasSlot}
 

@@ -6,13 +6,12 @@ ghost use Rattle.pv_graph.specs.declared.node.OpSort.TheVariants.{R};
 ghost use Rattle.pv_frame.specs.Frames.{IsFrameAt};
 ghost use Rattle.pv_terms.specs.Terms.{Enlarges, Keeps, IsOfSort};
 ghost use Rattle.pv_build.specs.declared.method.Stage.TheVariants as stage;
-ghost use Rattle.pv_build.specs.Routine.{IsRoutine};
+ghost use Rattle.pv_layout.specs.Routine.{IsRoutine};
 ghost use Rattle.pv_build.specs.Unfolded.{IsBuilt};
 ghost use Rattle.pv_build.specs.Stages.{loops_at, loops_around, IsLoopAt, IsMethod, IsStage, AreDone, HasFrameAt, KeepsFirst, GrowsIn};
 ghost use Rattle.pv_build.specs.Opening.{BeginsBlock, IsEnteredBy, IsOuter};
 ghost use Rattle.pv_build.specs.Building.{IsOwnLoop, HasBlock, IsNext, IsLast, Begun, IsStageBefore, IsStageFor, IsNothing, IsBuiltOf};
 
-use crate::carrying::slots_carried;
 use crate::closing::close;
 use crate::ending::root;
 use crate::entering::enter;
@@ -25,6 +24,7 @@ use pv_decide::{Target, Trees};
 use pv_flow::{Block, Flow};
 use pv_frame::{Frame, Typed};
 use pv_graph::{Graph, NodeId, Op};
+use pv_layout::slots_carried;
 use pv_loops::Forest;
 use pv_terms::{Names, over};
 use pv_value::Memory;
@@ -251,7 +251,7 @@ fn finish(alloc: Global, g: &mut Graph, method: &Method, made: &Made) -> Result<
 fn no_blocks(alloc: Global, n: usize) -> Result<Vec<Option<Ran>>, Memory>
     ensures { IfOk result (λ blocks. blocks.items ≡ replicate n None) }
 {
-    let mut blocks = Vec::new(alloc);
+    let mut blocks = Vec::with_capacity(alloc, n)?;
     for _ in 0..n {
         blocks.push(None)?;
     }
@@ -262,7 +262,7 @@ fn no_blocks(alloc: Global, n: usize) -> Result<Vec<Option<Ran>>, Memory>
 fn no_loops(alloc: Global, n: usize) -> Result<Vec<Stage>, Memory>
     ensures { IfOk result (λ loops. loops.items ≡ replicate n stage.Ahead) }
 {
-    let mut loops = Vec::new(alloc);
+    let mut loops = Vec::with_capacity(alloc, n)?;
     for _ in 0..n {
         loops.push(Stage::Ahead)?;
     }

@@ -9,10 +9,10 @@ ghost use Rattle.pv_build.specs.Reasons.{OnRefusal};
 ghost use Rattle.pv_build.specs.Conversion.{ConvertsAt};
 
 use crate::building::build;
-use crate::structure::{Layout, laid_out};
 use pv_class::ClassFile;
 use pv_frame::{Refused, infer};
 use pv_graph::{Graph, NodeId};
+use pv_layout::{Layout, laid_out};
 use pv_live::needed;
 use std::alloc::Global;
 

@@ -114,7 +114,7 @@ fn cells(
     ensures sorts { IfOk result (λ cells. AreCellsOf g.new cells.items sorts.now) }
     ensures grows { Grows g.old g.new }
 {
-    let mut cells = Vec::new(alloc);
+    let mut cells = Vec::with_capacity(alloc, sorts.len())?;
     for i in 0..sorts.len() {
         let slot = part.slot(sorts.len(), i);
         let next = cell(alloc, g, given, slot, sorts[i])?;

@@ -1,12 +1,12 @@
 //! A method, and what is made of it so far.
 
-use crate::carrying::Writes;
 use crate::slot::Slot;
 use pv_block::Ran;
 use pv_decide::Trees;
 use pv_flow::Flow;
 use pv_frame::Typed;
 use pv_graph::NodeId;
+use pv_layout::Writes;
 use pv_loops::Forest;
 use pv_terms::Names;
 

@@ -10,11 +10,11 @@ ghost use Rattle.pv_build.specs.Openings.{carried_at, first_at, AreFirstKids, Ca
 ghost use Rattle.pv_build.specs.Stages.{IsMethod, KeepsFirst};
 ghost use Rattle.pv_build.specs.Building.{CanOpen, IsOwnLoop, Begun};
 
-use crate::carrying::Writes;
 use crate::method::{Made, Method, Opened, Stage, Theta};
 use crate::slot::{Part, Slot, number_limit, of_state};
 use pv_block::{Cell, State};
 use pv_graph::{Graph, NodeId, Op};
+use pv_layout::Writes;
 use pv_terms::{Names, begin_name, over};
 use pv_value::Memory;
 use std::alloc::Global;

@@ -88,7 +88,7 @@ fn first_cells(
     ensures sorts { IfOk result (λ cells. AreCellsOf g.new cells.items sorts.now) }
     ensures grows { Grows g.old g.new }
 {
-    let mut cells = Vec::new(alloc);
+    let mut cells = Vec::with_capacity(alloc, sorts.len())?;
     for k in 0..sorts.len() {
         let sort = sorts[k];
         let op = first_op(alloc, ops, k, sort)?;

@@ -47,7 +47,7 @@ fn cells_out(alloc: Global, g: &mut Graph, c: Closed, cells: &[Cell]) -> Result<
     ensures out { IfOk result (λ ys. AreCellsOut g.old c cells.now g.new ys.items) }
     ensures grows { GrowsBy (IsFlatOrOut c.depth) g.old g.new }
 {
-    let mut outs = Vec::new(alloc);
+    let mut outs = Vec::with_capacity(alloc, cells.len())?;
     for cell in cells {
         outs.push(cell_out(alloc, g, c, *cell)?)?;
     }

@@ -1,5 +1,5 @@
 -- Frames that know the live locals alone agree along every edge.
-use Rattle.std.proofs.Common.{◌≡◌, ℕ, zero, suc, ◌<◌, Bool, true, false, List, [], ◌∷◌, length, Option, Some, None, ◌∙◌, refl, ap, sym, subst, inl, inr, arith}
+use Rattle.std.proofs.Common.{◌≡◌, ℕ, zero, suc, Bool, true, false, List, [], ◌∷◌, length, Option, Some, None, ◌∙◌, refl, ap, sym, subst, inl, inr, arith}
 use Rattle.std.specs.Prelude.{◌⊎◌, slice_get, option_map, if◌then◌else◌, nat_lt, Contains}
 use Rattle.std.specs.List.{AllZip}
 use Rattle.std.proofs.lemmas.Option.{slice_get_within}

@@ -1,5 +1,5 @@
 -- Lists of needed frames: they agree, and there is one.
-use Rattle.std.proofs.Common.{◌≡◌, ℕ, suc, List, [], ◌∷◌, length, Option, Some, None, ◌∙◌, refl, ap, sym, subst, inl, inr, arith}
+use Rattle.std.proofs.Common.{◌≡◌, ℕ, List, [], ◌∷◌, length, Option, Some, None, ◌∙◌, refl, ap, sym, subst, inl, inr, arith}
 use Rattle.std.specs.Prelude.{slice_get, sum_by, Contains}
 use Rattle.std.specs.List.{AllByRecursion}
 use Rattle.std.proofs.lemmas.Option.{slice_get_within}

@@ -1,7 +1,6 @@
 -- Rows of marks, as the functions that make them find them.
 use Rattle.std.proofs.Common.{◌≡◌, ℕ, zero, suc, ◌+◌, ◌<◌, ◌≤◌, Bool, true, false, List, [], ◌∷◌, ◌++◌, length, get_or, set, Some, None, refl, sym, ap, ◌∙◌, subst, inl, inr, arith}
 use Rattle.std.specs.Prelude.{◌⊎◌, map, option_map, slice_get}
-use Rattle.std.specs.Bool.{Decides}
 use Rattle.std.proofs.lemmas.Option.{slice_get_within, slice_get-get_or, get_or_from_slice_get, slice_get-map}
 use Rattle.std.proofs.Math.ListN.{length-set}
 use Rattle.pv_frame.proofs.Cited.{some_of, no_some, equal_or_not, get_set, get_set_other, contains_first, contains_more, contains_cases, contains_none}
@@ -51,38 +50,40 @@ marks_as Q S old new to from a = record {
   only = λ x m. elim (a.only x m) [ inl was ↦ inl was | inr q ↦ inr (to x q) ];
 }
 
--- ---- another row
+-- ---- marks below a place
 
--- local x is marked there, below a place
-abbrev pub Below : List Bool → ℕ → ℕ → Type 0
-Below other n x = (x < n) × IsMarked other x
+-- local x is to be marked, and lies below a place
+abbrev pub Below : (ℕ → Type 0) → ℕ → ℕ → Type 0
+Below Q n x = (x < n) × Q x
 
-pub below_none : (other row : List Bool) (n : ℕ) → n ≡ 0 → Marks (Below other n) row row
-below_none other row n e = marks_none (Below other n) row (λ x low b. absurd (omega (arith, b.0, e)))
+pub below_none : (Q : ℕ → Type 0) (row : List Bool) (n : ℕ) → n ≡ 0 → Marks (Below Q n) row row
+below_none Q row n e = marks_none (Below Q n) row (λ x low b. absurd (omega (arith, b.0, e)))
 
-pub below_marked : (other old row : List Bool) (n : ℕ) → n < length row → n < length other → get_or other n false ≡ true → Marks (Below other n) old row → Marks (Below other (n + 1)) old (set row n true)
-below_marked other old row n low there is a =
-    let m : IsMarked other n = slice_get-get_or other n false there ∙ ap Some is in
-    marks_more (Below other n) (λ x. x ≡ n) (Below other (n + 1)) old row (set row n true)
+pub below_marked : (Q : ℕ → Type 0) (old row : List Bool) (n : ℕ) → n < length row → Q n → Marks (Below Q n) old row → Marks (Below Q (n + 1)) old (set row n true)
+below_marked Q old row n low m a =
+    marks_more (Below Q n) (λ x. x ≡ n) (Below Q (n + 1)) old row (set row n true)
     (λ x b. elim (equal_or_not x n) [ inl e ↦ inr e | inr differ ↦ inl (omega (arith, differ, b.0), b.1) ])
     (λ x b. (omega (arith, b.0), b.1))
-    (λ x e. (omega (arith, e), subst (IsMarked other) (sym e) m))
+    (λ x e. (omega (arith, e), subst Q (sym e) m))
     a (marks_set row n low)
 
-pub below_other : (other old row : List Bool) (n : ℕ) → (IsMarked other n → ⊥) → Marks (Below other n) old row → Marks (Below other (n + 1)) old row
-below_other other old row n unmarked a =
-    marks_as (Below other n) (Below other (n + 1)) old row
+pub below_other : (Q : ℕ → Type 0) (old row : List Bool) (n : ℕ) → (Q n → ⊥) → Marks (Below Q n) old row → Marks (Below Q (n + 1)) old row
+below_other Q old row n unmarked a =
+    marks_as (Below Q n) (Below Q (n + 1)) old row
     (λ x b. (omega (arith, b.0), b.1))
-    (λ x b. elim (equal_or_not x n) [ inl e ↦ absurd (unmarked (subst (IsMarked other) e b.1)) | inr differ ↦ (omega (arith, differ, b.0), b.1) ])
+    (λ x b. elim (equal_or_not x n) [ inl e ↦ absurd (unmarked (subst Q e b.1)) | inr differ ↦ (omega (arith, differ, b.0), b.1) ])
     a
 
-pub below_all : (other old row : List Bool) (n : ℕ) → length old ≤ n → Marks (Below other n) old row → Marks (IsMarked other) old row
-below_all other old row n all a = record {
+pub below_all : (Q : ℕ → Type 0) (old row : List Bool) (n : ℕ) → length old ≤ n → Marks (Below Q n) old row → Marks Q old row
+below_all Q old row n all a = record {
   long = a.long;
   kept = a.kept;
   added = λ x low m. a.added x low (omega (arith, low, all), m);
   only = λ x m. elim (a.only x m) [ inl was ↦ inl was | inr b ↦ inr b.1 ];
 }
+
+pub is_marked : (row : List Bool) (n : ℕ) → n < length row → get_or row n false ≡ true → IsMarked row n
+is_marked row n low e = slice_get-get_or row n false low ∙ ap Some e
 
 -- ---- rows of places
 
@@ -157,44 +158,11 @@ target_at cases n d low = slice_get-map (λ c. c.target) cases n ∙ ap (option_
 
 -- ---- before an action
 
--- each mark of a row is right
-abbrev pub AreRight : Action → List Bool → List Bool → List Bool → Type 0
-AreRight a before after row = (x : ℕ) (b : Bool) → slice_get row x ≡ Some b → Decides b (IsMarked before x ⊎ IsLiveBefore a after x)
+-- whether a local is live, by whether its mark after the action is set
+pub live_by : (a : Action) (after : List Bool) (n : ℕ) → n < length after → IsLiveIf a n (get_or after n false) → IsLiveBefore a after n
+live_by a after n low (inl r) = inl r
+live_by a after n low (inr (w, m)) = inr (w, is_marked after n low m)
 
-marked : (row : List Bool) (n : ℕ) (b : Bool) → n < length row → get_or row n false ≡ b → slice_get row n ≡ Some b
-marked row n b low e = slice_get-get_or row n false low ∙ ap Some e
-
-of_marked : (row : List Bool) (n : ℕ) → IsMarked row n → get_or row n false ≡ true
-of_marked row n m = get_or_from_slice_get row n true false m
-
-pub right_more : (a : Action) (before after row : List Bool) (n : ℕ) (live b : Bool) → length row ≡ n → n < length before → length after ≡ length before → AreRight a before after row
-    → Decides live (IsLiveIf a n (get_or after n false)) → (get_or before n false ≡ true → b ≡ true) → (get_or before n false ≡ false → b ≡ live) → AreRight a before after (row ++ b ∷ [])
-right_more a before after row n live b size low same right dec old new = each_push (λ x b. Decides b (IsMarked before x ⊎ IsLiveBefore a after x)) row b right (subst (λ (k : ℕ). Decides b (IsMarked before k ⊎ IsLiveBefore a after k)) (sym size) here)
-  where
-    less : n < length after
-    less = omega (arith, low, same)
-
-    to : IsLiveIf a n (get_or after n false) → IsLiveBefore a after n
-    to (inl r) = inl r
-    to (inr (w, m)) = inr (w, marked after n true less m)
-
-    from : IsLiveBefore a after n → IsLiveIf a n (get_or after n false)
-    from (inl r) = inl r
-    from (inr (w, m)) = inr (w, of_marked after n m)
-
-    here : Decides b (IsMarked before n ⊎ IsLiveBefore a after n)
-    here = elim (get_or before n false) as (λ o. get_or before n false ≡ o → Decides b (IsMarked before n ⊎ IsLiveBefore a after n)) [
-      | true ↦ λ e. (λ _. inl (marked before n true low e), λ _. old e)
-      | false ↦ λ e. let one = new e in (
-        (λ t. inr (to (dec.0 (sym one ∙ t)))),
-        (λ s. elim s [ inl m ↦ absurd (let t = of_marked before n m in cc) | inr l ↦ one ∙ dec.1 (from l) ]),
-      )
-    ] refl
-
-pub right_all : (a : Action) (before after row : List Bool) → length row ≡ length before → AreRight a before after row → Marks (IsLiveBefore a after) before row
-right_all a before after row size right = record {
-  long = size;
-  kept = λ x m. let within = slice_get_within before x true m in let low : x < length row = omega (arith, within, size) in let b = slice_get-get_or row x false low in b ∙ ap Some ((right x _ b).1 (inl m));
-  added = λ x low l. let b = slice_get-get_or row x false (omega (arith, low, size)) in b ∙ ap Some ((right x _ b).1 (inr l));
-  only = λ x m. (right x true m).0 refl;
-}
+pub by_live : (a : Action) (after : List Bool) (n : ℕ) → IsLiveBefore a after n → IsLiveIf a n (get_or after n false)
+by_live a after n (inl r) = inl r
+by_live a after n (inr (w, m)) = inr (w, get_or_from_slice_get after n true false m)

@@ -16,7 +16,7 @@ fn kept(alloc: Global, row: &[bool], locals: &[Sort]) -> Result<Vec<Sort>, Alloc
     requires { length row.now ≡ length locals.now }
     ensures { IfOk result (λ v. AreKept row.now locals.now v.items) }
 {
-    let mut sorts = Vec::new(alloc);
+    let mut sorts = Vec::with_capacity(alloc, locals.len())?;
     for local in 0..locals.len() {
         let sort = if row[local] {
             locals[local]
@@ -63,7 +63,7 @@ fn kept_frames(
     requires { Match rows.now frames.now }
     ensures { IfOk result (λ v. AreKeptFrames rows.now frames.now v.items) }
 {
-    let mut all = Vec::new(alloc);
+    let mut all = Vec::with_capacity(alloc, frames.len())?;
     for place in 0..frames.len() {
         let frame = kept_option(alloc, rows[place].as_slice(), &frames[place])?;
         all.push(frame)?;

@@ -124,10 +124,11 @@ pub(crate) fn live_before(
     requires { length after.now ≡ length before.now }
     ensures { IfOk result (λ row. Marks (IsLiveBefore action.now after.now) before.now row.items) }
 {
-    let mut row = Vec::new(alloc);
+    let mut row = Vec::from_slice(alloc, before)?;
     for local in 0..before.len() {
-        let live = is_live_before(action, local, after[local]);
-        row.push(before[local] || live)?;
+        if is_live_before(action, local, after[local]) {
+            row[local] = true;
+        }
     }
     Ok(row)
 }

@@ -12,7 +12,7 @@ use std::alloc::{AllocError, Global};
 fn no_rows(alloc: Global, places: usize, locals: usize) -> Result<Vec<Listed<bool>>, AllocError>
     ensures { IfOk result (λ v. v.items ≡ replicate places (replicate locals false)) }
 {
-    let mut rows = Vec::new(alloc);
+    let mut rows = Vec::with_capacity(alloc, places)?;
     for _ in 0..places {
         rows.push(Listed::from(no_marks(alloc, locals)?))?;
     }

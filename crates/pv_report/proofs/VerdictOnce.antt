@@ -14,9 +14,9 @@ use Rattle.pv_report.specs.declared.verdict.Verdict.TheVariants as verdict
 use Rattle.pv_frame.specs.declared.cause.Cause.{Cause}
 use Rattle.pv_frame.specs.declared.program.Program.{Program}
 use Rattle.pv_frame.proofs.Cited.{one_program, one_cause, accepted_or_refused}
-use Rattle.pv_build.specs.Structure.{IsStructured, MeetsShape}
+use Rattle.pv_layout.specs.Structure.{IsStructured, MeetsShape}
 use Rattle.pv_build.specs.Conversion.{Meets, Form}
-use Rattle.pv_build.proofs.Cited.{one_shape_cause, not_structured}
+use Rattle.pv_layout.proofs.Cited.{one_shape_cause, not_structured}
 use Rattle.pv_alike.specs.Least.{Rooted}
 use Rattle.pv_heights.specs.Verdicts as search
 use Rattle.pv_alike.specs.Laws.{IsSameRooted}

@@ -3,7 +3,7 @@ use Rattle.pv_build.proofs.Words.{replicate_more, Ran}
 use Rattle.pv_build.proofs.building.no_blocks.Goals as goal
 
 pub loop-init : goal.loop-init
-loop-init c = c.new-blocks.ensures.items
+loop-init c = c.in_ok-blocks.ensures.items
 
 pub loop-preserved : goal.loop-preserved
 loop-preserved c = c.in_ok-push.ensures.items ∙ ap (λ (xs : List (Option Ran)). xs ++ None ∷ []) c.loop.invariant ∙ replicate_more c.loop.counter None

@@ -4,7 +4,7 @@ use Rattle.pv_build.specs.declared.method.Stage.TheVariants as stage
 use Rattle.pv_build.proofs.building.no_loops.Goals as goal
 
 pub loop-init : goal.loop-init
-loop-init c = c.new-loops.ensures.items
+loop-init c = c.in_ok-loops.ensures.items
 
 pub loop-preserved : goal.loop-preserved
 loop-preserved c = c.in_ok-push.ensures.items ∙ ap (λ (xs : List (Stage)). xs ++ stage.Ahead ∷ []) c.loop.invariant ∙ replicate_more c.loop.counter stage.Ahead

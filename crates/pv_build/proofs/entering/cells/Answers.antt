@@ -1,7 +1,7 @@
 use Rattle.std.proofs.Common.{◌≡◌, ℕ, ◌+◌, List, [], ◌∷◌, length, length-append, get_or, Some, None, slice_get, sym, ap, ◌∙◌, subst, arith}
 use Rattle.pv_build.proofs.Words.{slice_get-get_or, Sort, grows_same, grows_then, Cell, op_sort, IsCellOf, number, number_in, CellGives, CellFoldsToOne}
 use Rattle.pv_frame.specs.declared.sort.Sort.TheVariants as sort
-use Rattle.pv_build.proofs.Lists.{each_push, zip_each}
+use Rattle.pv_layout.proofs.Cited.{each_push, zip_each}
 use Rattle.pv_build.proofs.Kept.{gives_kept, folds_kept}
 use Rattle.pv_build.proofs.Stating.{EnterCell, enter_cell, enter_cell_kept}
 use Rattle.pv_build.proofs.entering.cells.Goals as goal
@@ -9,8 +9,8 @@ use Rattle.pv_build.proofs.entering.cells.Goals as goal
 pub loop-i-init : goal.loop-i-init
 loop-i-init c = record {
   grows = grows_same c.args.g.now c.requires.graph;
-  count = ap length c.new-cells.ensures.items;
-  each = λ i x at. absurd (let nil : List Cell = [] in let z : slice_get nil i ≡ Some x = subst (λ (xs : List Cell). slice_get xs i ≡ Some x) c.new-cells.ensures.items at in cc);
+  count = ap length c.in_ok-cells.ensures.items;
+  each = λ i x at. absurd (let nil : List Cell = [] in let z : slice_get nil i ≡ Some x = subst (λ (xs : List Cell). slice_get xs i ≡ Some x) c.in_ok-cells.ensures.items at in cc);
 }
 
 pub cell-requires-clause-graph : goal.cell-requires-clause-graph

@@ -2,7 +2,7 @@ use Rattle.std.proofs.Common.{◌≡◌, ℕ, List, length, Some, None, sym, sub
 use Rattle.pv_build.proofs.Words.{Sort, T, H, Grows, grows_then, Cell, IsCellOf, CellsGive, CellsFold, CellsFoldToSome, CellsRead, AreCellsOf}
 use Rattle.pv_build.specs.declared.slot.Part.TheVariants as part
 use Rattle.pv_build.proofs.Kept.{sort_kept, reads_kept, cells_kept, gives_kept, folds_kept, cells_give_kept, cells_fold_kept}
-use Rattle.pv_build.proofs.Lists.{zip_long}
+use Rattle.pv_layout.proofs.Cited.{zip_long}
 use Rattle.pv_build.proofs.Stating.{state_reads, cells_read_kept}
 use Rattle.pv_build.proofs.entering.enter.Goals as goal
 

@@ -1,6 +1,6 @@
 use Rattle.std.proofs.Common.{◌≡◌, ℕ, ◌+◌, List, [], ◌∷◌, length, length-append, Option, Some, slice_get, sym, ap, ◌∙◌, subst}
 use Rattle.pv_build.proofs.Words.{first_at}
-use Rattle.pv_build.proofs.Lists.{each_push}
+use Rattle.pv_layout.proofs.Cited.{each_push}
 use Rattle.pv_build.proofs.opening.first_kids.Goals as goal
 
 pub loop-n-preserved : goal.loop-n-preserved

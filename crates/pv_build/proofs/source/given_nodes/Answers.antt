@@ -1,6 +1,6 @@
 use Rattle.std.proofs.Common.{ℕ, List, [], ◌∷◌, ◌++◌, take, take_all, Option, unwrap_or, sym, ap, ◌∙◌}
 use Rattle.pv_build.proofs.Words.{Source, number, given_by, given_nodes}
-use Rattle.pv_build.proofs.Lists.{map_more}
+use Rattle.pv_layout.proofs.Cited.{map_more}
 use Rattle.pv_build.proofs.source.given_nodes.Goals as goal
 
 pub loop-source-init : goal.loop-source-init

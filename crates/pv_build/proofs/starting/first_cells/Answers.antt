@@ -1,7 +1,7 @@
 use Rattle.std.proofs.Common.{◌≡◌, ℕ, ◌+◌, List, [], ◌∷◌, length, length-append, get_or, Some, slice_get, sym, ap, ◌∙◌, subst, arith}
 use Rattle.pv_build.proofs.Words.{slice_get-get_or, Sort, grows_same, grows_then, Cell, op_sort, IsCellOf}
 use Rattle.pv_frame.specs.declared.sort.Sort.TheVariants as sort
-use Rattle.pv_build.proofs.Lists.{each_push, zip_each}
+use Rattle.pv_layout.proofs.Cited.{each_push, zip_each}
 use Rattle.pv_build.proofs.Kept.{has_no_kids, no_depth}
 use Rattle.pv_build.proofs.Started.{StartCell, first_sort, start_cell, start_cell_kept}
 use Rattle.pv_build.proofs.starting.first_cells.Goals as goal
@@ -9,8 +9,8 @@ use Rattle.pv_build.proofs.starting.first_cells.Goals as goal
 pub loop-k-init : goal.loop-k-init
 loop-k-init c = record {
   grows = grows_same c.args.g.now c.requires.graph;
-  count = ap length c.new-cells.ensures.items;
-  each = λ i x at. absurd (let nil : List Cell = [] in let z : slice_get nil i ≡ Some x = subst (λ (xs : List Cell). slice_get xs i ≡ Some x) c.new-cells.ensures.items at in cc);
+  count = ap length c.in_ok-cells.ensures.items;
+  each = λ i x at. absurd (let nil : List Cell = [] in let z : slice_get nil i ≡ Some x = subst (λ (xs : List Cell). slice_get xs i ≡ Some x) c.in_ok-cells.ensures.items at in cc);
 }
 
 pub returns-in_err-op-clause-grows : goal.returns-in_err-op-clause-grows

@@ -1,17 +1,21 @@
-use Rattle.std.proofs.Common.{[], ◌∷◌, length, length-append, sym, ap, ◌∙◌, subst, arith}
-use Rattle.pv_live.proofs.Rows.{AreRight, right_more, right_all}
+use Rattle.std.proofs.Common.{Bool, ◌+◌, sym, subst, arith}
+use Rattle.std.specs.Prelude.{Vec}
+use Rattle.std.specs.declared.alloc.Global.{Global}
+use Rattle.pv_live.specs.Marks.{IsLiveBefore, Marks}
+use Rattle.pv_live.proofs.Rows.{Below, below_marked, below_other, live_by, by_live}
 use Rattle.pv_live.proofs.row.live_before.Goals as goal
-use Rattle.pv_live.proofs.row.live_before.Goals.{then-before-local, else-before-local}
+use Rattle.pv_live.proofs.row.live_before.Goals.{then-is_live_before, else-is_live_before}
 
 pub loop-local-preserved : goal.loop-local-preserved
-loop-local-preserved c = record {
-  long = omega (arith, ap length c.in_ok-push.ensures.items, length-append c.loop-local.row.items (c.if-before-local.push ∷ []), c.loop-local.invariant.long);
-  right = subst (AreRight c.args.action.now c.args.before.now c.args.after.now) (sym c.in_ok-push.ensures.items)
-      (right_more c.args.action.now c.args.before.now c.args.after.now c.loop-local.row.items c.loop-local.local c.is_live_before-live.result c.if-before-local.push
-      c.loop-local.invariant.long c.loop-local-test.true c.requires c.loop-local.invariant.right c.is_live_before-live.ensures
-      (λ e. elim c.if-before-local.branch [ then-before-local w ↦ w.push-is ∙ w.if-before-local.true | else-before-local w ↦ absurd (let f = w.if-before-local.false in cc) ])
-      (λ e. elim c.if-before-local.branch [ then-before-local w ↦ absurd (let f = w.if-before-local.true in cc) | else-before-local w ↦ w.push-is ]));
-}
-
-pub returns : goal.returns
-returns c = right_all c.args.action.now c.args.before.now c.args.after.now c.loop-local.row.items (omega (arith, c.loop-local.invariant.long, c.loop-local-test.false, c.loop-local.auto.local-end)) c.loop-local.invariant.right
+loop-local-preserved c =
+    let a = c.args.action.now in
+    let after = c.args.after.now in
+    let n = c.loop-local.local in
+    let Q = IsLiveBefore a after in
+    elim c.if-is_live_before.branch [
+      | then-is_live_before w ↦ subst (λ (v : Vec Bool Global). Marks (Below Q (n + 1)) c.args.before.now v.items) (sym w.row-is)
+          (below_marked Q c.args.before.now c.loop-local.row.items n (omega (arith, c.loop-local-test.true, c.loop-local.invariant.long))
+          (live_by a after n (omega (arith, c.loop-local-test.true, c.requires)) (c.is_live_before.ensures.0 w.if-is_live_before.true)) c.loop-local.invariant)
+      | else-is_live_before w ↦ subst (λ (v : Vec Bool Global). Marks (Below Q (n + 1)) c.args.before.now v.items) (sym w.row-is)
+          (below_other Q c.args.before.now c.loop-local.row.items n (λ live. absurd (let t = c.is_live_before.ensures.1 (by_live a after n live) in let f = w.if-is_live_before.false in cc)) c.loop-local.invariant)
+    ]

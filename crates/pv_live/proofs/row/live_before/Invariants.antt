@@ -1,9 +1,6 @@
-use Rattle.std.proofs.Common.{◌≡◌, length}
-use Rattle.pv_live.proofs.Rows.{AreRight}
+use Rattle.pv_live.specs.Marks.{IsLiveBefore, Marks}
+use Rattle.pv_live.proofs.Rows.{Below}
 use Rattle.pv_live.proofs.row.live_before.Given as goal
 
 abbrev pub invariant-loop-local : goal.invariant-loop-local
-invariant-loop-local l = record {
-  long : length l.row.items ≡ l.local;
-  right : AreRight l.action l.before l.after l.row.items;
-}
+invariant-loop-local l = Marks (Below (IsLiveBefore l.action l.after) l.local) l.before l.row.items

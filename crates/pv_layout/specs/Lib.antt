@@ -1,0 +1,5 @@
+pub mod Structure
+pub mod Reasons
+pub mod Routine
+pub mod Homes
+pub mod Carried

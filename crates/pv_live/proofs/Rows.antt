@@ -1,6 +1,8 @@
 -- Rows of marks, as the functions that make them find them.
 use Rattle.std.proofs.Common.{◌≡◌, ℕ, zero, suc, ◌+◌, ◌<◌, ◌≤◌, Bool, true, false, List, [], ◌∷◌, ◌++◌, length, get_or, set, Some, None, refl, sym, ap, ◌∙◌, subst, inl, inr, arith}
 use Rattle.std.specs.Prelude.{◌⊎◌, map, option_map, slice_get}
+use Rattle.std.specs.Bool.{Decides}
+use Rattle.std.proofs.lemmas.List.{get_or-set_same, get_or-set_other}
 use Rattle.std.proofs.lemmas.Option.{slice_get_within, slice_get-get_or, get_or_from_slice_get, slice_get-map}
 use Rattle.std.proofs.Math.ListN.{length-set}
 use Rattle.pv_frame.proofs.Cited.{some_of, no_some, equal_or_not, get_set, get_set_other, contains_first, contains_more, contains_cases, contains_none}
@@ -158,11 +160,58 @@ target_at cases n d low = slice_get-map (λ c. c.target) cases n ∙ ap (option_
 
 -- ---- before an action
 
--- whether a local is live, by whether its mark after the action is set
-pub live_by : (a : Action) (after : List Bool) (n : ℕ) → n < length after → IsLiveIf a n (get_or after n false) → IsLiveBefore a after n
-live_by a after n low (inl r) = inl r
-live_by a after n low (inr (w, m)) = inr (w, is_marked after n low m)
+-- a row in which the marks below place n are those before an action, and the others still those after it
+pub record AreBefore (a : Action) (before after row : List Bool) (n : ℕ) : Type 0 where
+  pub long : length row ≡ length before
+  pub done : (x : ℕ) → x < n → Decides (get_or row x false) (IsMarked before x ⊎ IsLiveBefore a after x)
+  pub rest : (x : ℕ) → n ≤ x → get_or row x false ≡ get_or after x false
 
-pub by_live : (a : Action) (after : List Bool) (n : ℕ) → IsLiveBefore a after n → IsLiveIf a n (get_or after n false)
-by_live a after n (inl r) = inl r
-by_live a after n (inr (w, m)) = inr (w, get_or_from_slice_get after n true false m)
+of_marked : (row : List Bool) (n : ℕ) → IsMarked row n → get_or row n false ≡ true
+of_marked row n m = get_or_from_slice_get row n true false m
+
+-- a mark that was there before the action
+pub was_marked : (a : Action) (before after : List Bool) (n : ℕ) (b : Bool) → n < length before → get_or before n false ≡ true → b ≡ true → Decides b (IsMarked before n ⊎ IsLiveBefore a after n)
+was_marked a before after n b low e one = (λ _. inl (is_marked before n low e), λ _. one)
+
+-- .. and one that wasn't
+pub is_live : (a : Action) (before after : List Bool) (n : ℕ) (b : Bool) → n < length after → get_or before n false ≡ false → Decides b (IsLiveIf a n (get_or after n false)) → Decides b (IsMarked before n ⊎ IsLiveBefore a after n)
+is_live a before after n b less e dec = (
+  (λ t. inr (to (dec.0 t))),
+  (λ s. elim s [ inl m ↦ absurd (let t = of_marked before n m in cc) | inr l ↦ dec.1 (from l) ]),
+)
+  where
+    to : IsLiveIf a n (get_or after n false) → IsLiveBefore a after n
+    to (inl r) = inl r
+    to (inr (w, m)) = inr (w, is_marked after n less m)
+
+    from : IsLiveBefore a after n → IsLiveIf a n (get_or after n false)
+    from (inl r) = inl r
+    from (inr (w, m)) = inr (w, of_marked after n m)
+
+-- the mark that is read at a place
+pub read_mark : (row : List Bool) (n : ℕ) (b : Bool) → n < length row → b ≡ get_or row n b → get_or row n false ≡ b
+read_mark row n b low e = get_or_from_slice_get row n b false (slice_get-get_or row n b low ∙ ap Some (sym e))
+
+pub before_more : (a : Action) (before after row : List Bool) (n : ℕ) (b : Bool) → n < length before → Decides b (IsMarked before n ⊎ IsLiveBefore a after n) → AreBefore a before after row n → AreBefore a before after (set row n b) (n + 1)
+before_more a before after row n b low one so = record {
+  long = length-set row n b ∙ so.long;
+  done = λ x less. elim (equal_or_not x n) [
+    | inl e ↦ subst (λ (k : ℕ). Decides (get_or (set row n b) k false) (IsMarked before k ⊎ IsLiveBefore a after k)) (sym e) (subst (λ (c : Bool). Decides c (IsMarked before n ⊎ IsLiveBefore a after n)) (sym (get_or-set_same row n b false within)) one)
+    | inr differ ↦ subst (λ (c : Bool). Decides c (IsMarked before x ⊎ IsLiveBefore a after x)) (sym (get_or-set_other row n x b false differ)) (so.done x (omega (arith, less, differ)))
+  ];
+  rest = λ x more. get_or-set_other row n x b false (λ e. absurd (omega (arith, more, e))) ∙ so.rest x (omega (arith, more));
+}
+  where
+    within : n < length row
+    within = omega (arith, low, so.long)
+
+pub before_all : (a : Action) (before after row : List Bool) (n : ℕ) → length before ≤ n → AreBefore a before after row n → Marks (IsLiveBefore a after) before row
+before_all a before after row n all so = record {
+  long = so.long;
+  kept = λ x m. let low = slice_get_within before x true m in marked x low ((so.done x (omega (arith, low, all))).1 (inl m));
+  added = λ x low l. marked x low ((so.done x (omega (arith, low, all))).1 (inr l));
+  only = λ x m. let low = slice_get_within row x true m in (so.done x (omega (arith, low, all, so.long))).0 (of_marked row x m);
+}
+  where
+    marked : (x : ℕ) → x < length before → get_or row x false ≡ true → IsMarked row x
+    marked x low e = is_marked row x (omega (arith, low, so.long)) e

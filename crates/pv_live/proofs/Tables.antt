@@ -52,14 +52,14 @@ pub record Known (p : Program) (rows : List (List Bool)) (k : ℕ) (a : Action) 
   pub next : Marks (MarkedAtOne rows (successors k a)) (replicate p.max_locals false) after
   pub marks : Marks (IsLiveBefore a after) before row
 
-pub known : (p : Program) (rows : List (List Bool)) (k : ℕ) (actions : List Action) (a : Action) (seen : List (List Bool)) (b before after held row : List Bool) → IsTable p rows → k < length p.actions
-    → actions ≡ p.actions → a ≡ get_or actions k a → seen ≡ rows → b ≡ get_or rows k b → before ≡ b → held ≡ after
-    → Marks (MarkedAtOne seen (successors k a)) (replicate p.max_locals false) after → Marks (IsLiveBefore a held) before row → Known p rows k a before after row
-known p rows k actions a seen b before after held row table low acts is see there one two next marks = record {
+pub known : (p : Program) (rows : List (List Bool)) (k : ℕ) (actions : List Action) (a : Action) (seen : List (List Bool)) (b before after row : List Bool) → IsTable p rows → k < length p.actions
+    → actions ≡ p.actions → a ≡ get_or actions k a → seen ≡ rows → b ≡ get_or rows k b → before ≡ b
+    → Marks (MarkedAtOne seen (successors k a)) (replicate p.max_locals false) after → Marks (IsLiveBefore a after) before row → Known p rows k a before after row
+known p rows k actions a seen b before after row table low acts is see there one next marks = record {
   at = ap (λ (l : List Action). slice_get l k) (sym acts) ∙ slice_get_read actions (length actions) k a refl (let e : length actions ≡ length p.actions = ap length acts in omega (arith, low, e)) is;
   here = slice_get_read rows (length rows) k b refl (omega (arith, low, table.long)) there ∙ ap Some (sym one);
   next = subst (λ (s : List (List Bool)). Marks (MarkedAtOne s (successors k a)) (replicate p.max_locals false) after) see next;
-  marks = subst (λ (s : List Bool). Marks (IsLiveBefore a s) before row) two marks;
+  marks = marks;
 }
 
 module _ (p : Program) (rows : List (List Bool)) (table : IsTable p rows) (k : ℕ) (a : Action) (before after row : List Bool) (known : Known p rows k a before after row) where

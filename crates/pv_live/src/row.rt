@@ -114,21 +114,14 @@ pub(crate) fn live_after(
     Ok(row)
 }
 
-/// The locals that are marked before an action, and those that are live there by what is marked after it.
-pub(crate) fn live_before(
-    alloc: Global,
-    action: &Action,
-    before: &[bool],
-    after: &[bool],
-) -> Result<Vec<bool>, AllocError>
-    requires { length after.now ≡ length before.now }
-    ensures { IfOk result (λ row. Marks (IsLiveBefore action.now after.now) before.now row.items) }
+/// The locals that are marked before an action, and those that are live there by what is marked after it, in the place of the latter.
+pub(crate) fn live_before(action: &Action, before: &[bool], after: Vec<bool>) -> Vec<bool>
+    requires { length after.items ≡ length before.now }
+    ensures { Marks (IsLiveBefore action.now after.items) before.now result.items }
 {
-    let mut row = Vec::from_slice(alloc, before)?;
+    let mut row = after;
     for local in 0..before.len() {
-        if is_live_before(action, local, after[local]) {
-            row[local] = true;
-        }
+        row[local] = before[local] || is_live_before(action, local, row[local]);
     }
-    Ok(row)
+    row
 }

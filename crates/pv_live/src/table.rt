@@ -43,7 +43,7 @@ fn mark_at(
     let locals = program.max_locals as usize;
     let after = live_after(alloc, rows, action, place, locals)?;
     let before = rows[place].as_slice();
-    let row = live_before(alloc, action, before, &after)?;
+    let row = live_before(action, before, after);
     if same_marks(&row, before) {
         return Ok(false);
     }

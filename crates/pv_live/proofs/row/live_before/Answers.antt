@@ -1,21 +1,24 @@
-use Rattle.std.proofs.Common.{Bool, ◌+◌, sym, subst, arith}
-use Rattle.std.specs.Prelude.{Vec}
-use Rattle.std.specs.declared.alloc.Global.{Global}
-use Rattle.pv_live.specs.Marks.{IsLiveBefore, Marks}
-use Rattle.pv_live.proofs.Rows.{Below, below_marked, below_other, live_by, by_live}
+use Rattle.std.proofs.Common.{Bool, ◌<◌, length, sym, ◌∙◌, subst, arith}
+use Rattle.std.specs.Bool.{Decides}
+use Rattle.pv_live.specs.Marks.{IsLiveIf}
+use Rattle.pv_live.proofs.Rows.{was_marked, is_live, read_mark, before_more, before_all}
 use Rattle.pv_live.proofs.row.live_before.Goals as goal
-use Rattle.pv_live.proofs.row.live_before.Goals.{then-is_live_before, else-is_live_before}
+use Rattle.pv_live.proofs.row.live_before.Goals.{then-before-local, else-before-local}
 
 pub loop-local-preserved : goal.loop-local-preserved
 loop-local-preserved c =
     let a = c.args.action.now in
-    let after = c.args.after.now in
+    let before = c.args.before.now in
+    let after = c.args.after.items in
     let n = c.loop-local.local in
-    let Q = IsLiveBefore a after in
-    elim c.if-is_live_before.branch [
-      | then-is_live_before w ↦ subst (λ (v : Vec Bool Global). Marks (Below Q (n + 1)) c.args.before.now v.items) (sym w.row-is)
-          (below_marked Q c.args.before.now c.loop-local.row.items n (omega (arith, c.loop-local-test.true, c.loop-local.invariant.long))
-          (live_by a after n (omega (arith, c.loop-local-test.true, c.requires)) (c.is_live_before.ensures.0 w.if-is_live_before.true)) c.loop-local.invariant)
-      | else-is_live_before w ↦ subst (λ (v : Vec Bool Global). Marks (Below Q (n + 1)) c.args.before.now v.items) (sym w.row-is)
-          (below_other Q c.args.before.now c.loop-local.row.items n (λ live. absurd (let t = c.is_live_before.ensures.1 (by_live a after n live) in let f = w.if-is_live_before.false in cc)) c.loop-local.invariant)
-    ]
+    let less : n < length after = omega (arith, c.loop-local-test.true, c.requires) in
+    before_more a before after c.loop-local.row.items n c.if-before-local.value c.loop-local-test.true
+    (elim c.if-before-local.branch [
+      | then-before-local w ↦ was_marked a before after n c.if-before-local.value c.loop-local-test.true w.if-before-local.true (w.value-is ∙ w.if-before-local.true)
+      | else-before-local w ↦ is_live a before after n c.if-before-local.value less w.if-before-local.false
+          (subst (λ (b : Bool). Decides b (IsLiveIf a n _)) (sym w.value-is) (subst (λ (m : Bool). Decides w.is_live_before.result (IsLiveIf a n m)) (sym (read_mark c.loop-local.row.items n w.index.result.now (omega (arith, c.loop-local-test.true, c.loop-local.invariant.long)) w.index.ensures) ∙ c.loop-local.invariant.rest n (omega arith)) w.is_live_before.ensures))
+    ])
+    c.loop-local.invariant
+
+pub returns : goal.returns
+returns c = before_all c.args.action.now c.args.before.now c.args.after.items c.loop-local.row.items c.loop-local.local c.loop-local-test.false c.loop-local.invariant

@@ -14,7 +14,7 @@
 //! needs no round.
 //!
 //! A round keeps the matches that it went by, with the class numbers and the marks of the classes then (`Last`, `specs/Last`). The next look
-//! takes them over, and looks at the nodes alone that `pv_touched` gives, by `rematch` of `pv_match`. That they can be taken over is a part of what a
+//! takes them over, and looks at the nodes alone that `pv_touched` gives, by `rematch` of `pv_match`; where more than half of the nodes are new it looks at all of them. That they can be taken over is a part of what a
 //! search is (`WasLast` in `IsSearch`), and so is that both sides of each stand in one class, as that round joined them or found them joined: the next
 //! round leaves out those whose classes have the same numbers still.
 //!

@@ -114,7 +114,7 @@ impl<'a> Search<'a> {
         Ok(answer)
     }
 
-    // All matches, or that there are more than the budget.
+    // All matches, or that there are more than the budget. Where more than half of the nodes have come since the last look, nearly all are touched, so all are looked at.
     fn all_matches<R: Threads + Sync, G: Gate>(
         &self,
         workers: &Workers<R, G>,
@@ -124,8 +124,10 @@ impl<'a> Search<'a> {
         ensures { IfOk result (λ answer. IsAnswer self.now.graph self.now.classes.numbers self.now.endings.items (axioms_of self.now) self.now.budget answer) }
     {
         if let Some(last) = &self.last {
-            let answer = self.matches_since(workers, alloc, last)?;
-            return Ok(answer);
+            if last.numbers.len() >= self.graph.len() as usize / 2 {
+                let answer = self.matches_since(workers, alloc, last)?;
+                return Ok(answer);
+            }
         }
         let _count = self.graph.len();
         let answer = matches(
@@ -140,8 +142,8 @@ impl<'a> Search<'a> {
         Ok(answer)
     }
 
-    /// What there is to do. Before the first round it passes the gate before each node at which a left side may start, with the number of the
-    /// piece, and later before each node that the last round touched. It is the same for every number of workers.
+    /// What there is to do. Before the first round, and where more than half of the nodes have come since the last look, it passes the gate before each node at which a left
+    /// side may start, with the number of the piece, and else before each node that the last round touched. It is the same for every number of workers.
     pub fn look<R: Threads + Sync, G: Gate>(
         &self,
         workers: &Workers<R, G>,

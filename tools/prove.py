@@ -5,7 +5,7 @@
 
 `rt run` proves the crates below a program one after another. This calls the same code of the toolchain for several of them at once, first for
 those with the longest chain of crates above. It leaves what `rt run` would leave, so a `rt run` after it proves the program alone. No file of
-crates/ may change meanwhile. Each crate takes a processor and up to 4 GB of memory. The status is 0 where all libraries are proved, and else 1.
+crates/ may change meanwhile. Each crate takes a processor and some 4 GB of memory. The status is 0 where all libraries are proved, and else 1.
 """
 
 import argparse
